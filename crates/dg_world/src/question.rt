@@ -1,0 +1,90 @@
+//! What an evaluation may ask, and what it is told.
+ghost use Rattle.std.specs.Prelude.{◌≡◌, IfOk, IsTrue, ◌↔◌};
+ghost use Rattle.dg_world.specs.Question.{fits, same_question};
+
+use crate::name::Name;
+use dg_words::{Bytes, TryCopy};
+use std::alloc::{AllocError, Global};
+
+/// What an evaluation may ask of the world.
+#[derive(Debug, Drop, PartialEq, Eq)]
+pub enum Question {
+    /// What the file of this name holds.
+    File(Name),
+}
+
+/// What the world may answer.
+#[derive(Debug, Drop, PartialEq, Eq)]
+pub enum Answer {
+    /// There is no such file.
+    Absent,
+    /// The bytes of the file.
+    Content(Bytes),
+}
+
+/// A question, and the answer that it had.
+#[derive(Debug, Drop, PartialEq, Eq)]
+pub struct Read {
+    pub question: Question,
+    pub answer: Answer,
+}
+
+impl Question {
+    /// An equal question, or want of memory.
+    pub fn copy(&self, alloc: Global) -> Result<Question, AllocError>
+        ensures { IfOk result (λ q. q ≡ self.now) }
+    {
+        Ok(match self {
+            Question::File(name) => Question::File(name.copy(alloc)?),
+        })
+    }
+
+    /// Whether these are the same question.
+    pub fn is(&self, other: &Question) -> bool
+        ensures { result ≡ same_question self.now other.now }
+    {
+        match (self, other) {
+            (Question::File(one), Question::File(two)) => *one == *two,
+        }
+    }
+
+    /// Whether an answer is of the kind that this question has.
+    pub fn fits(&self, answer: &Answer) -> bool
+        ensures { result ≡ fits self.now answer.now }
+    {
+        match (self, answer) {
+            (Question::File(_), Answer::Absent | Answer::Content(_)) => true,
+        }
+    }
+}
+
+impl Answer {
+    /// An equal answer, or want of memory.
+    pub fn copy(&self, alloc: Global) -> Result<Answer, AllocError>
+        ensures { IfOk result (λ a. a ≡ self.now) }
+    {
+        Ok(match self {
+            Answer::Absent => Answer::Absent,
+            Answer::Content(bytes) => Answer::Content(bytes.copy(alloc)?),
+        })
+    }
+
+    /// Whether these are the same answer.
+    pub fn is(&self, other: &Answer) -> bool
+        ensures { IsTrue result ↔ (self.now ≡ other.now) }
+    {
+        *self == *other
+    }
+}
+
+impl Read {
+    /// An equal read, or want of memory.
+    pub fn copy(&self, alloc: Global) -> Result<Read, AllocError>
+        ensures { IfOk result (λ r. r ≡ self.now) }
+    {
+        Ok(Read {
+            question: self.question.copy(alloc)?,
+            answer: self.answer.copy(alloc)?,
+        })
+    }
+}
