@@ -1,5 +1,5 @@
 -- Names of files.
-use Rattle.std.specs.Prelude.{ℕ, Bool, true, false, ◌&&◌, ◌||◌, ◌==◌, nat_le, List, length, codes, nat_eq}
+use Rattle.std.specs.Prelude.{ℕ, Bool, not, ◌&&◌, ◌||◌, ◌==◌, nat_le, List, length, codes, nat_eq}
 use Rattle.std.specs.List.{list_all, slice_split}
 use Rattle.std.specs.Cmp.Lexicographic.{pointwise}
 
@@ -8,10 +8,6 @@ abbrev pub is_part_byte : ℕ → Bool
 is_part_byte b =
     (nat_le 65 b && nat_le b 90) || (nat_le 97 b && nat_le b 122) || (nat_le 48 b && nat_le b 57)
     || (b == 46) || (b == 95) || (b == 43) || (b == 45)
-
-abbrev pub not : Bool → Bool
-not true = false
-not false = true
 
 -- one or more of these bytes, but neither `.` nor `..`
 abbrev pub is_part : List ℕ → Bool

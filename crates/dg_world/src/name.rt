@@ -1,12 +1,15 @@
 //! Names of files.
-ghost use Rattle.std.specs.Prelude.{◌≡◌, ◌==◌, length, refl, Some, IfOk, IsTrue, ◌↔◌, nat_eq};
+ghost use Rattle.std.specs.Prelude.{◌≡◌, ◌==◌, length, refl, Some, false, IfOk, IfErr, IsTrue, ◌↔◌, ◌⊎◌, nat_eq};
 ghost use Rattle.std.specs.Ordering.{nat_cmp};
 ghost use Rattle.std.specs.Hash as fed;
 ghost use Rattle.std.specs.Cmp.Lexicographic.{pointwise, slice_cmp, nat_list_eq_equiv, nat_list_cmp_total, texts_ties, texts_po};
 ghost use Rattle.std.specs.Cmp.{partial_equiv_from_equiv};
 ghost use Rattle.std.specs.Cmp.Rules.{hashing};
 ghost use Rattle.std.proofs.Common.{rules};
+ghost use Rattle.dg_world.specs.Name.{is_name, is_single_part, is_part, is_part_byte, parts_of};
+ghost use Rattle.std.specs.List.{list_all};
 
+use crate::refusal::Refusal;
 use dg_words::{Bytes, TryCopy};
 use std::alloc::{AllocError, Global};
 use std::cmp::Ordering;
@@ -33,7 +36,25 @@ impl Model for Name {
 }
 
 impl Name {
-    ghost use Rattle.dg_world.specs.Name.{is_name};
+    /// A name of these bytes. `BadName` if they are none, `Memory` if there is no room for them.
+    pub fn new(alloc: Global, bytes: &[u8]) -> Result<Name, Refusal>
+        ensures ok { IfOk result (λ n. n ≡ bytes.now) }
+        ensures bad { (result ≡ Err Refusal.BadName) ↔ (is_name bytes.now ≡ false) }
+        ensures which { IfErr result (λ r. (r ≡ Refusal.BadName) ⊎ (r ≡ Refusal.Memory)) }
+    {
+        if !is_name(bytes) {
+            return Err(Refusal::BadName);
+        }
+        Ok(Name::from_valid(Bytes::from_slice(alloc, bytes)?))
+    }
+
+    /// The name of bytes that are one.
+    pub fn from_valid(bytes: Bytes) -> Name
+        requires { IsTrue (is_name bytes) }
+        ensures { result ≡ bytes }
+    {
+        Name { bytes }
+    }
 
     /// The bytes.
     pub fn as_slice(&self) -> &[u8]
@@ -51,6 +72,57 @@ impl Name {
             bytes: self.bytes.copy(alloc)?,
         })
     }
+}
+
+/// Whether these bytes are a name. It reads each byte once.
+#[tactic(auto, unfolding(crate::specs::Name::is_name))]
+pub fn is_name(bytes: &[u8]) -> bool
+    ensures { result ≡ is_name bytes.now }
+{
+    bytes.len() <= 255 && are_parts(bytes)
+}
+
+/// Whether what stands between the slashes are parts.
+fn are_parts(bytes: &[u8]) -> bool
+    ensures { result ≡ list_all is_part (parts_of bytes.now) }
+{
+    bytes.split(|b| *b == b'/').all(|part| is_part(part))
+}
+
+/// Whether these bytes are a board or a tool: one part of at most 64 bytes.
+#[tactic(auto, unfolding(crate::specs::Name::is_single_part))]
+pub fn is_single_part(bytes: &[u8]) -> bool
+    ensures { result ≡ is_single_part bytes.now }
+{
+    bytes.len() <= 64 && is_part(bytes)
+}
+
+/// Whether these bytes are a part of a name.
+fn is_part(part: &[u8]) -> bool
+    ensures { result ≡ is_part part.now }
+{
+    if part.is_empty() {
+        return false;
+    }
+    if part == b".".as_slice() {
+        return false;
+    }
+    if part == b"..".as_slice() {
+        return false;
+    }
+    are_part_bytes(part)
+}
+
+fn are_part_bytes(part: &[u8]) -> bool
+    ensures { result ≡ list_all is_part_byte part.now }
+{
+    part.iter().all(|b| is_part_byte(*b))
+}
+
+fn is_part_byte(byte: u8) -> bool
+    ensures { result ≡ is_part_byte byte }
+{
+    matches!(byte, b'A'..=b'Z' | b'a'..=b'z' | b'0'..=b'9' | b'.' | b'_' | b'+' | b'-')
 }
 
 impl PartialEq for Name {

@@ -88,3 +88,12 @@ impl Read {
         })
     }
 }
+
+impl TryCopy for Read {
+    fn copy(&self, alloc: Global) -> Result<Read, AllocError> {
+        Ok(Read {
+            question: self.question.copy(alloc)?,
+            answer: self.answer.copy(alloc)?,
+        })
+    }
+}

@@ -1,0 +1,7 @@
+use Rattle.std.proofs.Common.{◌≡◌}
+use Rattle.dg_records.specs.Judge.{judge}
+use Rattle.dg_records.proofs.Sources.{run_more}
+use Rattle.dg_records.proofs.law.more_answers_keep_the_verdict.Goals as goal
+
+pub returns : goal.returns
+returns c = λ test few more m e. run_more (judge test) few more m e

@@ -1,0 +1,35 @@
+-- When a record is true, and when it holds in a world.
+use Rattle.std.specs.Prelude.{◌≡◌, ℕ, Option, Some, List, All}
+use Rattle.dg_world.specs.declared.question.Question.{Question}
+use Rattle.dg_world.specs.declared.question.Answer.{Answer}
+use Rattle.dg_world.specs.declared.question.Read.{Read}
+use Rattle.dg_world.specs.declared.test_id.TestId.{TestId}
+use Rattle.dg_world.specs.World.{WorldView, look}
+use Rattle.dg_results.specs.declared.verdict.Line.{Line}
+use Rattle.dg_records.specs.Play.{Source, Gives, run, Over, reads_in}
+use Rattle.dg_records.specs.Language.{Ending}
+use Rattle.dg_records.specs.Judge.{judge, verdict_in}
+
+-- a test, what was read, and the lines
+pub record RecordView : Type 0 where
+  pub test : TestId
+  pub reads : List Read
+  pub verdict : List Line
+
+-- in every source that gives these answers, the test has this verdict
+pub record IsTrueRecord (test : TestId) (reads : List Read) (verdict : List Line) : Type 0 where
+  pub holds : (source : Source) → Gives source reads → verdict_in source test ≡ Some verdict
+
+-- the answers of a world
+abbrev pub answers_of : WorldView → Source
+answers_of w q = Some (look w q)
+
+-- each read has the answer that the world gives now
+abbrev pub Agree : List Read → WorldView → Type 0
+Agree reads w = All (λ r. look w r.question ≡ r.answer) reads
+
+-- what more answers can't change: a source that gives each answer that another gives, gives the same verdict
+abbrev pub MoreAnswersKeepTheVerdict : Type 0
+MoreAnswersKeepTheVerdict =
+    (test : TestId) (few more : Source) → ((q : Question) (a : Answer) → few q ≡ Some a → more q ≡ Some a)
+    → (e : Ending) → run few (judge test) ≡ Over e → run more (judge test) ≡ Over e

@@ -1,0 +1,13 @@
+use Rattle.std.proofs.Common.{◌∙◌, sym, ap, refl}
+use Rattle.dg_results.specs.declared.class.Class.TheVariants as class
+use Rattle.dg_results.specs.Calls.{CallUnsupported}
+use Rattle.dg_results.specs.Steps.{with_result}
+use Rattle.dg_results.proofs.StepLemmas.{after_calls-result}
+use Rattle.dg_results.proofs.judging.Judging.unsupported.Goals as goal
+
+pub returns-clause-ok : goal.returns-clause-ok
+returns-clause-ok c =
+    let m = c.args.message.now in
+    λ calls before.
+    c.in_ok-record.ensures.ok ∙ ap (λ s. with_result s class.Unsupported m) before
+    ∙ sym (after_calls-result calls (CallUnsupported m) class.Unsupported m refl refl)

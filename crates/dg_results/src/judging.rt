@@ -1,0 +1,269 @@
+//! The result calls of a test, judged as they come.
+ghost use Rattle.std.specs.Prelude.{◌≡◌, [], ◌∷◌, ◌++◌, List, OnOk, OnErr, IfOk};
+ghost use Rattle.dg_results.specs.Calls.{Call, CallPass, CallFail, CallUnresolved, CallUntested, CallUnsupported, CallPerror, CallWarning, CallNote, CallSetupXfail, CallClearXfail, CallSetupKfail, CallClearKfail};
+ghost use Rattle.dg_results.specs.Lines.{line, lines_of, abort_lines, depart_lines};
+ghost use Rattle.dg_results.specs.Standing.{after_calls, Adds};
+ghost use Rattle.dg_results.specs.Steps.{class_at, with_result, with_line, count_after};
+
+use crate::class::Class;
+use crate::verdict::{Line, Verdict};
+use dg_words::{Bytes, Seq};
+use std::alloc::{AllocError, Global};
+use std::marker::Model;
+
+/// The result calls of a test so far: a contract sees their lines, and the flags and counts that
+/// stand after them (DejaGnu manual, "Procedures for test results").
+#[derive(Drop)]
+pub struct Judging {
+    lines: Seq<Line>,
+    xfail: bool,
+    kfail: bool,
+    errors: u32,
+    warnings: u32,
+}
+
+impl Model for Judging {
+    ghost use Rattle.dg_results.specs.Standing.{Standing};
+
+    ghost Value = { Standing };
+
+    ghost view = { λ j. record { lines = j.lines; xfail = j.xfail; kfail = j.kfail; errors = j.errors; warnings = j.warnings } };
+}
+
+impl Judging {
+    /// No calls yet.
+    pub fn new(alloc: Global) -> Judging
+        ensures { result ≡ after_calls [] }
+    {
+        Judging {
+            lines: Seq::new(alloc),
+            xfail: false,
+            kfail: false,
+            errors: 0,
+            warnings: 0,
+        }
+    }
+
+    /// A test that passed. The line is UNRESOLVED after an error or three warnings, else KPASS
+    /// under the kfail flag, else XPASS under the xfail flag, else PASS.
+    pub fn pass(&mut self, alloc: Global, message: &[u8]) -> Result<(), AllocError>
+        ensures ok { OnOk result (Adds self.old self.new (CallPass message.now)) }
+        ensures err { OnErr result (self.new ≡ self.old) }
+    {
+        let class = self.class_now(Class::Pass, Class::XPass, Class::KPass);
+        self.record(alloc, class, message)?;
+        Ok(())
+    }
+
+    /// A test that failed. The line is UNRESOLVED after an error or three warnings, else KFAIL
+    /// under the kfail flag, else XFAIL under the xfail flag, else FAIL.
+    pub fn fail(&mut self, alloc: Global, message: &[u8]) -> Result<(), AllocError>
+        ensures ok { OnOk result (Adds self.old self.new (CallFail message.now)) }
+        ensures err { OnErr result (self.new ≡ self.old) }
+    {
+        let class = self.class_now(Class::Fail, Class::XFail, Class::KFail);
+        self.record(alloc, class, message)?;
+        Ok(())
+    }
+
+    /// A test without a clear result.
+    pub fn unresolved(&mut self, alloc: Global, message: &[u8]) -> Result<(), AllocError>
+        ensures ok { OnOk result (Adds self.old self.new (CallUnresolved message.now)) }
+        ensures err { OnErr result (self.new ≡ self.old) }
+    {
+        self.record(alloc, Class::Unresolved, message)?;
+        Ok(())
+    }
+
+    /// A test that was not run.
+    pub fn untested(&mut self, alloc: Global, message: &[u8]) -> Result<(), AllocError>
+        ensures ok { OnOk result (Adds self.old self.new (CallUntested message.now)) }
+        ensures err { OnErr result (self.new ≡ self.old) }
+    {
+        self.record(alloc, Class::Untested, message)?;
+        Ok(())
+    }
+
+    /// A test that the target has no support for.
+    pub fn unsupported(&mut self, alloc: Global, message: &[u8]) -> Result<(), AllocError>
+        ensures ok { OnOk result (Adds self.old self.new (CallUnsupported message.now)) }
+        ensures err { OnErr result (self.new ≡ self.old) }
+    {
+        self.record(alloc, Class::Unsupported, message)?;
+        Ok(())
+    }
+
+    /// An error of the test itself. It adds one to the count of errors, or sets it to a number.
+    /// A count goes up to 4,294,967,295 and stays there.
+    pub fn perror(
+        &mut self,
+        alloc: Global,
+        message: &[u8],
+        count: Option<u32>,
+    ) -> Result<(), AllocError>
+        ensures ok { OnOk result (Adds self.old self.new (CallPerror message.now count)) }
+        ensures err { OnErr result (self.new ≡ self.old) }
+    {
+        self.write(alloc, Class::Error, message)?;
+        self.errors = next_count(self.errors, count);
+        Ok(())
+    }
+
+    /// A warning. It adds one to the count of warnings, or sets it to a number.
+    /// A count goes up to 4,294,967,295 and stays there.
+    pub fn warning(
+        &mut self,
+        alloc: Global,
+        message: &[u8],
+        count: Option<u32>,
+    ) -> Result<(), AllocError>
+        ensures ok { OnOk result (Adds self.old self.new (CallWarning message.now count)) }
+        ensures err { OnErr result (self.new ≡ self.old) }
+    {
+        self.write(alloc, Class::Warning, message)?;
+        self.warnings = next_count(self.warnings, count);
+        Ok(())
+    }
+
+    /// A message alone.
+    pub fn note(&mut self, alloc: Global, message: &[u8]) -> Result<(), AllocError>
+        ensures ok { OnOk result (Adds self.old self.new (CallNote message.now)) }
+        ensures err { OnErr result (self.new ≡ self.old) }
+    {
+        self.write(alloc, Class::Note, message)?;
+        Ok(())
+    }
+
+    /// The next result is expected to be a failure. The caller has matched the target.
+    pub fn setup_xfail(&mut self)
+        ensures { Adds self.old self.new CallSetupXfail }
+    {
+        self.xfail = true;
+    }
+
+    /// The next result isn't expected to be a failure. The caller has matched the target.
+    pub fn clear_xfail(&mut self)
+        ensures { Adds self.old self.new CallClearXfail }
+    {
+        self.xfail = false;
+    }
+
+    /// The next result is a known failure. The caller has matched the target.
+    pub fn setup_kfail(&mut self)
+        ensures { Adds self.old self.new CallSetupKfail }
+    {
+        self.kfail = true;
+    }
+
+    /// The next result is no known failure. The caller has matched the target.
+    pub fn clear_kfail(&mut self)
+        ensures { Adds self.old self.new CallClearKfail }
+    {
+        self.kfail = false;
+    }
+
+    /// The verdict of a test that came to its end.
+    pub fn finish(self) -> Verdict
+        ensures held { result ≡ self.lines }
+        ensures judged { (calls : List Call) → self ≡ after_calls calls → result ≡ lines_of calls }
+    {
+        let Judging { lines, .. } = self;
+        Verdict::of(lines)
+    }
+
+    /// The verdict of a test that a Tcl error ended, with three closing lines. They are written as
+    /// they are, whatever flags and counts stand. Want of memory lets the calls go.
+    pub fn abort(
+        mut self,
+        alloc: Global,
+        name: &[u8],
+        message: &[u8],
+    ) -> Result<Verdict, AllocError>
+        ensures { (calls : List Call) → self ≡ after_calls calls →
+            IfOk result (λ verdict. verdict ≡ lines_of calls ++ abort_lines name.now message.now) }
+    {
+        let source = text_around(alloc, b"tcl error sourcing ", name, b".")?;
+        let closing = text_around(alloc, b"testcase '", name, b"' aborted due to Tcl error")?;
+        self.add(Class::Error, source)?;
+        self.write(alloc, Class::Error, message)?;
+        self.add(Class::Unresolved, closing)?;
+        Ok(self.finish())
+    }
+
+    /// The verdict of a test that departed from its transcript, with one closing line. It is
+    /// written as it is, whatever flags and counts stand. Want of memory lets the calls go.
+    pub fn depart(mut self, alloc: Global, name: &[u8]) -> Result<Verdict, AllocError>
+        ensures { (calls : List Call) → self ≡ after_calls calls →
+            IfOk result (λ verdict. verdict ≡ lines_of calls ++ depart_lines name.now) }
+    {
+        let closing = text_around(alloc, b"", name, b" departed from its transcript")?;
+        self.add(Class::Unresolved, closing)?;
+        Ok(self.finish())
+    }
+
+    /// The class that a pass or fail writes now.
+    fn class_now(&self, own: Class, under_xfail: Class, under_kfail: Class) -> Class
+        ensures { result ≡ class_at self.now own under_xfail under_kfail }
+    {
+        if self.errors >= 1 || self.warnings >= 3 {
+            Class::Unresolved
+        } else if self.kfail {
+            under_kfail
+        } else if self.xfail {
+            under_xfail
+        } else {
+            own
+        }
+    }
+
+    /// Adds a line, or changes nothing.
+    fn add(&mut self, class: Class, message: Bytes) -> Result<(), AllocError>
+        ensures ok { OnOk result (self.new ≡ with_line self.old class message) }
+        ensures err { OnErr result (self.new ≡ self.old) }
+    {
+        self.lines.push(Line { class, message })?;
+        Ok(())
+    }
+
+    /// Adds a line with a copy of the message, or changes nothing.
+    fn write(&mut self, alloc: Global, class: Class, message: &[u8]) -> Result<(), AllocError>
+        ensures ok { OnOk result (self.new ≡ with_line self.old class message.now) }
+        ensures err { OnErr result (self.new ≡ self.old) }
+    {
+        let message = Bytes::from_slice(alloc, message)?;
+        self.add(class, message)
+    }
+
+    /// Adds the line of a result and clears flags and counts, or changes nothing.
+    fn record(&mut self, alloc: Global, class: Class, message: &[u8]) -> Result<(), AllocError>
+        ensures ok { OnOk result (self.new ≡ with_result self.old class message.now) }
+        ensures err { OnErr result (self.new ≡ self.old) }
+    {
+        self.write(alloc, class, message)?;
+        self.xfail = false;
+        self.kfail = false;
+        self.errors = 0;
+        self.warnings = 0;
+        Ok(())
+    }
+}
+
+/// A name between two texts.
+fn text_around(alloc: Global, before: &[u8], name: &[u8], after: &[u8]) -> Result<Bytes, AllocError>
+    ensures { IfOk result (λ text. text ≡ before.now ++ name.now ++ after.now) }
+{
+    let mut text = Bytes::from_slice(alloc, before)?;
+    text.extend(name)?;
+    text.extend(after)?;
+    Ok(text)
+}
+
+/// A count after a call that gives it a number, or adds one where it can.
+fn next_count(count: u32, given: Option<u32>) -> u32
+    ensures { result ≡ count_after count given }
+{
+    match given {
+        Some(number) => number,
+        None => count.saturating_add(1),
+    }
+}

@@ -1,0 +1,10 @@
+//! Result classes, the result calls of a test, and its verdict.
+#![tactic(auto)]
+
+mod class;
+mod judging;
+mod verdict;
+
+pub use crate::class::Class;
+pub use crate::judging::Judging;
+pub use crate::verdict::{Line, Tally, Verdict};

@@ -1,0 +1,12 @@
+use Rattle.dg_words.proofs.Advance.{gives_command, gives_within, gives_onward, gives_over}
+use Rattle.dg_words.proofs.scan.parse_command.Goals as goal
+
+pub returns : goal.returns
+returns c =
+    let e = gives_command c.args.text.now c.args.at c.scan.result c.scan.ensures in
+    record {
+      reading = e;
+      within = gives_within c.args.text.now c.args.at c.scan.result c.requires e;
+      onward = gives_onward c.args.text.now c.args.at c.scan.result e;
+      over = gives_over c.args.text.now c.args.at c.scan.result c.requires e;
+    }

@@ -1,0 +1,42 @@
+//! Why a text is not read.
+ghost use Rattle.std.specs.Prelude.{◌≡◌};
+ghost use Rattle.dg_words.specs.declared.fault.WordFault.TheVariants.{Memory};
+
+use std::alloc::{AllocError, AllocFailed};
+use thiserror::Error;
+
+/// Why no words are read, by Tcl(n). Of all but `Memory` the one met first in the text is given.
+#[derive(Clone, Copy, Debug, PartialEq, Eq, Drop, Error)]
+pub enum WordFault {
+    /// The text ends inside braces.
+    #[error("missing close-brace")]
+    MissingBrace,
+    /// The text ends inside quotes.
+    #[error("missing \"")]
+    MissingQuote,
+    /// A braced word is followed by more than a blank or its command's end.
+    #[error("extra characters after close-brace")]
+    AfterBrace,
+    /// A quoted word is followed by more than a blank or its command's end.
+    #[error("extra characters after close-quote")]
+    AfterQuote,
+    /// A growth was refused.
+    #[error("out of memory")]
+    Memory,
+}
+
+impl From<AllocError> for WordFault {
+    ghost from_gives = { λ _ e. e ≡ Memory };
+
+    fn from(_e: AllocError) -> WordFault {
+        WordFault::Memory
+    }
+}
+
+impl<T: Drop> From<AllocFailed<T>> for WordFault {
+    ghost from_gives = { λ _ e. e ≡ Memory };
+
+    fn from(_e: AllocFailed<T>) -> WordFault {
+        WordFault::Memory
+    }
+}

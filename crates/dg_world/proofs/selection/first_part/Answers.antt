@@ -1,0 +1,11 @@
+use Rattle.std.proofs.Common.{rules, tests, ◌==◌}
+use Rattle.std.proofs.lemmas.Iterator.Consumers.{nth_from_yields_List}
+use Rattle.std.proofs.lemmas.Iterator.Splits.{YieldsList-from_slice_split}
+use Rattle.dg_world.proofs.PartLemmas.{first_now}
+use Rattle.dg_world.proofs.selection.first_part.Goals as goal
+
+pub returns : goal.returns
+returns c =
+    first_now c.nth.result c.as_slice.result _ c.unwrap_or.ensures c.as_slice.ensures
+    (nth_from_yields_List _ _ 0 c.nth.ensures.ran
+    (YieldsList-from_slice_split _ (λ b. b == 47) c.args.name.now c.split.ensures.rest c.split.ensures.done c.split.ensures.closure (λ x r q k. search (rules, tests))))

@@ -1,0 +1,36 @@
+-- Selections, and the scripts that one selects.
+use Rattle.std.specs.Prelude.{ℕ, Bool, true, not, ◌&&◌, ◌||◌, ◌==◌, nat_le, List, [], ◌∷◌, length, codes}
+use Rattle.std.specs.List.{list_all, list_any}
+use Rattle.dg_world.specs.Name.{is_name, is_single_part}
+use Rattle.dg_world.specs.Script.{same, is_script, is_listed}
+use Rattle.dg_world.specs.declared.selection.Selection.{Selection}
+
+-- whether no two are the same
+abbrev pub are_distinct : List (List ℕ) → Bool
+are_distinct [] = true
+are_distinct (x ∷ xs) = not (list_any (same x) xs) && are_distinct xs
+
+-- at most 4,096 names
+abbrev pub are_names : List (List ℕ) → Bool
+are_names names = nat_le (length names) 4096 && list_all is_name names
+
+-- 1 to 16 distinct boards
+abbrev pub are_boards : List (List ℕ) → Bool
+are_boards boards =
+    nat_le 1 (length boards) && nat_le (length boards) 16 && list_all is_single_part boards && are_distinct boards
+
+-- whether a selection is valid
+unfoldable pub is_selection : Selection → Bool
+is_selection s = is_single_part s.tool && are_boards s.boards && are_names s.only && are_names s.ignore
+
+-- the selection of a new world
+abbrev pub first_selection : Selection
+first_selection = record { tool = codes "t"; boards = codes "unix" ∷ []; only = []; ignore = [] }
+
+-- whether the two lists take a script: all are taken where `only` is empty, and `ignore` goes before it
+unfoldable pub is_taken : Selection → List ℕ → Bool
+is_taken s n = (length s.only == 0 || is_listed s.only n) && not (is_listed s.ignore n)
+
+-- whether a file of this name is a selected script
+unfoldable pub is_selected : Selection → List ℕ → Bool
+is_selected s n = is_script s.tool n && is_taken s n
