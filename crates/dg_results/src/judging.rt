@@ -16,10 +16,25 @@ use std::marker::Model;
 #[derive(Drop)]
 pub struct Judging {
     lines: Seq<Line>,
+    marks: Marks,
+}
+
+/// The flags and counts that stand since the last result.
+#[derive(Clone, Copy)]
+struct Marks {
     xfail: bool,
     kfail: bool,
     errors: u32,
     warnings: u32,
+}
+
+impl Marks {
+    const NONE: Marks = Marks {
+        xfail: false,
+        kfail: false,
+        errors: 0,
+        warnings: 0,
+    };
 }
 
 impl Model for Judging {
@@ -27,7 +42,13 @@ impl Model for Judging {
 
     ghost Value = { Standing };
 
-    ghost view = { λ j. record { lines = j.lines; xfail = j.xfail; kfail = j.kfail; errors = j.errors; warnings = j.warnings } };
+    ghost view = { λ j. record {
+      lines = j.lines;
+      xfail = j.marks.xfail;
+      kfail = j.marks.kfail;
+      errors = j.marks.errors;
+      warnings = j.marks.warnings;
+    } };
 }
 
 impl Judging {
@@ -37,10 +58,7 @@ impl Judging {
     {
         Judging {
             lines: Seq::new(alloc),
-            xfail: false,
-            kfail: false,
-            errors: 0,
-            warnings: 0,
+            marks: Marks::NONE,
         }
     }
 
@@ -105,7 +123,7 @@ impl Judging {
         ensures err { OnErr result (self.new ≡ self.old) }
     {
         self.write(alloc, Class::Error, message)?;
-        self.errors = next_count(self.errors, count);
+        self.marks.errors = next_count(self.marks.errors, count);
         Ok(())
     }
 
@@ -121,7 +139,7 @@ impl Judging {
         ensures err { OnErr result (self.new ≡ self.old) }
     {
         self.write(alloc, Class::Warning, message)?;
-        self.warnings = next_count(self.warnings, count);
+        self.marks.warnings = next_count(self.marks.warnings, count);
         Ok(())
     }
 
@@ -138,28 +156,28 @@ impl Judging {
     pub fn setup_xfail(&mut self)
         ensures { Adds self.old self.new CallSetupXfail }
     {
-        self.xfail = true;
+        self.marks.xfail = true;
     }
 
     /// The next result isn't expected to be a failure. The caller has matched the target.
     pub fn clear_xfail(&mut self)
         ensures { Adds self.old self.new CallClearXfail }
     {
-        self.xfail = false;
+        self.marks.xfail = false;
     }
 
     /// The next result is a known failure. The caller has matched the target.
     pub fn setup_kfail(&mut self)
         ensures { Adds self.old self.new CallSetupKfail }
     {
-        self.kfail = true;
+        self.marks.kfail = true;
     }
 
     /// The next result is no known failure. The caller has matched the target.
     pub fn clear_kfail(&mut self)
         ensures { Adds self.old self.new CallClearKfail }
     {
-        self.kfail = false;
+        self.marks.kfail = false;
     }
 
     /// The verdict of a test that came to its end.
@@ -205,11 +223,11 @@ impl Judging {
     fn class_now(&self, own: Class, under_xfail: Class, under_kfail: Class) -> Class
         ensures { result ≡ class_at self.now own under_xfail under_kfail }
     {
-        if self.errors >= 1 || self.warnings >= 3 {
+        if self.marks.errors >= 1 || self.marks.warnings >= 3 {
             Class::Unresolved
-        } else if self.kfail {
+        } else if self.marks.kfail {
             under_kfail
-        } else if self.xfail {
+        } else if self.marks.xfail {
             under_xfail
         } else {
             own
@@ -240,10 +258,7 @@ impl Judging {
         ensures err { OnErr result (self.new ≡ self.old) }
     {
         self.write(alloc, class, message)?;
-        self.xfail = false;
-        self.kfail = false;
-        self.errors = 0;
-        self.warnings = 0;
+        self.marks = Marks::NONE;
         Ok(())
     }
 }

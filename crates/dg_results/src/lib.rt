@@ -3,6 +3,8 @@
 
 mod class;
 mod judging;
+#[cfg(test)]
+mod tests;
 mod verdict;
 
 pub use crate::class::Class;

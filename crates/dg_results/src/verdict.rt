@@ -28,10 +28,7 @@ impl Line {
 
 impl TryCopy for Line {
     fn copy(&self, alloc: Global) -> Result<Line, AllocError> {
-        Ok(Line {
-            class: self.class,
-            message: self.message.copy(alloc)?,
-        })
+        Line::copy(self, alloc)
     }
 }
 
@@ -107,9 +104,7 @@ impl Verdict {
 
 impl TryCopy for Verdict {
     fn copy(&self, alloc: Global) -> Result<Verdict, AllocError> {
-        Ok(Verdict {
-            lines: self.lines.copy(alloc)?,
-        })
+        Verdict::copy(self, alloc)
     }
 }
 

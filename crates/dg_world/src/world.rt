@@ -18,6 +18,10 @@ use std::alloc::{AllocError, Global};
 use std::collections::BTreeMap;
 use std::marker::Model;
 
+const MAX_FILES: usize = 4096;
+
+const MAX_FILE_LENGTH: usize = 1_048_576;
+
 /// What scripts are judged in: at most 4,096 files, each a name with at most 1,048,576 bytes, and a selection.
 #[derive(Drop)]
 pub struct World {
@@ -70,11 +74,11 @@ impl World {
         if !is_name(name.as_slice()) {
             return Err(Refusal::BadName);
         }
-        if bytes.len() > 1_048_576 {
+        if bytes.len() > MAX_FILE_LENGTH {
             return Err(Refusal::TooLong);
         }
         let name = Name::from_valid(name);
-        if !self.files.contains_key(&name) && self.files.len() >= 4096 {
+        if self.files.len() >= MAX_FILES && !self.files.contains_key(&name) {
             return Err(Refusal::TooMany);
         }
         if self.files.insert(name, bytes).is_err() {

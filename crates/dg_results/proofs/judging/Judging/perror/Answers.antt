@@ -10,6 +10,6 @@ returns-clause-ok c =
     let m = c.args.message.now in
     let i = c.self.inside in
     λ calls before.
-    ap (λ n. let s : Standing = record { lines = i.lines; xfail = i.xfail; kfail = i.kfail; errors = n; warnings = i.warnings } in s) c.next_count-self-inside.ensures
+    ap (λ n. let s : Standing = record { lines = i.lines; xfail = i.marks.xfail; kfail = i.marks.kfail; errors = n; warnings = i.marks.warnings } in s) c.next_count-self-inside.ensures
     ∙ ap (λ (s : Standing). let t : Standing = record s { errors = count_after s.errors c.args.count } in t) (c.self.view_is ∙ c.in_ok-write.ensures.ok ∙ ap (λ s. with_line s class.Error m) before)
     ∙ sym (after_calls-perror calls m c.args.count)

@@ -1,0 +1,77 @@
+-- What the turns of a job come to.
+use Rattle.std.specs.Prelude.{◌≡◌, ℕ, Bool, true, false, List, [], ◌∷◌, ◌++◌, Option, Some, None}
+use Rattle.dg_world.specs.declared.question.Question.{Question}
+use Rattle.dg_world.specs.declared.question.Answer.{Answer}
+use Rattle.dg_world.specs.declared.question.Read.{Read}
+use Rattle.dg_world.specs.declared.test_id.TestId.{TestId}
+use Rattle.dg_world.specs.Question.{fits}
+use Rattle.dg_records.specs.Play.{Play, Ends, Asks, run, Over, Needs, lookup, source_of, Leads}
+use Rattle.dg_records.specs.Language.{Ending}
+use Rattle.dg_records.specs.Judge.{judge}
+use Rattle.dg_eval.specs.declared.job.Turn.{Turn}
+use Rattle.dg_eval.specs.declared.job.Turn.TheVariants.{Need, Done}
+use Rattle.dg_eval.specs.declared.job.JobFault.{JobFault}
+use Rattle.dg_eval.specs.declared.job.JobFault.TheVariants.{NotAsked, WrongKind, Memory, Failed}
+use Rattle.dg_eval.specs.Truth.{JobView}
+
+-- the job that was started for a test
+abbrev pub started : TestId → JobView
+started test = record { test = test; reads = []; asked = None; live = true; failed = false; steps = 0 }
+
+-- the job that goes on with these answers
+abbrev pub going : JobView → List Read → JobView
+going old reads = record { test = old.test; reads = reads; asked = None; live = true; failed = false; steps = old.steps }
+
+-- the job that is done
+abbrev pub over : TestId → ℕ → JobView
+over test steps = record { test = test; reads = []; asked = None; live = false; failed = false; steps = steps }
+
+-- The judging needs this question next: down its tree, along the answers so far, it stands, and with just these answers
+-- as the source the evaluation comes to it. It was not asked before.
+pub record NeedsNext (test : TestId) (reads : List Read) (q : Question) : Type 0 where
+  pub leads : (k : Answer → Play Ending) × Leads (judge test) reads (Asks q k)
+  pub comes : run (source_of reads) (judge test) ≡ Needs q
+  pub new : lookup q reads ≡ None
+
+-- the judging has ended like this, with just these answers as the source
+pub record HasEnded (test : TestId) (reads : List Read) (e : Ending) : Type 0 where
+  pub leads : Leads (judge test) reads (Ends e)
+  pub comes : run (source_of reads) (judge test) ≡ Over e
+
+-- What a turn comes to with the answers so far: to the question that the judging needs next, which then stands, or to a
+-- record of its verdict, with just these answers as the reads.
+abbrev pub Advances : JobView → JobView → Turn → Type 0
+Advances old new (Need q) =
+    (old.live ≡ true) × NeedsNext old.test old.reads q × (new ≡ record old { asked = Some q; steps = new.steps })
+Advances old new (Done r) =
+    (old.live ≡ true) × HasEnded old.test old.reads (record { verdict = r.verdict; steps = new.steps })
+    × (r.test ≡ old.test) × (r.reads ≡ old.reads) × (new ≡ over old.test new.steps)
+
+-- the job has failed, for good
+abbrev pub HasFailed : JobView → Type 0
+HasFailed new = (new.live ≡ false) × (new.failed ≡ true)
+
+-- a turn that comes to nothing: the job fails for want of memory, or it had failed or ended before and stays as it was
+abbrev pub Halts : JobView → JobView → JobFault → Type 0
+Halts old new NotAsked = ⊥
+Halts old new WrongKind = ⊥
+Halts old new Memory = (old.live ≡ true) × HasFailed new
+Halts old new Failed = (old.live ≡ false) × (new ≡ old)
+
+-- the answer goes to the question that stood, and none stands then
+abbrev pub Tells : JobView → JobView → Answer → Option Question → Type 0
+Tells old new a None = ⊥
+Tells old new a (Some q) =
+    (fits q a ≡ true) × (new ≡ record old { reads = old.reads ++ record { question = q; answer = a } ∷ []; asked = None })
+
+-- whether a question stands, and whether the answer is of its kind
+abbrev pub IsOfKind : Option Question → Answer → Bool → Type 0
+IsOfKind None a right = ⊥
+IsOfKind (Some q) a right = fits q a ≡ right
+
+-- an answer that is not taken; only want of memory changes the job, which then has failed
+abbrev pub Refuses : JobView → JobView → Answer → JobFault → Type 0
+Refuses old new a NotAsked = (old.failed ≡ false) × (old.asked ≡ None) × (new ≡ old)
+Refuses old new a WrongKind = IsOfKind old.asked a false × (new ≡ old)
+Refuses old new a Memory = IsOfKind old.asked a true × HasFailed new
+Refuses old new a Failed = (old.failed ≡ true) × (new ≡ old)

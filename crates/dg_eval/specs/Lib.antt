@@ -1,0 +1,6 @@
+pub mod Calls
+pub mod Script
+pub mod Meaning
+pub mod Starting
+pub mod Truth
+pub mod Advance

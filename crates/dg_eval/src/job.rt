@@ -1,0 +1,170 @@
+//! Jobs: evaluations that stop at each question and go on from there.
+ghost use Rattle.std.specs.Prelude.{◌≡◌, true, IfOk, MatchResult};
+ghost use Rattle.dg_eval.specs.Advance.{Advances, Halts, HasFailed, Tells, Refuses, started, going};
+
+use crate::evaluation::Evaluation;
+use crate::frame::Stop;
+use crate::stage::Stage;
+use dg_records::Record;
+use dg_world::{Answer, Question, TestId};
+use std::alloc::{AllocError, Global};
+use std::marker::Model;
+use std::mem;
+use thiserror::Error;
+
+/// What a turn of a job came to.
+#[derive(Drop)]
+pub enum Turn {
+    /// The evaluation needs the answer to this question.
+    Need(Question),
+    /// The evaluation has ended.
+    Done(Record),
+}
+
+/// Why a job does not go on.
+#[derive(Clone, Copy, Debug, PartialEq, Eq, Drop, Error)]
+pub enum JobFault {
+    /// No question stands.
+    #[error("no question stands")]
+    NotAsked,
+    /// The answer is not of the question's kind.
+    #[error("the answer is of another kind")]
+    WrongKind,
+    /// A growth was refused. Every later call answers `Failed`.
+    #[error("out of memory")]
+    Memory,
+    /// The job has failed before, or is done.
+    #[error("the job has ended")]
+    Failed,
+}
+
+/// The judging of a test, which stops at each question that has no answer yet. It is never begun
+/// again, and asks no question twice.
+#[derive(Drop)]
+pub struct Job {
+    test: TestId,
+    stage: Stage,
+    steps: u32,
+}
+
+impl Model for Job {
+    ghost use Rattle.dg_eval.specs.Truth.{JobView, IsStage, reads_of, asked_of, is_live, has_failed};
+
+    ghost Value = { JobView };
+
+    ghost view = {
+        λ j. record { test = j.test; reads = reads_of j.stage; asked = asked_of j.stage; live = is_live j.stage; failed = has_failed j.stage; steps = j.steps }
+    };
+
+    ghost invariant = { λ j. IsStage j.test j.stage };
+}
+
+impl Job {
+    ghost use Rattle.dg_eval.specs.Truth.{IsLeft};
+
+    /// Begins the judging of a test.
+    pub fn start(alloc: Global, test: TestId) -> Result<Job, AllocError>
+        ensures { IfOk result (λ j. j ≡ started test) }
+    {
+        let evaluation = Evaluation::start(alloc, test.copy(alloc)?)?;
+        Ok(Job {
+            test,
+            stage: Stage::Running(evaluation),
+            steps: 0,
+        })
+    }
+
+    /// The steps that were taken up to the last turn; once the job is done, those of the whole
+    /// evaluation.
+    pub fn steps(&self) -> u64
+        ensures { result ≡ self.now.steps }
+    {
+        self.steps as u64
+    }
+
+    /// Goes on to the next question or to the end. While a question stands it is given again.
+    ///
+    /// # Errors
+    /// `Memory` where a growth is refused, and the job has then failed; `Failed` where it has failed
+    /// before, or is done.
+    pub fn advance(&mut self, alloc: Global) -> Result<Turn, JobFault>
+        ensures { MatchResult result (Advances self.old self.new) (Halts self.old self.new) }
+    {
+        match mem::replace(&mut self.stage, Stage::Failed) {
+            Stage::Running(evaluation) => Ok(self.go_on(alloc, evaluation)?),
+            Stage::Asking(evaluation, question) => {
+                let copy = question.copy(alloc)?;
+                self.stage.set(Stage::Asking(evaluation, question));
+                Ok(Turn::Need(copy))
+            }
+            Stage::Finished => {
+                self.stage.set(Stage::Finished);
+                Err(JobFault::Failed)
+            }
+            Stage::Failed => Err(JobFault::Failed),
+        }
+    }
+
+    /// The evaluation moves up to a question, or to the end.
+    fn go_on(&mut self, alloc: Global, mut evaluation: Evaluation) -> Result<Turn, AllocError>
+        requires left { IsLeft self.old.test evaluation }
+        requires failed { HasFailed self.old }
+        ensures { MatchResult result (Advances (going self.old evaluation.state.known) self.new) (λ _. HasFailed self.new) }
+    {
+        match evaluation.run_on(alloc)? {
+            Stop::AtQuestion(question) => {
+                let copy = question.copy(alloc)?;
+                self.steps = evaluation.steps();
+                self.stage.set(Stage::Asking(evaluation, question));
+                Ok(Turn::Need(copy))
+            }
+            Stop::AtEnd(verdict) => {
+                let test = self.test.copy(alloc)?;
+                self.steps = evaluation.steps();
+                self.stage.set(Stage::Finished);
+                Ok(Turn::Done(Record::from_parts(test, evaluation.into_reads(), verdict)))
+            }
+        }
+    }
+
+    /// Tells the answer to the question that stands.
+    ///
+    /// # Errors
+    /// `NotAsked` where no question stands, `WrongKind` where the answer isn't of its kind, and
+    /// neither changes anything; `Memory` where a growth is refused, and the job has then failed;
+    /// `Failed` where it has failed before.
+    pub fn answer(&mut self, answer: Answer) -> Result<(), JobFault>
+        ensures { MatchResult result (λ _. Tells self.old self.new answer self.old.asked) (Refuses self.old self.new answer) }
+    {
+        match mem::replace(&mut self.stage, Stage::Failed) {
+            Stage::Asking(mut evaluation, question) => {
+                if !question.fits(&answer) {
+                    self.stage.set(Stage::Asking(evaluation, question));
+                    return Err(JobFault::WrongKind);
+                }
+                evaluation.learn(question, answer)?;
+                self.stage.set(Stage::Running(evaluation));
+                Ok(())
+            }
+            Stage::Running(evaluation) => {
+                self.stage.set(Stage::Running(evaluation));
+                Err(JobFault::NotAsked)
+            }
+            Stage::Finished => {
+                self.stage.set(Stage::Finished);
+                Err(JobFault::NotAsked)
+            }
+            Stage::Failed => Err(JobFault::Failed),
+        }
+    }
+}
+
+impl From<AllocError> for JobFault {
+    ghost use Rattle.dg_eval.specs.declared.job.JobFault.TheVariants.{Memory};
+
+    ghost from_gives = { λ _ e. e ≡ Memory };
+
+    fn from(_e: AllocError) -> JobFault {
+        JobFault::Memory
+    }
+}

@@ -1,0 +1,28 @@
+//! How far a job is.
+ghost use Rattle.std.specs.Prelude.{◌≡◌};
+
+use crate::evaluation::Evaluation;
+use dg_world::Question;
+use std::mem;
+
+/// How far a job is.
+#[derive(Drop)]
+pub enum Stage {
+    /// The evaluation goes on at the next turn.
+    Running(Evaluation),
+    /// A question stands.
+    Asking(Evaluation, Question),
+    /// The record was handed out.
+    Finished,
+    /// A growth was refused.
+    Failed,
+}
+
+impl Stage {
+    /// Puts another stage in the place of this one, which is let go.
+    pub(crate) fn set(&mut self, next: Stage)
+        ensures { self.new ≡ next }
+    {
+        let _old = mem::replace(self, next);
+    }
+}

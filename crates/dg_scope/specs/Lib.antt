@@ -1,0 +1,3 @@
+pub mod Names
+pub mod Table
+pub mod Scopes

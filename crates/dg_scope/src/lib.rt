@@ -1,0 +1,14 @@
+//! Variables of the script language: scopes, and links to the first one.
+#![tactic(auto)]
+
+mod fault;
+mod name;
+mod scope;
+mod scopes;
+mod table;
+#[cfg(test)]
+mod tests;
+
+pub use crate::fault::ScopeFault;
+pub use crate::name::{base_of, global_name, has_index};
+pub use crate::scopes::{LONGEST_VALUE, Scopes};

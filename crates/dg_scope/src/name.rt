@@ -1,0 +1,41 @@
+//! Names of variables: a leading `::`, a base and an index.
+ghost use Rattle.std.specs.Prelude.{◌≡◌, ◌==◌, position};
+ghost use Rattle.dg_scope.specs.Names.{global_name, is_qualified, has_index, base_of};
+
+/// The name without a leading `::` (Tcl(n), "Variable substitution").
+pub fn global_name(name: &[u8]) -> &[u8]
+    ensures { result.now ≡ global_name name.now }
+{
+    if is_qualified(name) { &name[2..] } else { name }
+}
+
+/// Whether the name begins with `::`, and so is a global's in each scope.
+pub(crate) fn is_qualified(name: &[u8]) -> bool
+    ensures { result ≡ is_qualified name.now }
+{
+    name.starts_with(b"::")
+}
+
+/// Whether the name is an element's: it ends with `)` and has a `(`.
+pub fn has_index(name: &[u8]) -> bool
+    ensures { result ≡ has_index name.now }
+{
+    name.ends_with(b")") && name.contains(&b'(')
+}
+
+/// The part of a name before its first `(`, if it ends with `)`, or else the whole of it.
+pub fn base_of(name: &[u8]) -> &[u8]
+    ensures { result.now ≡ base_of name.now }
+{
+    match first_bracket(name) {
+        Some(open) if name.ends_with(b")") => &name[..open],
+        _ => name,
+    }
+}
+
+/// The place of the first `(`.
+fn first_bracket(name: &[u8]) -> Option<usize>
+    ensures { result ≡ position (λ b. b == 40) name.now }
+{
+    name.iter().position(|byte| *byte == b'(')
+}

@@ -1,0 +1,54 @@
+//! One scope.
+ghost use Rattle.std.specs.Prelude.{◌≡◌};
+ghost use Rattle.std.specs.Option.{option_copied};
+ghost use Rattle.std.specs.FinMap as map;
+ghost use Rattle.dg_scope.specs.Scopes.{Names, is_link, means_global_in, held};
+
+use crate::name::{base_of, is_qualified};
+use crate::table::Table;
+use dg_words::Bytes;
+
+/// What a name is in a scope: a text, or a link to the global of that name.
+#[derive(Drop)]
+pub enum Slot {
+    Held(Bytes),
+    Link,
+}
+
+/// A scope: the first, whose variables are the globals, or one with names of its own.
+#[derive(Drop)]
+pub enum Scope {
+    Outermost,
+    Local(Table<Slot>),
+}
+
+impl Scope {
+    /// Whether a name means the global in this scope.
+    pub(crate) fn means_global(&self, name: &[u8]) -> bool
+        ensures { result ≡ means_global_in self.now name.now }
+    {
+        match self {
+            Scope::Outermost => true,
+            Scope::Local(names) => {
+                is_qualified(name) || is_linked(names, name) || is_linked(names, base_of(name))
+            }
+        }
+    }
+}
+
+/// Whether a name is itself a link.
+fn is_linked(names: &Table<Slot>, name: &[u8]) -> bool
+    ensures { result ≡ is_link (map.get names.now name.now) }
+{
+    matches!(names.get(name), Some(Slot::Link))
+}
+
+/// The text that a name has in a scope of its own.
+pub(crate) fn own_text<'a>(names: &'a Table<Slot>, name: &[u8]) -> Option<&'a [u8]>
+    ensures { option_copied result ≡ held (map.get names.now name.now) }
+{
+    match names.get(name) {
+        Some(Slot::Held(text)) => Some(text.as_slice()),
+        _ => None,
+    }
+}

@@ -1,0 +1,243 @@
+//! The variables of an evaluation.
+ghost use Rattle.std.specs.Prelude.{◌≡◌, ◌∷◌, ◌⊎◌, Err, ◌<◌, ◌↔◌, IsTrue, is_some, Some, None, IsSome, IfOk, IfErr, OnOk, OnErr, length};
+ghost use Rattle.std.specs.Option.{option_copied};
+ghost use Rattle.std.specs.FinMap as map;
+ghost use Rattle.dg_scope.specs.Scopes.{value_limit, no_variables, means_global, global_value, value_of, with_global, with_value, without_value, with_link, with_scope, with_outermost, without_scope};
+
+use crate::fault::ScopeFault;
+use crate::name::global_name;
+use crate::scope::{Scope, Slot, own_text};
+use crate::table::Table;
+use dg_words::Bytes;
+use std::alloc::{AllocError, Global};
+use std::marker::Model;
+
+/// The most bytes that a value may have.
+pub const LONGEST_VALUE: usize = 1_048_576;
+
+/// Variables by name, in a first scope and in those pushed above it. A contract sees the map of
+/// the first scope, the globals, and the list of scopes from the last one pushed down to the first.
+#[derive(Drop)]
+pub struct Scopes {
+    globals: Table<Bytes>,
+    current: Scope,
+    below: Vec<Scope>,
+}
+
+impl Model for Scopes {
+    ghost use Rattle.std.specs.Prelude.{◌∷◌, reverse};
+    ghost use Rattle.dg_scope.specs.Scopes.{Variables};
+
+    ghost Value = { Variables };
+
+    ghost use Rattle.std.specs.Prelude.{ℕ, List, refl};
+    ghost use Rattle.std.specs.Coded.{code_by, coded×, coded_list, coded_ℕ};
+    ghost use Rattle.std.specs.FinMap as map;
+    ghost use Rattle.dg_scope.specs.contracts.scope.Scope as scope;
+    ghost use Rattle.dg_scope.specs.declared.scope.Scope.{Scope};
+    ghost use Rattle.dg_scope.specs.Scopes.{Names};
+
+    ghost coded = { code_by (Names (List ℕ) × List Scope)
+        (coded× (map.code (coded_list coded_ℕ) (coded_list coded_ℕ)) (coded_list scope.the_row.coded))
+        (λ v. (v.globals, v.scopes)) (λ p. record { globals = p.0; scopes = p.1 }) (λ _. refl) };
+
+    ghost view = { λ s. record { globals = s.globals; scopes = s.current ∷ reverse s.below.items } };
+}
+
+impl Scopes {
+    /// No variables, in the first scope.
+    pub fn new(alloc: Global) -> Scopes
+        ensures { result ≡ no_variables }
+    {
+        Scopes {
+            globals: Table::new(alloc),
+            current: Scope::Outermost,
+            below: Vec::new(alloc),
+        }
+    }
+}
+
+impl Scopes {
+    /// The value of a name, or NoSuchVariable exactly where it isn't set.
+    pub fn read(&self, name: &[u8]) -> Result<&[u8], ScopeFault>
+        ensures set { IfOk result (λ text. value_of self.now name.now ≡ Some text.now) }
+        ensures unset { IfErr result (λ fault. fault ≡ ScopeFault.NoSuchVariable) }
+        ensures absent { OnErr result (value_of self.now name.now ≡ None) }
+    {
+        self.text(name).ok_or(ScopeFault::NoSuchVariable)
+    }
+
+    /// The value of a global, whatever the name means where evaluation is now, or NoSuchVariable
+    /// exactly where that global isn't set.
+    pub fn read_global(&self, name: &[u8]) -> Result<&[u8], ScopeFault>
+        ensures set { IfOk result (λ text. global_value self.now name.now ≡ Some text.now) }
+        ensures unset { IfErr result (λ fault. fault ≡ ScopeFault.NoSuchVariable) }
+        ensures absent { OnErr result (global_value self.now name.now ≡ None) }
+    {
+        self.global_text(name).ok_or(ScopeFault::NoSuchVariable)
+    }
+
+    /// Whether a name is set.
+    pub fn exists(&self, name: &[u8]) -> bool
+        ensures { result ≡ is_some (value_of self.now name.now) }
+    {
+        self.text(name).is_some()
+    }
+
+    /// Whether a name means the global where evaluation is now: in the first scope, or if it begins
+    /// with `::`, or if it or its base is linked.
+    pub fn is_global(&self, name: &[u8]) -> bool
+        ensures { result ≡ means_global self.now name.now }
+    {
+        self.current.means_global(name)
+    }
+
+    /// Sets a global, whatever the name means where evaluation is now, to a value of at most
+    /// `LONGEST_VALUE` bytes.
+    pub fn write_global(
+        &mut self,
+        alloc: Global,
+        name: &[u8],
+        value: Bytes,
+    ) -> Result<(), ScopeFault>
+        ensures ok { OnOk result (self.new ≡ with_global self.old name.now value) }
+        ensures too_long { (result ≡ Err ScopeFault.TooLong) ↔ (value_limit < length value) }
+        ensures kinds { IfErr result (λ fault. (fault ≡ ScopeFault.TooLong) ⊎ (fault ≡ ScopeFault.Memory)) }
+        ensures err { OnErr result (self.new ≡ self.old) }
+    {
+        if is_too_long(&value) {
+            return Err(ScopeFault::TooLong);
+        }
+        self.globals.insert(alloc, global_name(name), value)?;
+        Ok(())
+    }
+
+    /// Sets a name to a value of at most `LONGEST_VALUE` bytes.
+    pub fn write(&mut self, alloc: Global, name: &[u8], value: Bytes) -> Result<(), ScopeFault>
+        ensures ok { OnOk result (self.new ≡ with_value self.old name.now value) }
+        ensures too_long { (result ≡ Err ScopeFault.TooLong) ↔ (value_limit < length value) }
+        ensures kinds { IfErr result (λ fault. (fault ≡ ScopeFault.TooLong) ⊎ (fault ≡ ScopeFault.Memory)) }
+        ensures err { OnErr result (self.new ≡ self.old) }
+    {
+        if is_too_long(&value) {
+            return Err(ScopeFault::TooLong);
+        }
+        let is_global = self.is_global(name);
+        match &mut self.current {
+            Scope::Local(names) if !is_global => names.insert(alloc, name, Slot::Held(value))?,
+            _ => self.globals.insert(alloc, global_name(name), value)?,
+        }
+        Ok(())
+    }
+
+    /// Unsets a name, or answers NoSuchVariable exactly where it isn't set. A link stays.
+    pub fn unset(&mut self, name: &[u8]) -> Result<(), ScopeFault>
+        ensures set { OnOk result (IsSome (value_of self.old name.now)) }
+        ensures ok { OnOk result (self.new ≡ without_value self.old name.now) }
+        ensures unset { IfErr result (λ fault. fault ≡ ScopeFault.NoSuchVariable) }
+        ensures absent { OnErr result (value_of self.old name.now ≡ None) }
+        ensures err { OnErr result (self.new ≡ self.old) }
+    {
+        if !self.exists(name) {
+            return Err(ScopeFault::NoSuchVariable);
+        }
+        let is_global = self.is_global(name);
+        match &mut self.current {
+            Scope::Local(names) if !is_global => {
+                names.remove(name);
+            }
+            _ => {
+                self.globals.remove(global_name(name));
+            }
+        }
+        Ok(())
+    }
+
+    /// Begins a scope with no names, as a proc's (Tcl(n), `proc`), or changes nothing.
+    pub fn push(&mut self, alloc: Global) -> Result<(), AllocError>
+        ensures ok { OnOk result (self.new ≡ with_scope self.old) }
+        ensures err { OnErr result (self.new ≡ self.old) }
+    {
+        self.begin(Scope::Local(Table::new(alloc)))
+    }
+
+    /// Begins a scope in which each name means the global, as for a library that a proc loads, or
+    /// changes nothing.
+    pub fn push_outermost(&mut self) -> Result<(), AllocError>
+        ensures ok { OnOk result (self.new ≡ with_outermost self.old) }
+        ensures err { OnErr result (self.new ≡ self.old) }
+    {
+        self.begin(Scope::Outermost)
+    }
+
+    /// Whether a scope stands above the first one.
+    pub fn can_pop(&self) -> bool
+        ensures { IsTrue result ↔ (1 < length self.now.scopes) }
+    {
+        !self.below.is_empty()
+    }
+
+    /// Ends the scope that was pushed last.
+    pub fn pop(&mut self)
+        requires { 1 < length self.old.scopes }
+        ensures { self.new ≡ without_scope self.old }
+    {
+        if let Some(scope) = self.below.pop() {
+            self.current = scope;
+        }
+    }
+
+    /// Links a name to the global of that name (Tcl(n), `global`), or changes nothing. A text that
+    /// the name has in its scope goes. In the first scope this has no effect.
+    pub fn link_global(&mut self, alloc: Global, name: &[u8]) -> Result<(), AllocError>
+        ensures ok { OnOk result (self.new ≡ with_link self.old name.now) }
+        ensures err { OnErr result (self.new ≡ self.old) }
+    {
+        match &mut self.current {
+            Scope::Outermost => Ok(()),
+            Scope::Local(names) => names.insert(alloc, global_name(name), Slot::Link),
+        }
+    }
+
+    /// The text of a name, if it is set.
+    fn text(&self, name: &[u8]) -> Option<&[u8]>
+        ensures { option_copied result ≡ value_of self.now name.now }
+    {
+        match &self.current {
+            Scope::Local(names) if !self.is_global(name) => own_text(names, name),
+            _ => self.global_text(name),
+        }
+    }
+
+    /// The text of a global, if it is set.
+    fn global_text(&self, name: &[u8]) -> Option<&[u8]>
+        ensures { option_copied result ≡ global_value self.now name.now }
+    {
+        match self.globals.get(global_name(name)) {
+            Some(text) => Some(text.as_slice()),
+            None => None,
+        }
+    }
+
+    /// Begins a scope, or changes nothing.
+    fn begin(&mut self, scope: Scope) -> Result<(), AllocError>
+        ensures ok { OnOk result (self.new ≡ record self.old { scopes = scope ∷ self.old.scopes }) }
+        ensures err { OnErr result (self.new ≡ self.old) }
+    {
+        let last = std::mem::replace(&mut self.current, scope);
+        match self.below.push(last) {
+            Ok(()) => Ok(()),
+            Err(refused) => {
+                self.current = refused.value;
+                Err(AllocError)
+            }
+        }
+    }
+}
+
+/// Whether a value has more bytes than a variable may hold.
+fn is_too_long(value: &Bytes) -> bool
+    ensures { IsTrue result ↔ (value_limit < length value.now) }
+{
+    value.len() > LONGEST_VALUE
+}

@@ -1,0 +1,72 @@
+//! Values by name.
+ghost use Rattle.std.specs.Prelude.{◌≡◌, OnOk, OnErr};
+ghost use Rattle.std.specs.Option.{option_copied};
+ghost use Rattle.std.specs.FinMap as map;
+
+use std::alloc::{AllocError, Global};
+use std::collections::BTreeMap;
+use std::marker::Model;
+
+/// Values by name. A contract sees the finite map from names, in byte order, to values.
+#[derive(Drop)]
+pub struct Table<V> {
+    entries: BTreeMap<Vec<u8>, V>,
+}
+
+impl<V> Model for Table<V> {
+    ghost use Rattle.std.specs.Ordering.{nat_cmp};
+    ghost use Rattle.std.specs.Cmp.Lexicographic.{slice_cmp};
+    ghost use Rattle.std.specs.FinMap as map;
+    ghost use Rattle.std.specs.Coded.{coded_ℕ, coded_list};
+
+    ghost Value = { map.FinMap (slice_cmp nat_cmp) V };
+
+    ghost coded = { map.code (coded_list coded_ℕ) V.code };
+
+    ghost use Rattle.dg_scope.specs.Table.{by_bytes};
+
+    ghost view = { λ t. map.from_entries (by_bytes t.entries.entries) };
+}
+
+impl<V: Drop> Table<V> {
+    /// No names.
+    pub fn new(alloc: Global) -> Table<V>
+        ensures { result ≡ map.empty }
+    {
+        Table {
+            entries: BTreeMap::new(alloc),
+        }
+    }
+
+    /// The value of a name.
+    pub fn get(&self, name: &[u8]) -> Option<&V>
+        ensures { option_copied result ≡ map.get self.now name.now }
+    {
+        self.entries.get(name)
+    }
+
+    /// Whether a name has a value.
+    pub fn has(&self, name: &[u8]) -> bool
+        ensures { result ≡ map.contains_key self.now name.now }
+    {
+        self.entries.contains_key(name)
+    }
+
+    /// Gives a name a value, or changes nothing.
+    pub fn insert(&mut self, alloc: Global, name: &[u8], value: V) -> Result<(), AllocError>
+        ensures ok { OnOk result (self.new ≡ map.insert self.old name.now value) }
+        ensures err { OnErr result (self.new ≡ self.old) }
+    {
+        let name = Vec::from_slice(alloc, name)?;
+        self.entries.insert(name, value)?;
+        Ok(())
+    }
+
+    /// Takes the value of a name away, and tells whether there was one.
+    pub fn remove(&mut self, name: &[u8]) -> bool
+        ensures found { result ≡ map.contains_key self.old name.now }
+        ensures gone { self.new ≡ map.remove self.old name.now }
+    {
+        self.entries.remove(name).is_some()
+    }
+}

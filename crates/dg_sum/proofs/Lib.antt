@@ -1,0 +1,4 @@
+pub mod TextLemmas
+pub mod TallyLemmas
+pub mod LengthLemmas
+pub mod ReportLemmas

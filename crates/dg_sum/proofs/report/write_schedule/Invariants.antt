@@ -1,0 +1,7 @@
+use Rattle.std.proofs.Common.{◌≡◌, ◌++◌, take}
+use Rattle.std.specs.List.{flat_map}
+use Rattle.dg_sum.specs.Report.{scheduled}
+use Rattle.dg_sum.proofs.report.write_schedule.Given as goal
+
+abbrev pub invariant-loop-board : goal.invariant-loop-board
+invariant-loop-board l = l.out ≡ l.initial.out ++ flat_map scheduled (take l.board-index l.boards)

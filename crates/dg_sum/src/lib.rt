@@ -1,0 +1,10 @@
+//! The report of a run and its status, in the form of DejaGnu's `.sum` file.
+#![tactic(auto)]
+
+mod judged;
+mod report;
+mod summary;
+mod tally;
+
+pub use crate::judged::Judged;
+pub use crate::report::{exit_status, sum_text};
