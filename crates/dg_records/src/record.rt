@@ -54,9 +54,10 @@ impl Record {
         self.reads.as_slice()
     }
 
-    /// The verdict.
+    /// The verdict, which is the one in every source that gives the answers that were read.
     pub fn verdict(&self) -> &Verdict
-        ensures { result.now ≡ self.now.verdict }
+        ensures lines { result.now ≡ self.now.verdict }
+        ensures is_true { IsTrueRecord self.now.test self.now.reads self.now.verdict }
     {
         &self.verdict
     }

@@ -4,6 +4,8 @@ use dg_words::Bytes;
 use std::alloc::Global;
 use std::test::Fail;
 
+mod growth;
+
 /// Sets a name to a text.
 fn set(scopes: &mut Scopes, alloc: Global, name: &[u8], text: &[u8]) -> Result<(), ScopeFault> {
     let value = Bytes::from_slice(alloc, text)?;

@@ -1,0 +1,2 @@
+pub mod Triplet
+pub mod Table

@@ -1,0 +1,19 @@
+use Rattle.std.proofs.Common.{◌≡◌, ◌∙◌, take, ap, sym}
+use Rattle.std.specs.Prelude.{not}
+use Rattle.std.specs.List.{filter}
+use Rattle.std.proofs.lemmas.List.{take_all}
+use Rattle.dg_world.specs.World.{selected}
+use Rattle.dg_core.specs.Core.{pending, is_held}
+use Rattle.dg_core.proofs.Settling.{unheld-more}
+use Rattle.dg_core.proofs.judging_core.Core.pending.Goals as goal
+
+pub loop-test-preserved : goal.loop-test-preserved
+loop-test-preserved c =
+    c.in_ok-add_unheld.ensures ∙ unheld-more c.args.self.now _ _ _ _ c.loop-test-test.true c.test-item.is c.loop-test.invariant
+
+pub returns : goal.returns
+unfolding pending
+returns c =
+    let items = c.as_slice-test-items.ensures ∙ c.in_ok-selected.ensures ∙ ap (λ v. selected v.world) c.self.view_is in
+    c.loop-test.invariant
+    ∙ ap (λ l. filter (λ t. not (is_held c.args.self.now.world c.args.self.now.shelf t)) l) (take_all _ _ c.loop-test-test.false ∙ items)

@@ -1,0 +1,8 @@
+use Rattle.std.proofs.Common.{◌≡◌, take}
+use Rattle.std.specs.Prelude.{not}
+use Rattle.std.specs.List.{filter}
+use Rattle.dg_core.specs.Core.{is_held}
+use Rattle.dg_core.proofs.judging_core.Core.pending.Given as goal
+
+abbrev pub invariant-loop-test : goal.invariant-loop-test
+invariant-loop-test l = l.pending ≡ filter (λ t. not (is_held l.self.world l.self.shelf t)) (take l.test-index l.test-items)

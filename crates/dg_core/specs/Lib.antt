@@ -1,0 +1,4 @@
+pub mod Scratch
+pub mod Core
+pub mod Reply
+pub mod Asking

@@ -1,0 +1,9 @@
+//! One caller's core: edits, and reports that evaluate only what may have changed.
+#![tactic(auto)]
+
+mod evaluate;
+mod judging_core;
+mod reply;
+
+pub use crate::judging_core::{Core, CoreFault};
+pub use crate::reply::Reply;

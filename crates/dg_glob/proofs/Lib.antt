@@ -1,0 +1,8 @@
+pub mod ItemLemmas
+pub mod LeavesLemmas
+pub mod RunLemmas
+pub mod SearchLemmas
+pub mod SpanLemmas
+pub mod MarkLemmas
+pub mod RowLemmas
+mod Examples

@@ -1,0 +1,5 @@
+pub mod Items
+pub mod Glob
+pub mod Search
+pub mod Marks
+pub mod Rows

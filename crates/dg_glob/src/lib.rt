@@ -1,0 +1,12 @@
+//! Globs: whether a pattern matches a text, and where in a text it matches first.
+#![tactic(auto)]
+
+mod glob;
+mod items;
+mod marks;
+mod rows;
+mod search;
+#[cfg(test)]
+mod tests;
+
+pub use crate::glob::{Span, find_glob, string_match};

@@ -1,0 +1,5 @@
+pub mod ReadingLemmas
+pub mod ReportLemmas
+pub mod RequestLemmas
+pub mod SessionLemmas
+pub mod WritingLemmas

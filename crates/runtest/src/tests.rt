@@ -1,0 +1,4 @@
+//! Lines, and readers and writers that fail in mid-stream.
+mod requests;
+mod sessions;
+mod streams;
