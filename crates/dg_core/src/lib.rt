@@ -4,6 +4,8 @@
 mod evaluate;
 mod judging_core;
 mod reply;
+#[cfg(test)]
+mod tests;
 
 pub use crate::judging_core::{Core, CoreFault};
 pub use crate::reply::Reply;

@@ -1,0 +1,77 @@
+//! A core over one script, from its first report to a mended one.
+
+use crate::judging_core::Core;
+use crate::reply::Reply;
+use dg_words::Bytes;
+use dg_world::{Edit, Refusal};
+use std::alloc::{AllocError, Global};
+use std::test::Fail;
+
+/// The report of a passing script, written out by hand.
+const PASSED: &[u8] = b"\t\t=== t tests ===\n\nSchedule of variations:\n    unix\n\nRunning target unix\nRunning t/a.exp ...\nPASS: one\n\n\t\t=== t Summary ===\n\n# of expected passes\t\t1\n";
+
+/// The edit that puts this script.
+fn put(alloc: Global, text: &[u8]) -> Result<Edit, AllocError> {
+    Ok(Edit::PutFile(
+        Bytes::from_slice(alloc, b"t/a.exp")?,
+        Bytes::from_slice(alloc, text)?,
+    ))
+}
+
+/// A core that was given this script.
+fn core_with(alloc: Global, text: &[u8]) -> Result<Core, AllocError> {
+    let mut core = Core::new(alloc)?;
+    match core.edit(alloc, put(alloc, text)?) {
+        Ok(()) => Ok(core),
+        Err(_) => Err(AllocError),
+    }
+}
+
+/// How many tests a report names as pending: none where it is a sum.
+fn pending_of(alloc: Global, core: &Core) -> Result<usize, AllocError> {
+    match core.report(alloc)? {
+        Reply::Sum(_, _) => Ok(0),
+        Reply::Pending(tests) => Ok(tests.len()),
+    }
+}
+
+/// The report and the status of a core that is settled.
+fn settled(alloc: Global, core: &mut Core) -> Result<(Bytes, u8), AllocError> {
+    match core.settle(alloc) {
+        Ok(sum) => Ok(sum),
+        Err(_) => Err(AllocError),
+    }
+}
+
+#[test]
+fn reports_a_script(rt: HostRuntime) -> Result<(), Fail> {
+    let alloc = rt.alloc();
+    let mut core = core_with(alloc, b"pass \"one\"\n")?;
+    assert_eq!(rt; pending_of(alloc, &core)?, 1);
+    let (text, status) = settled(alloc, &mut core)?;
+    assert!(rt; text.is(PASSED));
+    assert_eq!(rt; status, 0);
+    assert_eq!(rt; core.evaluations(), 1);
+    assert_eq!(rt; pending_of(alloc, &core)?, 0);
+    Ok(())
+}
+
+#[test]
+fn settles_again_for_nothing(rt: HostRuntime) -> Result<(), Fail> {
+    let alloc = rt.alloc();
+    let mut core = core_with(alloc, b"pass \"one\"\n")?;
+    let _first = settled(alloc, &mut core)?;
+    let (text, _status) = settled(alloc, &mut core)?;
+    assert!(rt; text.is(PASSED));
+    assert_eq!(rt; core.evaluations(), 1);
+    Ok(())
+}
+
+#[test]
+fn refuses_an_absent_file(rt: HostRuntime) -> Result<(), Fail> {
+    let alloc = rt.alloc();
+    let mut core = core_with(alloc, b"pass \"one\"\n")?;
+    let absent = Edit::RemoveFile(Bytes::from_slice(alloc, b"t/b.exp")?);
+    assert!(rt; core.edit(alloc, absent) == Err(Refusal::NoSuchFile));
+    Ok(())
+}
