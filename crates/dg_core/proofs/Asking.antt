@@ -39,7 +39,7 @@ heard-look w q = ap (λ b. elim b as (λ _. Option Answer) [ true ↦ Some (look
 
 -- reads that the source gave, and where they led to, are the first of all reads
 pub reads-along : {A : Type 0} (p : Play A) (source : Source) (reads : List Read) (rest : Play A) → Leads p reads rest → Gives source reads
-  → reads_in source p ≡ reads ++ reads_in source rest
+    → reads_in source p ≡ reads ++ reads_in source rest
 reads-along p source [] rest l g = ap (reads_in source) l
 reads-along (Ends a) source (r ∷ rs) rest l g = absurd l
 reads-along (Asks q k) source (r ∷ rs) rest l g =
@@ -59,17 +59,17 @@ reads_left w t reads q n g =
     let l = n.leads in
     let e = ap length (reads-along (judge t) (answers_of w) reads (Asks q l.0) l.1 g) in
     let next : length (reads_in (answers_of w) (Asks q l.0)) ≡ length (reads_in (answers_of w) (l.0 (look w q))) + 1 =
-      ap (λ o. length (read_on q o (λ a. reads_in (answers_of w) (l.0 a)))) (heard-look w q) ∙ omega arith in
+    ap (λ o. length (read_on q o (λ a. reads_in (answers_of w) (l.0 a)))) (heard-look w q) ∙ omega arith in
     omega (arith, e, next, length-append reads (reads_in (answers_of w) (Asks q l.0)))
 
 -- the record of a job that has ended is the record of its test in that world
 pub record-ended : (w : WorldView) (t : TestId) (reads : List Read) (e : Ending) (r : RecordView) → HasEnded t reads e → Gives (answers_of w) reads
-  → r.test ≡ t → r.reads ≡ reads → r.verdict ≡ e.verdict → r ≡ record_in w t
+    → r.test ≡ t → r.reads ≡ reads → r.verdict ≡ e.verdict → r ≡ record_in w t
 unfolding record_in all_reads
 record-ended w t reads e r h g et er ev =
     let all : reads ≡ all_reads w t = sym (reads-along (judge t) (answers_of w) reads (Ends e) h.leads g ∙ append-nil reads) in
     let lines : verdict_in (answers_of w) t ≡ Some e.verdict =
-      ap (λ c. verdict_of (end_of c)) (run-leads (judge t) (answers_of w) reads (Ends e) h.leads g) in
+    ap (λ c. verdict_of (end_of c)) (run-leads (judge t) (answers_of w) reads (Ends e) h.leads g) in
     λ i. record { test = et i; reads = (er ∙ all) i; verdict = (ev ∙ sym (ap lines_or_none lines)) i }
 
 -- the job has come to its end
@@ -85,7 +85,7 @@ halts-memory w old new Failed k h = absurd (true≢false (sym k.live ∙ h.0))
 
 -- and so does one that is told what the world answers
 pub refuses-memory : (w : WorldView) (old mid new : JobView) (q : Question) (a : Answer) (f : JobFault) → IsTold w old.test old → Advances old mid (Need q)
-  → a ≡ look w q → Refuses mid new a f → f ≡ Memory
+    → a ≡ look w q → Refuses mid new a f → f ≡ Memory
 refuses-memory w old mid new q a NotAsked k n e h = absurd (some≢none q (sym (ap (λ j. j.asked) n.2) ∙ h.1))
 refuses-memory w old mid new q a WrongKind k n e h =
     let kind = rw n.2 at h.0 in
@@ -95,7 +95,7 @@ refuses-memory w old mid new q a Failed k n e h = absurd (true≢false (sym h.0 
 
 -- the job has one answer more
 pub told-more : (w : WorldView) (old mid new : JobView) (q : Question) (a : Answer) → IsTold w old.test old → Advances old mid (Need q)
-  → a ≡ look w q → Tells mid new a mid.asked → Takes w old new None
+    → a ≡ look w q → Tells mid new a mid.asked → Takes w old new None
 told-more w old mid new q a k n e h =
     let t = rw n.2 at h in
     rw t.1

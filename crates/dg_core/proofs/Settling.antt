@@ -40,10 +40,10 @@ kept-with_record-other [] r t n = ap (λ b. cond b (Some r) None) n
 kept-with_record-other (x ∷ xs) r t n = step (same_test r.test x.test) refl (kept-with_record-other xs r t n)
   where
     step : (b : Bool) → same_test r.test x.test ≡ b → kept (with_record xs r) t ≡ kept xs t
-      → kept (cond b (r ∷ xs) (x ∷ with_record xs r)) t ≡ cond (same_test t x.test) (Some x) (kept xs t)
+        → kept (cond b (r ∷ xs) (x ∷ with_record xs r)) t ≡ cond (same_test t x.test) (Some x) (kept xs t)
     step true h ih =
-      let e : same_test t x.test ≡ false = ap (same_test t) (sym (same_test-true r.test x.test h)) ∙ n in
-      ap (λ b. cond b (Some r) (kept xs t)) n ∙ sym (ap (λ b. cond b (Some x) (kept xs t)) e)
+        let e : same_test t x.test ≡ false = ap (same_test t) (sym (same_test-true r.test x.test h)) ∙ n in
+        ap (λ b. cond b (Some r) (kept xs t)) n ∙ sym (ap (λ b. cond b (Some x) (kept xs t)) e)
     step false h ih = ap (λ o. cond (same_test t x.test) (Some x) o) ih
 
 -- what an evaluation reads in a world has the world's answers
@@ -72,7 +72,7 @@ held-stays w s t u h = step (same_test t u) refl
     step : (b : Bool) → same_test t u ≡ b → is_held w (with_record s (record_in w u)) t ≡ true
     step true e = subst (λ x. is_held w (with_record s (record_in w x)) t ≡ true) (same_test-true t u e) (held-new w s t)
     step false e =
-      ap (holds_if_kept w) (kept-with_record-other s (record_in w u) t (ap (same_test t) (sym (record_in-test w u)) ∙ e)) ∙ h
+        ap (holds_if_kept w) (kept-with_record-other s (record_in w u) t (ap (same_test t) (sym (record_in-test w u)) ∙ e)) ∙ h
 
 pub held-shelf_with : (w : WorldView) (s : List RecordView) (ts : List TestId) (t : TestId) → is_held w s t ≡ true → is_held w (shelf_with w s ts) t ≡ true
 unfolding shelf_with
@@ -86,14 +86,14 @@ AllHeld w s (t ∷ ts) = (is_held w s t ≡ true) × AllHeld w s ts
 
 -- every test is held on a shelf with the records of those that were not
 all-held : (w : WorldView) (s last : List RecordView) (ts : List TestId)
-  → ((t : TestId) → is_held w s t ≡ true → is_held w last t ≡ true)
-  → AllHeld w last (filter (λ t. not (is_held w s t)) ts) → AllHeld w last ts
+    → ((t : TestId) → is_held w s t ≡ true → is_held w last t ≡ true)
+    → AllHeld w last (filter (λ t. not (is_held w s t)) ts) → AllHeld w last ts
 all-held w s last [] stays h = tt
 all-held w s last (t ∷ ts) stays h = step (is_held w s t) refl (all-held w s last ts stays) h
   where
     step : (b : Bool) → is_held w s t ≡ b → (AllHeld w last (filter (λ u. not (is_held w s u)) ts) → AllHeld w last ts)
-      → AllHeld w last (cond (not b) (t ∷ filter (λ u. not (is_held w s u)) ts) (filter (λ u. not (is_held w s u)) ts))
-      → (is_held w last t ≡ true) × AllHeld w last ts
+        → AllHeld w last (cond (not b) (t ∷ filter (λ u. not (is_held w s u)) ts) (filter (λ u. not (is_held w s u)) ts))
+        → (is_held w last t ≡ true) × AllHeld w last ts
     step true e ih g = (stays t e, ih g)
     step false e ih g = (g.0, ih g.1)
 
@@ -113,7 +113,7 @@ held-pending w s [] h = tt
 held-pending w s (t ∷ ts) h = step (is_held w s t) refl h (held-pending w s ts)
   where
     step : (b : Bool) → is_held w s t ≡ b → cond (not b) (t ∷ filter (λ u. not (is_held w s u)) ts) (filter (λ u. not (is_held w s u)) ts) ≡ []
-      → (filter (λ u. not (is_held w s u)) ts ≡ [] → AllHeld w s ts) → (is_held w s t ≡ true) × AllHeld w s ts
+        → (filter (λ u. not (is_held w s u)) ts ≡ [] → AllHeld w s ts) → (is_held w s t ≡ true) × AllHeld w s ts
     step true e g ih = (e, ih g)
     step false e g ih = cc
 
@@ -150,11 +150,11 @@ counted-more n i = omega arith
 
 -- the next pending test was judged
 pub settled-more : (c : CoreView) (i : ℕ) (t : TestId) → i < length (pending c) → t ≡ get_or (pending c) i t
-  → with_judged (settled_up_to i i c) t ≡ settled_up_to (i + 1) (i + 1) c
+    → with_judged (settled_up_to i i c) t ≡ settled_up_to (i + 1) (i + 1) c
 unfolding settled_up_to
 settled-more c i t l e =
     let shelf = ap (shelf_with c.world c.shelf) (take_more (pending c) i t l) ∙ shelf_with-append c.world c.shelf (take i (pending c)) (get_or (pending c) i t)
-      ∙ ap (λ u. with_record (shelf_with c.world c.shelf (take i (pending c))) (record_in c.world u)) (sym e) in
+    ∙ ap (λ u. with_record (shelf_with c.world c.shelf (take i (pending c))) (record_in c.world u)) (sym e) in
     λ k. record { world = c.world; shelf = sym shelf k; evaluations = counted-more c.evaluations i k }
 
 -- and its evaluation was begun
@@ -164,18 +164,18 @@ settled-begun c i = λ k. record { world = c.world; shelf = shelf_with c.world c
 
 -- one judged test more
 pub all_judged-more : (source : Source) (ts : List TestId) (t : TestId) (v : List Line) (js : List Judged) → all_judged source ts ≡ Some js → verdict_in source t ≡ Some v
-  → all_judged source (ts ++ t ∷ []) ≡ Some (js ++ judged t v ∷ [])
+    → all_judged source (ts ++ t ∷ []) ≡ Some (js ++ judged t v ∷ [])
 all_judged-more source [] t v [] h e = ap (λ o. and_judged t o (Some [])) e
 all_judged-more source [] t v (j ∷ js) h e = cc
 all_judged-more source (u ∷ ts) t v js h e = step (verdict_in source u) (all_judged source ts) js refl h (λ rest g. all_judged-more source ts t v rest g e)
   where
     step : (o : Option (List Line)) (r : Option (List Judged)) (js : List Judged) → all_judged source ts ≡ r → and_judged u o r ≡ Some js
-      → ((rest : List Judged) → all_judged source ts ≡ Some rest → all_judged source (ts ++ t ∷ []) ≡ Some (rest ++ judged t v ∷ []))
-      → and_judged u o (all_judged source (ts ++ t ∷ [])) ≡ Some (js ++ judged t v ∷ [])
+        → ((rest : List Judged) → all_judged source ts ≡ Some rest → all_judged source (ts ++ t ∷ []) ≡ Some (rest ++ judged t v ∷ []))
+        → and_judged u o (all_judged source (ts ++ t ∷ [])) ≡ Some (js ++ judged t v ∷ [])
     step None r js e h ih = cc
     step (Some x) None js e h ih = cc
     step (Some x) (Some rest) js e h ih =
-      ap (and_judged u (Some x)) (ih rest e) ∙ ap (λ l. Some (l ++ judged t v ∷ [])) (some-equal _ _ h)
+        ap (and_judged u (Some x)) (ih rest e) ∙ ap (λ l. Some (l ++ judged t v ∷ [])) (some-equal _ _ h)
 
 pub held-at : (w : WorldView) (s : List RecordView) (ts : List TestId) (i : ℕ) (t : TestId) → AllHeld w s ts → i < length ts → t ≡ get_or ts i t → is_held w s t ≡ true
 held-at w s [] i t h l e = absurd (omega arith)
@@ -190,7 +190,7 @@ gives-agree w (r ∷ rs) h =
 
 -- the verdict of a kept record that holds is the one in this world
 pub verdict-held : (w : WorldView) (s : List RecordView) (t : TestId) (r : RecordView) → is_held w s t ≡ true → kept s t ≡ Some r → IsTrueRecord r.test r.reads r.verdict → r.test ≡ t
-  → verdict_in (answers_of w) t ≡ Some r.verdict
+    → verdict_in (answers_of w) t ≡ Some r.verdict
 verdict-held w s t r h k y e =
     let holds-now : holds w r ≡ true = sym (ap (holds_if_kept w) k) ∙ h in
     subst (λ u. verdict_in (answers_of w) u ≡ Some r.verdict) e (y.holds (answers_of w) (gives-agree w r.reads holds-now))
@@ -206,14 +206,14 @@ kept-test (x ∷ xs) t r h = step (same_test t x.test) refl h (kept-test xs t r)
 
 -- one selected test more was looked at
 pub unheld-more : (c : CoreView) (ts : List TestId) (i : ℕ) (t : TestId) (l : List TestId) → i < length ts → t ≡ get_or ts i t
-  → l ≡ filter (λ u. not (is_held c.world c.shelf u)) (take i ts) → l ++ unheld c t ≡ filter (λ u. not (is_held c.world c.shelf u)) (take (i + 1) ts)
+    → l ≡ filter (λ u. not (is_held c.world c.shelf u)) (take i ts) → l ++ unheld c t ≡ filter (λ u. not (is_held c.world c.shelf u)) (take (i + 1) ts)
 unheld-more c ts i t l h e p =
     ap (λ k. k ++ unheld c t) p ∙ ap (λ u. filter (λ u. not (is_held c.world c.shelf u)) (take i ts) ++ unheld c u) e
     ∙ sym (filter_more (λ u. not (is_held c.world c.shelf u)) ts i t h)
 
 -- a held test with the verdict of its record
 pub judged-held : (c : CoreView) (t : TestId) (r : RecordView) (j : Judged) → is_held c.world c.shelf t ≡ true → Some r ≡ kept c.shelf t → IsTrueRecord r.test r.reads r.verdict
-  → j.test ≡ t → j.verdict ≡ r.verdict → IsJudged c.world t j
+    → j.test ≡ t → j.verdict ≡ r.verdict → IsJudged c.world t j
 judged-held c t r j h k y e v =
     (e, verdict-held c.world c.shelf t r h (sym k) y (kept-test c.shelf t r (sym k)) ∙ ap Some (sym v))
 
@@ -222,7 +222,7 @@ pub held-some : (w : WorldView) (s : List RecordView) (t : TestId) → is_held w
 held-some w s t h n = true≢false (sym h ∙ ap (holds_if_kept w) n)
 
 pub judged-one-more : (w : WorldView) (ts : List TestId) (i : ℕ) (t : TestId) (js : List Judged) (j : Judged) → i < length ts → t ≡ get_or ts i t
-  → all_judged (answers_of w) (take i ts) ≡ Some js → IsJudged w t j → all_judged (answers_of w) (take (i + 1) ts) ≡ Some (js ++ j ∷ [])
+    → all_judged (answers_of w) (take i ts) ≡ Some js → IsJudged w t j → all_judged (answers_of w) (take (i + 1) ts) ≡ Some (js ++ j ∷ [])
 judged-one-more w ts i t js j l e h k =
     ap (all_judged (answers_of w)) (take_more ts i t l ∙ ap (λ u. take i ts ++ u ∷ []) (sym e))
     ∙ all_judged-more (answers_of w) (take i ts) t j.verdict js h k.1

@@ -32,11 +32,7 @@ fn answer(alloc: Global, world: &World, question: &Question) -> Result<Answer, A
 /// Tells a job what the world answers to its next question, or gives its record. All that it was
 /// told so far are this world's answers.
 #[tactic(none)]
-fn take_turn(
-    alloc: Global,
-    world: &World,
-    job: &mut Job,
-) -> Result<Option<Record>, AllocError>
+fn take_turn(alloc: Global, world: &World, job: &mut Job) -> Result<Option<Record>, AllocError>
     requires { IsTold world.now job.old.test job.old }
     ensures { IfOk result (λ r. Takes world.now job.old job.new r) }
 {

@@ -7,7 +7,6 @@ ghost use Rattle.dg_records.specs.Truth.{answers_of};
 ghost use Rattle.dg_records.specs.Shelf.{with_record};
 ghost use Rattle.dg_world.specs.World.{selected};
 
-
 use crate::evaluate::evaluate;
 use crate::reply::Reply;
 use dg_records::Shelf;

@@ -8,7 +8,8 @@ use std::alloc::{AllocError, Global};
 use std::test::Fail;
 
 /// The report of a passing script, written out by hand.
-const PASSED: &[u8] = b"\t\t=== t tests ===\n\nSchedule of variations:\n    unix\n\nRunning target unix\nRunning t/a.exp ...\nPASS: one\n\n\t\t=== t Summary ===\n\n# of expected passes\t\t1\n";
+const PASSED: &[u8] =
+    b"\t\t=== t tests ===\n\nSchedule of variations:\n    unix\n\nRunning target unix\nRunning t/a.exp ...\nPASS: one\n\n\t\t=== t Summary ===\n\n# of expected passes\t\t1\n";
 
 /// The edit that puts this script.
 fn put(alloc: Global, text: &[u8]) -> Result<Edit, AllocError> {

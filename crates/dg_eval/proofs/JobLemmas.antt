@@ -58,7 +58,7 @@ answered test q a m k f =
 
 -- the machine has come to the end
 pub ends : (test : TestId) (v : List Line) (old new : Machine) → IsLeft test old → ComesTo old new (AtEnd v)
-  → HasEnded test old.state.known (record { verdict = v; steps = new.state.steps })
+    → HasEnded test old.state.known (record { verdict = v; steps = new.state.steps })
 ends test v old new k h =
     let l = leads_to (judge test) _ _ old.state.known h.0 k.leads in
     record { leads = l; comes = run-leads (judge test) (source_of old.state.known) old.state.known _ l k.once }
@@ -75,14 +75,14 @@ view test stage steps =
 
 -- the answer is told
 pub tells : (test : TestId) (stage next : Stage) (steps : ℕ) (m : Machine) (q : Question) (a : Answer) (old : JobView)
-  → view test stage steps ≡ old → Asking m q ≡ stage → next ≡ Running (told q a m) → fits q a ≡ true → Tells old (view test next steps) a old.asked
+    → view test stage steps ≡ old → Asking m q ≡ stage → next ≡ Running (told q a m) → fits q a ≡ true → Tells old (view test next steps) a old.asked
 unfolding learn
 tells test stage next steps m q a old v e n f = rw (← v, ← e, n) (f, refl)
 
 -- the question that stands is given again
 pub again : (test : TestId) (stage next : Stage) (steps : ℕ) (m : Machine) (q copy : Question) (old : JobView)
-  → view test stage steps ≡ old → Asking m q ≡ stage → IsStage test stage → copy ≡ q → next ≡ Asking m q
-  → (old.live ≡ true) × NeedsNext old.test old.reads copy × (view test next steps ≡ record old { asked = Some copy; steps = steps })
+    → view test stage steps ≡ old → Asking m q ≡ stage → IsStage test stage → copy ≡ q → next ≡ Asking m q
+    → (old.live ≡ true) × NeedsNext old.test old.reads copy × (view test next steps ≡ record old { asked = Some copy; steps = steps })
 again test stage next steps m q copy old v e k c n =
     let kept : IsAsking test q m = subst (IsStage test) (sym e) k in
     rw (← v, ← e, c, n) (refl, needs test q m kept, refl)

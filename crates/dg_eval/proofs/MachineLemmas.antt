@@ -53,27 +53,27 @@ sequence-done d cs v s k e = rw e refl
 
 -- the next command can't be read
 pub sequence-unreadable : (d : ℕ) (fault : WordFault) (cs more : List Command) (v : List ℕ) (s : State) (k : Then) → cs ≡ Unreadable fault ∷ more
-  → sequence (evaluate d) cs v s k ≡ fail (fault_text fault) s k
+    → sequence (evaluate d) cs v s k ≡ fail (fault_text fault) s k
 unfolding sequence
 sequence-unreadable d fault cs more v s k e = rw e refl
 
 -- the next command runs
 pub sequence-next : (d : ℕ) (ws : List Word) (cs more : List Command) (v : List ℕ) (s : State) (fs : List Frame) → cs ≡ Words ws ∷ more → s.steps < 100000
-  → sequence (evaluate d) cs v s (all_back fs) ≡ with_values (word_values ws) (stepped s) (all_back (Sequence more d ∷ fs))
+    → sequence (evaluate d) cs v s (all_back fs) ≡ with_values (word_values ws) (stepped s) (all_back (Sequence more d ∷ fs))
 unfolding sequence all_back back
 sequence-next d ws cs more v s fs e h =
     rw e (tick-step s (λ s'. with_values (word_values ws) s' (if_done (λ v' s''. sequence (evaluate d) more v' s'' (all_back fs)) (all_back fs))) h)
 
 -- no step is left for the next command
 pub sequence-cut : (d : ℕ) (ws : List Word) (cs more : List Command) (v : List ℕ) (s : State) (k : Then) → cs ≡ Words ws ∷ more → 100000 ≤ s.steps
-  → sequence (evaluate d) cs v s k ≡ cut (codes "step limit reached") s
+    → sequence (evaluate d) cs v s k ≡ cut (codes "step limit reached") s
 unfolding sequence
 sequence-cut d ws cs more v s k e h =
     rw e (tick-none s (λ s'. with_values (word_values ws) s' (if_done (λ v' s''. sequence (evaluate d) more v' s'' k) k)) h)
 
 -- a step that is taken pays for a frame
 pub weight-step : (s : State) (more : List Command) (d : ℕ) (fs : List Frame) → s.steps < 100000
-  → weight Go (stepped s) (Sequence more d ∷ fs) + 2 ≤ weight Go s fs + 3
+    → weight Go (stepped s) (Sequence more d ∷ fs) + 2 ≤ weight Go s fs + 3
 unfolding weight stack_weight stepped
 weight-step s more d fs h = omega arith
 
@@ -87,13 +87,13 @@ known-stepped s = refl
 
 -- what goes on from here goes on from an equal meaning with more weight
 pub Goes-along : (p : Pace) (play play' : Play Ending) (known known' : List Read) (w w' : ℕ) (m : Machine) → Goes play known w m p
-  → play' ≡ play → known ≡ known' → w ≤ w' → Goes play' known' w' m p
+    → play' ≡ play → known ≡ known' → w ≤ w' → Goes play' known' w' m p
 Goes-along Moved play play' known known' w w' m h e f l = (h.0 ∙ sym e, h.1 ∙ f, (let g : weight_of m < w = h.2 in omega arith))
 Goes-along (Stands q) play play' known known' w w' m h e f l = absurd h
 Goes-along (Over v) play play' known known' w w' m h e f l = (e ∙ h.0, h.1 ∙ f)
 
 pub Goes-comes : (p : Pace) (play play' : Play Ending) (known : List Read) (w w' : ℕ) (m : Machine) → Goes play known w m p
-  → play' ≡ play → w ≤ w' → Comes play' known w' m p
+    → play' ≡ play → w ≤ w' → Comes play' known w' m p
 Goes-comes Moved play play' known w w' m h e l = (h.0 ∙ sym e, h.1, (let g : weight_of m < w = h.2 in omega arith))
 Goes-comes (Stands q) play play' known w w' m h e l = absurd h
 Goes-comes (Over v) play play' known w w' m h e l = (e ∙ h.0, h.1)

@@ -12,16 +12,16 @@ use Rattle.dg_records.proofs.Asking.{ask-known, ask-asks}
 
 module _ (s : State) (k : Then) where
   pub open-asks : (n : List ℕ) → n ≡ s.test.script → lookup (File n) s.known ≡ None
-    → open_script s k ≡ Asks (File n) (λ a. open_script (learn (File n) a s) k)
+      → open_script s k ≡ Asks (File n) (λ a. open_script (learn (File n) a s) k)
   unfolding open_script learn
   open-asks n e h = rw e (ask-asks (File s.test.script) s (λ a s'. opened (content_of a) s' k) (rw e at h))
 
   pub open-text : (n : List ℕ) (a : Answer) (t : List ℕ) → n ≡ s.test.script → lookup (File n) s.known ≡ Some a → content_of a ≡ Some t
-    → open_script s k ≡ evaluate 100 t s k
+      → open_script s k ≡ evaluate 100 t s k
   unfolding open_script
   open-text n a t e h g = ask-known (File s.test.script) a s (λ a s'. opened (content_of a) s' k) (rw e at h) ∙ ap (λ o. opened o s k) g
 
   pub open-none : (n : List ℕ) (a : Answer) → n ≡ s.test.script → lookup (File n) s.known ≡ Some a → content_of a ≡ None
-    → open_script s k ≡ fail (codes "couldn't read script " ++ quoted s.test.script) s k
+      → open_script s k ≡ fail (codes "couldn't read script " ++ quoted s.test.script) s k
   unfolding open_script
   open-none n a e h g = ask-known (File s.test.script) a s (λ a s'. opened (content_of a) s' k) (rw e at h) ∙ ap (λ o. opened o s k) g

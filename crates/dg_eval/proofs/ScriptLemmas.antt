@@ -15,7 +15,7 @@ commands_at-none text at next ws l e h =
     commands_at-step text at l ∙ ap (λ r. and_commands r (λ n. commands_at text n)) (e ∙ ap (λ w. Ok (w, next)) h)
 
 pub commands_at-words : (text : List ℕ) (at next : ℕ) (ws : List Word) → at ≤ length text → command_at text at ≡ Ok (ws, next) → ws ≢ []
-  → commands_at text at ≡ Words ws ∷ commands_at text next
+    → commands_at text at ≡ Words ws ∷ commands_at text next
 commands_at-words text at next [] l e h = absurd (h refl)
 commands_at-words text at next (w ∷ ws) l e h =
     commands_at-step text at l ∙ ap (λ r. and_commands r (λ n. commands_at text n)) e

@@ -12,7 +12,7 @@ pub pieces_of-drop : (ps : List Part) (i : ℕ) (p : Part) → i < length ps →
 pieces_of-drop ps i p l e = ap pieces_of (drop_more ps i p l) ∙ ap (λ x. pieces_of_part x ++ pieces_of (drop (i + 1) ps)) (sym e)
 
 pub word_value-drop : (v : List ℕ) (ps : List Part) (i : ℕ) (p : Part) → i < length ps → p ≡ get_or ps i p
-  → word_value v (pieces_of (drop i ps)) ≡ word_value v (pieces_of_part p ++ pieces_of (drop (i + 1) ps))
+    → word_value v (pieces_of (drop i ps)) ≡ word_value v (pieces_of_part p ++ pieces_of (drop (i + 1) ps))
 word_value-drop v ps i p l e = ap (word_value v) (pieces_of-drop ps i p l e)
 
 pub word_value-past : (v : List ℕ) (ps : List Part) (i : ℕ) → length ps ≤ i → word_value v (pieces_of (drop i ps)) ≡ Ok v

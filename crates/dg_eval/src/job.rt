@@ -52,9 +52,7 @@ impl Model for Job {
 
     ghost Value = { JobView };
 
-    ghost view = {
-        λ j. record { test = j.test; reads = reads_of j.stage; asked = asked_of j.stage; live = is_live j.stage; failed = has_failed j.stage; steps = j.steps }
-    };
+    ghost view = { λ j. record { test = j.test; reads = reads_of j.stage; asked = asked_of j.stage; live = is_live j.stage; failed = has_failed j.stage; steps = j.steps } };
 
     ghost invariant = { λ j. IsStage j.test j.stage };
 }

@@ -105,8 +105,7 @@ impl Machine {
             let pace = self.fail(alloc, wrong_count(alloc, b"pass")?)?;
             return Ok(pace);
         };
-        self.state
-            .add_call(ResultCall::Pass(message.copy(alloc)?))?;
+        self.state.add_call(ResultCall::Pass(message.copy(alloc)?))?;
         self.end(Code::Done, Bytes::new(alloc));
         Ok(Pace::Moved)
     }
@@ -121,19 +120,13 @@ impl Machine {
             let pace = self.fail(alloc, wrong_count(alloc, b"fail")?)?;
             return Ok(pace);
         };
-        self.state
-            .add_call(ResultCall::Fail(message.copy(alloc)?))?;
+        self.state.add_call(ResultCall::Fail(message.copy(alloc)?))?;
         self.end(Code::Done, Bytes::new(alloc));
         Ok(Pace::Moved)
     }
 
     /// A command by its name.
-    fn builtin(
-        &mut self,
-        alloc: Global,
-        which: Builtin,
-        args: &[Bytes],
-    ) -> Result<Pace, AllocError>
+    fn builtin(&mut self, alloc: Global, which: Builtin, args: &[Bytes]) -> Result<Pace, AllocError>
         requires { self.old.control ≡ Control.Go }
         ensures { IfOk result (λ p. Goes (builtin which args.now self.old.state (all_back self.old.stack)) self.old.state.known (weight_of self.old + 2) self.new p) }
     {
@@ -213,7 +206,12 @@ impl Machine {
     }
 
     /// The evaluation of a text begins, inside as many others as this leaves.
-    pub(crate) fn enter(&mut self, alloc: Global, text: Bytes, depth: u32) -> Result<Pace, AllocError>
+    pub(crate) fn enter(
+        &mut self,
+        alloc: Global,
+        text: Bytes,
+        depth: u32,
+    ) -> Result<Pace, AllocError>
         requires { self.old.control ≡ Control.Go }
         ensures { IfOk result (λ p. Goes (evaluate depth text self.old.state (all_back self.old.stack)) self.old.state.known (weight_of self.old + 4) self.new p) }
     {

@@ -18,14 +18,14 @@ pub same_question-true : (p q : Question) → same_question p q ≡ true → p �
 same_question-true (File m) (File n) e = ap File (same_text m n (sym e))
 
 pub lookup-learned : (q : Question) (a : Answer) (rs : List Read) → lookup q rs ≡ None
-  → lookup q (rs ++ record { question = q; answer = a } ∷ []) ≡ Some a
+    → lookup q (rs ++ record { question = q; answer = a } ∷ []) ≡ Some a
 unfolding lookup
 lookup-learned q a [] e = ap (λ b. elim b [ true ↦ Some a | false ↦ None ]) (same_question-refl q)
 lookup-learned q a (r ∷ rs) e = go (same_question r.question q) e (lookup-learned q a rs)
   where
     go : (b : Bool) → (elim b as (λ _. Option Answer) [ true ↦ Some r.answer | false ↦ lookup q rs ]) ≡ None
-      → (lookup q rs ≡ None → lookup q (rs ++ record { question = q; answer = a } ∷ []) ≡ Some a)
-      → (elim b as (λ _. Option Answer) [ true ↦ Some r.answer | false ↦ lookup q (rs ++ record { question = q; answer = a } ∷ []) ]) ≡ Some a
+        → (lookup q rs ≡ None → lookup q (rs ++ record { question = q; answer = a } ∷ []) ≡ Some a)
+        → (elim b as (λ _. Option Answer) [ true ↦ Some r.answer | false ↦ lookup q (rs ++ record { question = q; answer = a } ∷ []) ]) ≡ Some a
     go true h ih = cc
     go false h ih = ih h
 
@@ -35,8 +35,8 @@ lookup-more q [] ts a h = cc
 lookup-more q (r ∷ rs) ts a h = go (same_question r.question q) h (lookup-more q rs ts a)
   where
     go : (b : Bool) → (elim b as (λ _. Option Answer) [ true ↦ Some r.answer | false ↦ lookup q rs ]) ≡ Some a
-      → (lookup q rs ≡ Some a → lookup q (rs ++ ts) ≡ Some a)
-      → (elim b as (λ _. Option Answer) [ true ↦ Some r.answer | false ↦ lookup q (rs ++ ts) ]) ≡ Some a
+        → (lookup q rs ≡ Some a → lookup q (rs ++ ts) ≡ Some a)
+        → (elim b as (λ _. Option Answer) [ true ↦ Some r.answer | false ↦ lookup q (rs ++ ts) ]) ≡ Some a
     go true e ih = e
     go false e ih = ih e
 
@@ -45,8 +45,8 @@ unfolding ask
 ask-known q a s k e = ap (λ o. hear o q s k) e
 
 pub ask-asks : (q : Question) (s : State) (k : Answer → State → Play Ending) → lookup q s.known ≡ None
-  → ask q s k ≡ Asks q (λ a. ask q (learn q a s) k)
+    → ask q s k ≡ Asks q (λ a. ask q (learn q a s) k)
 unfolding ask learn
 ask-asks q s k e =
     ap (λ o. hear o q s k) e
-      ∙ ap (Asks q) (λ i a. sym (ap (λ o. hear o q (learn q a s) k) (lookup-learned q a s.known e)) i)
+    ∙ ap (Asks q) (λ i a. sym (ap (λ o. hear o q (learn q a s) k) (lookup-learned q a s.known e)) i)

@@ -11,14 +11,14 @@ use Rattle.dg_records.specs.Language.{first_commands, and_commands, commands_at}
 
 -- a bound above the bytes that are left is as good as any other
 first_commands-bound : (n m : ℕ) (text : List ℕ) (at : ℕ) → at ≤ length text → length text - at < n → length text - at < m
-  → first_commands n text at ≡ first_commands m text at
+    → first_commands n text at ≡ first_commands m text at
 first_commands-bound zero m text at l h g = absurd (omega arith)
 first_commands-bound (suc n) zero text at l h g = absurd (omega arith)
 first_commands-bound (suc n) (suc m) text at l h g = step (first_commands-bound n m text) (command_at text at) refl
   where
     step : ((next : ℕ) → next ≤ length text → length text - next < n → length text - next < m → first_commands n text next ≡ first_commands m text next)
-      → (r : Result (List Word × ℕ) WordFault) → command_at text at ≡ r
-      → and_commands r (λ next. first_commands n text next) ≡ and_commands r (λ next. first_commands m text next)
+        → (r : Result (List Word × ℕ) WordFault) → command_at text at ≡ r
+        → and_commands r (λ next. first_commands n text next) ≡ and_commands r (λ next. first_commands m text next)
     step ih (Err fault) e = refl
     step ih (Ok ([], next)) e = refl
     step ih (Ok (w ∷ ws, next)) e =
@@ -32,7 +32,7 @@ unfolding commands_at
 commands_at-step text at l = step (command_at text at) refl
   where
     step : (r : Result (List Word × ℕ) WordFault) → command_at text at ≡ r
-      → and_commands r (λ next. first_commands (length text - at) text next) ≡ and_commands r (λ next. first_commands (suc (length text - next)) text next)
+        → and_commands r (λ next. first_commands (length text - at) text next) ≡ and_commands r (λ next. first_commands (suc (length text - next)) text next)
     step (Err fault) e = refl
     step (Ok ([], next)) e = refl
     step (Ok (w ∷ ws, next)) e =

@@ -29,7 +29,7 @@ gives-append look (x ∷ rs) r h e = (h.0, gives-append look rs r h.1 e)
 
 -- a new question, with an answer of its kind
 pub gives-learned : (q : Question) (a : Answer) (rs : List Read) → Gives (source_of rs) rs → lookup q rs ≡ None → fits q a ≡ true
-  → Gives (source_of (rs ++ record { question = q; answer = a } ∷ [])) (rs ++ record { question = q; answer = a } ∷ [])
+    → Gives (source_of (rs ++ record { question = q; answer = a } ∷ [])) (rs ++ record { question = q; answer = a } ∷ [])
 gives-learned q a rs h n f =
     gives-append (source_of (rs ++ record { question = q; answer = a } ∷ [])) rs (record { question = q; answer = a })
     (gives-more rs (record { question = q; answer = a } ∷ []) rs h)
@@ -37,6 +37,6 @@ gives-learned q a rs h n f =
 
 -- with just these reads as the source, the evaluation needs the question that stands
 pub run-stands : {A : Type 0} (p : Play A) (rs : List Read) (q : Question) (k : Answer → Play A) → Leads p rs (Asks q k) → Gives (source_of rs) rs → lookup q rs ≡ None
-  → run (source_of rs) p ≡ Needs q
+    → run (source_of rs) p ≡ Needs q
 run-stands p rs q k l g n =
     run-leads p (source_of rs) rs (Asks q k) l g ∙ ap (λ o. on_answer q (heard q o) (λ a. run (source_of rs) (k a))) n

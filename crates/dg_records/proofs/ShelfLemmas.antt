@@ -44,7 +44,7 @@ lookup-kept (e ∷ es) t h =
     ap (λ b. cond b (Some e.1) (lookup (same_test t) es)) key ∙ ap (λ o. cond (same_test t e.1.test) (Some e.1) o) (lookup-kept es t p.1)
 
 pub insert-with_record : (es : Entries) (k : TestId) (r : RecordView) → k ≡ r.test → list_all keyed es ≡ true
-  → map (λ e. e.1) (insert_entry same_test es k r) ≡ with_record (map (λ e. e.1) es) r
+    → map (λ e. e.1) (insert_entry same_test es k r) ≡ with_record (map (λ e. e.1) es) r
 insert-with_record [] k r e h = refl
 insert-with_record (x ∷ xs) k r e h =
     let p = both _ _ h in
@@ -52,7 +52,7 @@ insert-with_record (x ∷ xs) k r e h =
     step (same_test k x.0) (same_test r.test x.1.test) key (insert-with_record xs k r e p.1)
   where
     step : (a b : Bool) → a ≡ b → map (λ e. e.1) (insert_entry same_test xs k r) ≡ with_record (map (λ e. e.1) xs) r
-      → map (λ e. e.1) (cond a ((x.0, r) ∷ xs) (x ∷ insert_entry same_test xs k r)) ≡ cond b (r ∷ map (λ e. e.1) xs) (x.1 ∷ with_record (map (λ e. e.1) xs) r)
+        → map (λ e. e.1) (cond a ((x.0, r) ∷ xs) (x ∷ insert_entry same_test xs k r)) ≡ cond b (r ∷ map (λ e. e.1) xs) (x.1 ∷ with_record (map (λ e. e.1) xs) r)
     step true true e ih = refl
     step false false e ih = ap (λ l. x.1 ∷ l) ih
     step true false e ih = cc
@@ -65,6 +65,6 @@ insert-keyed (x ∷ xs) k r e h =
     step (same_test k x.0) refl p (insert-keyed xs k r e p.1)
   where
     step : (a : Bool) → same_test k x.0 ≡ a → (keyed x ≡ true) × (list_all keyed xs ≡ true) → list_all keyed (insert_entry same_test xs k r) ≡ true
-      → list_all keyed (cond a ((x.0, r) ∷ xs) (x ∷ insert_entry same_test xs k r)) ≡ true
+        → list_all keyed (cond a ((x.0, r) ∷ xs) (x ∷ insert_entry same_test xs k r)) ≡ true
     step true e' p ih = and_both _ _ (same_test-refl x.0 r.test (sym (same_test-true k x.0 e') ∙ e)) p.1
     step false e' p ih = and_both _ _ p.0 ih

@@ -9,19 +9,19 @@ use Rattle.dg_records.specs.Play.{Play, Ends, Asks, Source, heard, Coming, Over,
 
 -- a source that gives more answers gives the same end
 heard_more : {A : Type 0} (q : Question) (f g : Answer → Coming A) (v : A)
-  → ((a : Answer) → f a ≡ Over v → g a ≡ Over v)
-  → (o o' : Option Answer) → ((a : Answer) → o ≡ Some a → o' ≡ Some a)
-  → on_answer q (heard q o) f ≡ Over v → on_answer q (heard q o') g ≡ Over v
+    → ((a : Answer) → f a ≡ Over v → g a ≡ Over v)
+    → (o o' : Option Answer) → ((a : Answer) → o ≡ Some a → o' ≡ Some a)
+    → on_answer q (heard q o) f ≡ Over v → on_answer q (heard q o') g ≡ Over v
 heard_more q f g v ih None o' m h = cc
 heard_more q f g v ih (Some a) o' m h = rw (m a refl) (fit (fits q a) h)
   where
     fit : (b : Bool) → on_answer q (elim b as (λ _. Option Answer) [ true ↦ Some a | false ↦ None ]) f ≡ Over v
-      → on_answer q (elim b as (λ _. Option Answer) [ true ↦ Some a | false ↦ None ]) g ≡ Over v
+        → on_answer q (elim b as (λ _. Option Answer) [ true ↦ Some a | false ↦ None ]) g ≡ Over v
     fit true e = ih a e
     fit false e = cc
 
 pub run_more : {A : Type 0} (p : Play A) (few more : Source) → ((q : Question) (a : Answer) → few q ≡ Some a → more q ≡ Some a)
-  → (v : A) → run few p ≡ Over v → run more p ≡ Over v
+    → (v : A) → run few p ≡ Over v → run more p ≡ Over v
 run_more (Ends a) few more m v e = e
 run_more (Asks q k) few more m v e =
     heard_more q (λ a. run few (k a)) (λ a. run more (k a)) v (λ a. run_more (k a) few more m v) (few q) (more q) (m q) e
@@ -36,7 +36,7 @@ run-leads (Asks q k) look (r ∷ rs) rest l g =
 
 -- one read more
 pub leads_more : {A : Type 0} (p : Play A) (reads : List Read) (q : Question) (a : Answer) (k : Answer → Play A) → Leads p reads (Asks q k) → fits q a ≡ true
-  → Leads p (reads ++ record { question = q; answer = a } ∷ []) (k a)
+    → Leads p (reads ++ record { question = q; answer = a } ∷ []) (k a)
 leads_more p [] q a k l f = subst (λ x. Leads x (record { question = q; answer = a } ∷ []) (k a)) (sym l) (refl, f, refl)
 leads_more (Ends b) (r ∷ rs) q a k l f = absurd l
 leads_more (Asks q' k') (r ∷ rs) q a k l f = (l.0, l.1, leads_more (k' r.answer) rs q a k l.2 f)

@@ -121,8 +121,8 @@ builtin Fail args s k = do_fail args s k
 unfoldable pub builtin_of : List ℕ → Option Builtin
 builtin_of n =
     elim (pointwise nat_eq n (codes "pass")) [
-      true ↦ Some Pass
-    | false ↦ elim (pointwise nat_eq n (codes "fail")) [ true ↦ Some Fail | false ↦ None ]
+      | true ↦ Some Pass
+      | false ↦ elim (pointwise nat_eq n (codes "fail")) [ true ↦ Some Fail | false ↦ None ]
     ]
 
 abbrev pub by_name : Option Builtin → List ℕ → List (List ℕ) → State → Then → Play Ending

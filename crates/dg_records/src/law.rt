@@ -4,5 +4,4 @@ ghost use Rattle.dg_records.specs.Truth.{MoreAnswersKeepTheVerdict};
 /// A source that gives each answer that another gives, gives each test the same end.
 pub fn more_answers_keep_the_verdict()
     ensures { MoreAnswersKeepTheVerdict }
-{
-}
+{}

@@ -19,7 +19,7 @@ returns-in_err-judge-clause-kept c =
     let begun : CoreView → CoreView = λ m. record m { evaluations = counted m.evaluations 1 } in
     on_err _ _
     (partly _ _ i (i + 1) (omega (arith, within)) (omega arith) (omega arith)
-      (c.in_err-judge.ensures.err ∙ ap begun c.loop-test.invariant ∙ settled-begun _ i))
+    (c.in_err-judge.ensures.err ∙ ap begun c.loop-test.invariant ∙ settled-begun _ i))
 
 pub loop-test-preserved : goal.loop-test-preserved
 loop-test-preserved c =

@@ -19,8 +19,8 @@ returns-else-is_empty c =
 
 pub returns-else-eq : goal.returns-else-eq
 returns-else-eq c = elim c.in-Err.ensures.reading [
-    | inl memory ↦ absurd (true≢false (sym (sym c.if-eq.false ∙ c.eq.ensures ∙ ap (λ f. sameb the_type f Memory) memory)))
-    | inr read ↦
+  | inl memory ↦ absurd (true≢false (sym (sym c.if-eq.false ∙ c.eq.ensures ∙ ap (λ f. sameb the_type f Memory) memory)))
+  | inr read ↦
       sym c.self.view_is
       ∙ commands_at-fault _ _ _ c.self.invariant (subst (λ t. command_at t c.self.inside.at ≡ Err c.in-Err.fault) c.as_slice.ensures read)
-  ]
+]
