@@ -7,7 +7,7 @@ work=$(mktemp -d)
 trap 'rm -rf "$work"' EXIT
 mkdir -p "$work/crates/glob_times/src" "$work/crates/glob_times/specs" "$work/crates/glob_times/proofs"
 cp -r "$top/crates/dg_glob" "$work/crates/dg_glob"
-cp "$top/bench/glob/main.rt.in" "$work/crates/glob_times/src/main.rt.in"
+cp "$top/bench/glob/main.rt.in" "$work/crates/glob_times/src/main.rt"
 : > "$work/crates/glob_times/specs/Lib.antt"
 : > "$work/crates/glob_times/proofs/Lib.antt"
 printf 'dg_glob: memchr\nglob_times: dg_glob\n' > "$work/crates.txt"

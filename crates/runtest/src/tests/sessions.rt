@@ -42,6 +42,15 @@ fn talk(
     Ok((held, result))
 }
 
+/// What a session of a new core writes; nothing where it fails.
+pub fn answered(alloc: Global, input: &[u8]) -> Result<Vec<u8>, AllocError> {
+    let (held, result) = talk(alloc, input, 4096, 100_000, 100_000)?;
+    if result.is_ok() {
+        return Ok(held);
+    }
+    Ok(Vec::new(alloc))
+}
+
 #[test]
 fn answers_all(rt: HostRuntime) -> Result<(), Fail> {
     for piece in 1..200usize {
