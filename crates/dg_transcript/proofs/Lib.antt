@@ -1,0 +1,13 @@
+pub mod Lists
+pub mod GoodLines
+pub mod FieldsRead
+pub mod Limiting
+pub mod Ordered
+pub mod Plain
+pub mod Spelled
+pub mod Texts
+pub mod Replaying
+pub mod Spaces
+pub mod Digits
+pub mod Splitting
+pub mod WordsLemmas

@@ -1,0 +1,23 @@
+-- What a reader of lines keeps of them.
+use Rattle.std.specs.Prelude.{◌≡◌, ℕ, ◌+◌, ◌≤◌, List, length, count_by}
+use Rattle.dg_transcript.specs.declared.line.Line.{Line}
+use Rattle.dg_transcript.specs.declared.line.Place.{Place}
+use Rattle.dg_transcript.specs.declared.line.Place.TheVariants as place
+use Rattle.dg_transcript.specs.Lines.{place_of, is_session, is_said}
+
+-- the lines that are neither a session nor an entry: the header and the last line
+abbrev pub other_lines : Place → ℕ
+other_lines place.Top = 0
+other_lines place.Between = 1
+other_lines place.Opened = 1
+other_lines place.Running = 1
+other_lines place.Ended = 1
+other_lines place.Over = 2
+
+pub record Keeps (lines : List Line) (at : Place) (sessions entries : ℕ) : Type 0 where
+  pub here : place_of lines ≡ at
+  pub begun : count_by is_session lines ≡ sessions
+  pub said : count_by is_said lines ≡ entries
+  pub few_begun : sessions ≤ 64
+  pub few_said : entries ≤ 65536
+  pub count : length lines ≡ other_lines at + sessions + entries

@@ -1,0 +1,10 @@
+pub mod Fields
+pub mod Kept
+pub mod Limits
+pub mod Lines
+pub mod Order
+pub mod Replay
+pub mod Sessions
+pub mod Spaced
+pub mod Step
+pub mod Text

@@ -1,0 +1,74 @@
+//! What a child did, one step at a time.
+ghost use Rattle.std.specs.Prelude.{◌≡◌};
+ghost use Rattle.dg_transcript.specs.Order.{role_of};
+
+use crate::code::Code;
+use crate::line::Role;
+use dg_words::{Bytes, Seq, TryCopy};
+use std::alloc::{AllocError, Global};
+
+/// One entry of a session's record.
+#[derive(Drop, PartialEq, Eq, Hash)]
+pub enum Entry {
+    /// The child was started by these words.
+    Started(Seq<Bytes>),
+    /// It could not be started by these words.
+    NoStart(Code, Seq<Bytes>),
+    /// The bytes were sent to it.
+    Sent(Bytes),
+    /// The bytes could not be sent.
+    NoSend(Code, Bytes),
+    /// After so many milliseconds these bytes came from it.
+    Chunk(u32, Bytes),
+    /// After so many milliseconds its output ended.
+    End(u32),
+    /// Its output could not be read.
+    NoRead(Code),
+    /// For so many milliseconds nothing came from it.
+    Silence(u32),
+    /// Its session was closed.
+    Closed,
+    /// Its session could not be closed.
+    NoClose(Code),
+    /// It ended with this status.
+    Exited(u8),
+    /// It was killed by this signal.
+    Killed(u8),
+    /// It could not be waited for.
+    NoWait(Code),
+}
+
+impl Entry {
+    /// What the entry does in its session.
+    pub(crate) fn role(&self) -> Role
+        ensures { result ≡ role_of self.now }
+    {
+        match self {
+            Entry::Started(_) => Role::Start,
+            Entry::NoStart(..) => Role::Failure,
+            Entry::Sent(_) | Entry::NoSend(..) | Entry::Chunk(..) | Entry::Silence(_) => Role::Talk,
+            Entry::End(_) | Entry::NoRead(_) | Entry::Closed | Entry::NoClose(_) => Role::End,
+            Entry::Exited(_) | Entry::Killed(_) | Entry::NoWait(_) => Role::Wait,
+        }
+    }
+}
+
+impl TryCopy for Entry {
+    fn copy(&self, alloc: Global) -> Result<Entry, AllocError> {
+        Ok(match self {
+            Entry::Started(words) => Entry::Started(words.copy(alloc)?),
+            Entry::NoStart(code, words) => Entry::NoStart(*code, words.copy(alloc)?),
+            Entry::Sent(bytes) => Entry::Sent(bytes.copy(alloc)?),
+            Entry::NoSend(code, bytes) => Entry::NoSend(*code, bytes.copy(alloc)?),
+            Entry::Chunk(wait, bytes) => Entry::Chunk(*wait, bytes.copy(alloc)?),
+            Entry::End(wait) => Entry::End(*wait),
+            Entry::NoRead(code) => Entry::NoRead(*code),
+            Entry::Silence(wait) => Entry::Silence(*wait),
+            Entry::Closed => Entry::Closed,
+            Entry::NoClose(code) => Entry::NoClose(*code),
+            Entry::Exited(status) => Entry::Exited(*status),
+            Entry::Killed(signal) => Entry::Killed(*signal),
+            Entry::NoWait(code) => Entry::NoWait(*code),
+        })
+    }
+}

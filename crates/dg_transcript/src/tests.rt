@@ -1,0 +1,4 @@
+//! Worked rows: texts, their faults, and replays.
+mod faults;
+mod replays;
+mod texts;
