@@ -1,6 +1,6 @@
 //! The values of words, and the messages of errors.
 ghost use Rattle.std.specs.Prelude.{◌≡◌, ◌++◌, ◌∷◌, [], codes, IfOk};
-ghost use Rattle.dg_records.specs.Language.{word_value, word_values, quoted, no_such_variable, wrong_count, fault_text};
+ghost use Rattle.dg_records.specs.Language.{word_value, value_of, word_values, quoted, no_such_variable, wrong_count, fault_text};
 
 use dg_words::{Bytes, Part, Parts, Seq, Word, WordFault};
 use std::alloc::{AllocError, Global};
@@ -55,10 +55,16 @@ pub(crate) fn fault_text(fault: WordFault) -> &'static [u8]
 {
     match fault {
         WordFault::MissingBrace => b"missing close-brace",
+        WordFault::MissingBracket => b"missing close-bracket",
         WordFault::MissingQuote => b"missing \"",
         WordFault::AfterBrace => b"extra characters after close-brace",
         WordFault::AfterQuote => b"extra characters after close-quote",
+        WordFault::ListBrace => b"unmatched open brace in list",
+        WordFault::ListQuote => b"unmatched open quote in list",
+        WordFault::ListAfter => b"list element followed by more text",
         WordFault::Memory => b"out of memory",
+        WordFault::MissingParen => b"missing )",
+        WordFault::BadCodePoint => b"bad code point",
     }
 }
 
@@ -81,6 +87,18 @@ fn word_value(alloc: Global, parts: &Parts) -> Result<Result<Bytes, Bytes>, Allo
     Ok(Ok(value))
 }
 
+/// The value of a word, or the message of its error.
+fn value_of(alloc: Global, word: &Word) -> Result<Result<Bytes, Bytes>, AllocError>
+    ensures { IfOk result (λ r. r ≡ value_of word.now) }
+{
+    if word.expand {
+        let message = Bytes::from_slice(alloc, b"invalid command name \"{*}\"")?;
+        return Ok(Err(message));
+    }
+    let value = word_value(alloc, &word.parts)?;
+    Ok(value)
+}
+
 /// The values of words, or the message of the first that has none.
 pub(crate) fn word_values(
     alloc: Global,
@@ -90,7 +108,7 @@ pub(crate) fn word_values(
 {
     let mut values = Seq::new(alloc);
     for word in words {
-        match word_value(alloc, &word.parts)? {
+        match value_of(alloc, word)? {
             Ok(value) => values.push(value)?,
             Err(message) => return Ok(Err(message)),
         }

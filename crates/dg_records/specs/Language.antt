@@ -5,7 +5,7 @@ use Rattle.dg_words.specs.Piece.{Piece, Text, Variable, Element, End, Command as
 use Rattle.dg_words.specs.Reading.{command_at}
 use Rattle.dg_words.specs.declared.word.Word.{Word}
 use Rattle.dg_words.specs.declared.fault.WordFault.{WordFault}
-use Rattle.dg_words.specs.declared.fault.WordFault.TheVariants.{MissingBrace, MissingQuote, AfterBrace, AfterQuote, Memory}
+use Rattle.dg_words.specs.declared.fault.WordFault.TheVariants.{MissingBrace, MissingBracket, MissingQuote, AfterBrace, AfterQuote, ListBrace, ListQuote, ListAfter, Memory, MissingParen, BadCodePoint}
 use Rattle.dg_world.specs.declared.question.Question.{Question}
 use Rattle.dg_world.specs.declared.question.Answer.{Answer}
 use Rattle.dg_results.specs.declared.verdict.Line.{Line}
@@ -83,6 +83,10 @@ word_value v (Element n ∷ ps) = Err (no_such_variable n)
 word_value v (End ∷ ps) = word_value v ps
 word_value v (Script s ∷ ps) = Err (codes "invalid command name \"[\"")
 
+-- the value of a word; words of a list are not made yet
+abbrev pub value_of : Word → Result (List ℕ) (List ℕ)
+value_of w = elim w.expand [ true ↦ Err (codes "invalid command name \"{*}\"") | false ↦ word_value [] w.parts ]
+
 abbrev pub and_value : Result (List ℕ) (List ℕ) → Result (List (List ℕ)) (List ℕ) → Result (List (List ℕ)) (List ℕ)
 and_value (Err e) vs = Err e
 and_value (Ok v) (Err e) = Err e
@@ -91,7 +95,7 @@ and_value (Ok v) (Ok vs) = Ok (v ∷ vs)
 -- the values of words, or the first that has none
 abbrev pub word_values : List Word → Result (List (List ℕ)) (List ℕ)
 word_values [] = Ok []
-word_values (w ∷ ws) = and_value (word_value [] w.parts) (word_values ws)
+word_values (w ∷ ws) = and_value (value_of w) (word_values ws)
 
 abbrev pub wrong_count : List ℕ → List ℕ
 wrong_count name = codes "wrong # args: " ++ name
@@ -142,10 +146,16 @@ with_values (Err message) s k = fail message s k
 -- why a command can't be read
 abbrev pub fault_text : WordFault → List ℕ
 fault_text MissingBrace = codes "missing close-brace"
+fault_text MissingBracket = codes "missing close-bracket"
 fault_text MissingQuote = codes "missing \""
 fault_text AfterBrace = codes "extra characters after close-brace"
 fault_text AfterQuote = codes "extra characters after close-quote"
+fault_text ListBrace = codes "unmatched open brace in list"
+fault_text ListQuote = codes "unmatched open quote in list"
+fault_text ListAfter = codes "list element followed by more text"
 fault_text Memory = codes "out of memory"
+fault_text MissingParen = codes "missing )"
+fault_text BadCodePoint = codes "bad code point"
 
 -- commands one after another; v is the value of the last
 unfoldable pub sequence : Nested → List Command → List ℕ → State → Then → Play Ending

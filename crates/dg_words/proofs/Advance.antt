@@ -1,17 +1,33 @@
 -- The reading of a command gets on, and its faults are the text's own.
-use Rattle.std.specs.Prelude.{◌≡◌, ◌≢◌, ℕ, zero, suc, ◌+◌, ◌≤◌, ◌<◌, List, [], ◌∷◌, ◌++◌, length, drop, Result, Ok, Err, ◌⊎◌, MatchResult, IfOk}
-use Rattle.std.proofs.Common.{arith, subst, sym, ap, length-drop}
+use Rattle.std.specs.Prelude.{◌≡◌, ◌≢◌, ℕ, zero, suc, ◌+◌, ◌≤◌, ◌<◌, List, [], ◌∷◌, ◌++◌, length, drop, refl, Result, Ok, Err, Bool, true, false, Option, None, Some, ◌⊎◌, MatchResult, IfOk, nat_lt}
+use Rattle.std.proofs.Common.{arith, subst, sym, ◌∙◌, ap, inl, inr, length-drop}
 use Rattle.dg_words.specs.declared.fault.WordFault.{WordFault}
-use Rattle.dg_words.specs.declared.fault.WordFault.TheVariants.{Memory}
+use Rattle.dg_words.specs.declared.fault.WordFault.TheVariants.{MissingBracket, MissingParen, Memory}
 use Rattle.dg_words.specs.declared.kinds.Class.{Class}
-use Rattle.dg_words.specs.declared.kinds.Class.TheVariants.{Blank, Newline, Semicolon, Hash, Quote, Open, Close, Backslash}
+use Rattle.dg_words.specs.declared.kinds.Class.TheVariants as class
+use Rattle.dg_words.specs.declared.kinds.Level.{Level}
+use Rattle.dg_words.specs.declared.kinds.Level.TheVariants as level
+use Rattle.dg_words.specs.declared.kinds.Spot.{Spot}
+use Rattle.dg_words.specs.declared.kinds.Spot.TheVariants.{Bare, Quoted, Index, Alone}
+use Rattle.dg_words.specs.declared.kinds.Outer.{Outer}
 use Rattle.dg_words.specs.declared.kinds.Mode.{Mode}
-use Rattle.dg_words.specs.declared.kinds.Mode.TheVariants.{Start, Comment, CommentPair, Gap, Bare, Quoted, QuotedPair, Braced, BracedPair, BehindBrace, BehindQuote}
-use Rattle.dg_words.specs.declared.word.Word.{Word}
+use Rattle.dg_words.specs.declared.kinds.Mode.TheVariants.{Start, StartPair, Comment, CommentPair, Gap, GapPair, Operand, In, Pair, Join, Dollar, Colon, Name, NameBrace, Number, BraceFirst, BraceStar, BehindStar, StarPair, Braced, BracedPair, BracedJoin, Behind, BehindPair}
+use Rattle.dg_words.specs.declared.kinds.Deed.{Deed}
+use Rattle.dg_words.specs.declared.kinds.Ending.{Ending}
+use Rattle.dg_words.specs.declared.kinds.Ending.TheVariants as ending
+use Rattle.dg_words.specs.declared.kinds.Next.{Next}
+use Rattle.dg_words.specs.declared.kinds.Next.TheVariants as next
+use Rattle.dg_words.specs.declared.kinds.Turn.{Turn}
 use Rattle.dg_words.specs.declared.word.Parsed.{Parsed}
-use Rattle.dg_words.specs.Machine.{Turn, Go, End, Bad, State, Answer, onward, stopped, class_of, turn, step, stop, read, fresh, word_of}
-use Rattle.dg_words.specs.Reading.{kind_of, command_at}
+use Rattle.dg_words.specs.declared.word.Word.{Word}
+use Rattle.dg_words.specs.Classes.{class_of, heard}
+use Rattle.dg_words.specs.Turns.{turn, ends, spot_ends, number_ends, rests, after, whole, in_start}
+use Rattle.dg_words.specs.Machine.{Draft, Move, Go, Over, Fails, State, Answer, onward, stopped, step, stop, read, fresh, follow, follow_inside, has_room, opens, leaves, leaves_index, take_turn, level_in, perform, ended, is_none}
+use Rattle.dg_words.specs.Reading.{kind_of, words_only, command_at, words_of, operand_at}
 use Rattle.dg_words.specs.Answers.{Gives}
+use Rattle.dg_words.proofs.Loop.{Falls, step_falls}
+use Rattle.dg_words.proofs.Kept.{Kept, Keeps, step_keeps, fresh_kept}
+use Rattle.dg_words.proofs.Own.{Own, after_own, turn_own}
 
 ok_place : (d : ℕ) (a : Answer) → ℕ
 ok_place d (Ok x) = x.1
@@ -22,208 +38,245 @@ ok_words d (Ok x) = x.0
 ok_words d (Err e) = d
 
 -- where a reading ends
-halted : (r : Result (List Word) WordFault) (p q : ℕ) (ws : List Word) → stopped r p ≡ Ok (ws, q) → (p ≤ q) × (q ≤ p)
+halted : (r : Result (List Word) WordFault) (p q : ℕ) (ws : List Word) → stopped r p ≡ Ok (ws, q) → p ≡ q
 unfolding ok_place
-halted (Ok vs) p q ws e = let same : p ≡ q = ap (ok_place p) e in (omega arith, omega arith)
+halted (Ok vs) p q ws e = ap (ok_place p) e
 halted (Err f) p q ws e = absurd cc
 
-turned : (t : Turn) (n p q : ℕ) (ws : List Word) (more : State → Answer) → ((s : State) → more s ≡ Ok (ws, q) → (p + 1 ≤ q) × (q ≤ p + 1 + n)) →
-    onward t p more ≡ Ok (ws, q) → (p + 1 ≤ q) × (q ≤ p + 1 + n)
+moved : (d n p q : ℕ) (m : Move) (ws : List Word) (more : State → Answer) → Falls d m → ((s : State) → more s ≡ Ok (ws, q) → (p + 1 ≤ q) × (q ≤ p + 1 + n)) →
+    onward m p more ≡ Ok (ws, q) → (p ≤ q) × (q ≤ p + 1 + n)
 unfolding ok_place
-turned (Go s) n p q ws more ih e = ih s e
-turned (End vs) n p q ws more ih e = let same : p + 1 ≡ q = ap (ok_place p) e in (omega arith, omega arith)
-turned (Bad f) n p q ws more ih e = absurd cc
+moved d n p q (Go s) ws more f ih e = let h = ih s e in (omega (arith, h.0), omega (arith, h.1))
+moved d n p q (Over vs k) ws more f ih e = let same : p + k ≡ q = ap (ok_place p) e in (omega (arith, f), omega (arith, f))
+moved d n p q (Fails g) ws more f ih e = absurd cc
 
-pub range : (bs : List ℕ) (s : State) (p q : ℕ) (ws : List Word) → read bs s p ≡ Ok (ws, q) → (p ≤ q) × (q ≤ p + length bs)
+pub range : (l : Level) (bs : List ℕ) (s : State) (p q : ℕ) (ws : List Word) → read l bs s p ≡ Ok (ws, q) → (p ≤ q) × (q ≤ p + length bs)
 unfolding read
-range [] s p q ws e = let h = halted (stop s.mode s) p q ws e in (omega (arith, h.0), omega (arith, h.1))
-range (b ∷ bs) s p q ws e =
-    let h = turned (step s b) (length bs) p q ws (λ n. read bs n (p + 1)) (λ n r. range bs n (p + 1) q ws r) e in (omega (arith, h.0), omega (arith, h.1))
+range l [] s p q ws e = let h = halted (stop s) p q ws e in (omega (arith, h), omega (arith, h))
+range l (b ∷ bs) s p q ws e =
+    let h = moved s.depth (length bs) p q (step l s b) ws (λ n. read l bs n (p + 1)) (step_falls l s b) (λ n r. let k = range l bs n (p + 1) q ws r in (omega (arith, k.0), omega (arith, k.1))) e in
+    (omega (arith, h.0), omega (arith, h.1))
 
-further : (b : ℕ) (bs : List ℕ) (s : State) (p q : ℕ) (ws : List Word) → read (b ∷ bs) s p ≡ Ok (ws, q) → p < q
-unfolding read
-further b bs s p q ws e =
-    let h = turned (step s b) (length bs) p q ws (λ n. read bs n (p + 1)) (λ n r. range bs n (p + 1) q ws r) e in omega (arith, h.0)
+-- no command begins by ending before its byte
+abbrev Stays : Next → Type 0
+Stays next.Rest = ⊥
+Stays n = Unit {0}
 
-none_left : (p q : ℕ) (ws : List Word) → read [] fresh p ≡ Ok (ws, q) → ws ≡ []
-unfolding read stop ok_words
+start_stays : (c : Class) (b : ℕ) → Stays (in_start level.Top (heard level.Top c) b).next
+start_stays class.Blank b = tt
+start_stays class.Newline b = tt
+start_stays class.Semicolon b = tt
+start_stays class.Hash b = tt
+start_stays class.Quote b = tt
+start_stays class.Open b = tt
+start_stays class.Backslash b = tt
+start_stays class.LeftBracket b = tt
+start_stays class.RightBracket b = tt
+start_stays class.Dollar b = tt
+start_stays c b = tt
+
+turn_stays : (deep : Bool) (c : Class) (b : ℕ) → Stays (turn level.Top deep Start c b).next
+unfolding turn
+turn_stays deep c b = start_stays c b
+
+abbrev Takes : Move → Type 0
+Takes (Over ws k) = k ≡ 1
+Takes m = Unit {0}
+
+opens_takes : (b : Bool) (f : WordFault) (s : State) → Takes (opens b f s)
+opens_takes true f s = tt
+opens_takes false f s = tt
+
+leave_takes : (is : List Spot) (n : ℕ) (d : Draft) → Takes (leaves_index is n d)
+leave_takes [] n d = tt
+leave_takes (i ∷ is) n d = tt
+
+follow_takes : (x : Next) (n : ℕ) (d : Draft) → Stays x → Takes (follow x n d)
+follow_takes (next.To m) n d h = tt
+follow_takes next.Deeper n d h = tt
+follow_takes next.Shallower n d h = tt
+follow_takes (next.Bracket s) n d h = opens_takes (has_room d []) _ _
+follow_takes (next.Paren s) n d h = opens_takes (has_room d []) _ _
+follow_takes next.Leave n d h = leave_takes d.indices n d
+follow_takes next.End n d h = refl
+follow_takes next.Rest n d h = absurd h
+follow_takes (next.Bad f) n d h = tt
+
+first_takes : (b : ℕ) → Takes (step level.Top (fresh Start) b)
+unfolding step
+first_takes b = follow_takes (turn level.Top (nat_lt 0 0) Start (class_of b) b).next 0 _ (turn_stays (nat_lt 0 0) (class_of b) b)
+
+moved_on : (p q : ℕ) (m : Move) (ws : List Word) (more : State → Answer) → Takes m → ((s : State) → more s ≡ Ok (ws, q) → p + 1 ≤ q) → onward m p more ≡ Ok (ws, q) → p < q
+unfolding ok_place
+moved_on p q (Go s) ws more t ih e = omega (arith, ih s e)
+moved_on p q (Over vs k) ws more t ih e = let same : p + k ≡ q = ap (ok_place p) e in omega (arith, t)
+moved_on p q (Fails g) ws more t ih e = absurd cc
+
+none_left : (p q : ℕ) (ws : List Word) → read level.Top [] (fresh Start) p ≡ Ok (ws, q) → ws ≡ []
+unfolding read stop ends ok_words
 none_left p q ws e = sym (ap (ok_words []) e)
 
-begun : (bs : List ℕ) (p q : ℕ) (ws : List Word) → read bs fresh p ≡ Ok (ws, q) → ws ≢ [] → p < q
-begun [] p q ws e ne = absurd (ne (none_left p q ws e))
-begun (b ∷ bs) p q ws e ne = further b bs fresh p q ws e
-
--- behind a word there are words
-abbrev Has : Mode → List Word → Type 0
-Has Gap ws = ws ≢ []
-Has BehindBrace ws = ws ≢ []
-Has BehindQuote ws = ws ≢ []
-Has m ws = Unit {0}
-
-some : (ws : List Word) (w : Word) → ws ++ w ∷ [] ≢ []
-some [] w e = cc
-some (v ∷ ws) w e = cc
-
-abbrev Keeps : Turn → Type 0
-Keeps (Go n) = Has n.mode n.words
-Keeps (End ws) = ws ≢ []
-Keeps (Bad f) = Unit {0}
-
-keeps : (m : Mode) (c : Class) (s : State) (b : ℕ) → Has m s.words → Keeps (turn m c s b)
-unfolding turn
-keeps Start Blank s b h = tt
-keeps Start Newline s b h = tt
-keeps Start Semicolon s b h = tt
-keeps Start Hash s b h = tt
-keeps Start Quote s b h = tt
-keeps Start Open s b h = tt
-keeps Start c s b h = tt
-keeps Comment Newline s b h = tt
-keeps Comment Backslash s b h = tt
-keeps Comment c s b h = tt
-keeps CommentPair c s b h = tt
-keeps Gap Blank s b h = h
-keeps Gap Newline s b h = h
-keeps Gap Semicolon s b h = h
-keeps Gap Quote s b h = tt
-keeps Gap Open s b h = tt
-keeps Gap c s b h = tt
-keeps Bare Blank s b h = some s.words (word_of s.text)
-keeps Bare Newline s b h = some s.words (word_of s.text)
-keeps Bare Semicolon s b h = some s.words (word_of s.text)
-keeps Bare c s b h = tt
-keeps Quoted Quote s b h = some s.words (word_of s.text)
-keeps Quoted Backslash s b h = tt
-keeps Quoted c s b h = tt
-keeps QuotedPair c s b h = tt
-keeps (Braced n) Open s b h = tt
-keeps (Braced zero) Close s b h = some s.words (word_of s.text)
-keeps (Braced (suc n)) Close s b h = tt
-keeps (Braced n) Backslash s b h = tt
-keeps (Braced zero) c s b h = tt
-keeps (Braced (suc n)) c s b h = tt
-keeps (BracedPair n) c s b h = tt
-keeps BehindBrace Blank s b h = h
-keeps BehindBrace Newline s b h = h
-keeps BehindBrace Semicolon s b h = h
-keeps BehindBrace c s b h = tt
-keeps BehindQuote Blank s b h = h
-keeps BehindQuote Newline s b h = h
-keeps BehindQuote Semicolon s b h = h
-keeps BehindQuote c s b h = tt
-
-step_keeps : (s : State) (b : ℕ) → Has s.mode s.words → Keeps (step s b)
-unfolding step
-step_keeps s b h = keeps s.mode (class_of b) s b h
-
-halted_empty : (r : Result (List Word) WordFault) (p q : ℕ) (ws : List Word) → stopped r p ≡ Ok (ws, q) → q ≡ p
-unfolding ok_place
-halted_empty r p q ws e = let h = halted r p q ws e in omega (arith, h.0, h.1)
-
-turned_empty : (t : Turn) (n p q : ℕ) (more : State → Answer) → Keeps t → ((s : State) → Has s.mode s.words → more s ≡ Ok ([], q) → q ≡ p + 1 + n) →
-    onward t p more ≡ Ok ([], q) → q ≡ p + 1 + n
-unfolding ok_words
-turned_empty (Go s) n p q more k ih e = ih s k e
-turned_empty (End vs) n p q more k ih e = absurd (k (ap (ok_words vs) e))
-turned_empty (Bad f) n p q more k ih e = absurd cc
-
-all_left : (bs : List ℕ) (s : State) (p q : ℕ) → Has s.mode s.words → read bs s p ≡ Ok ([], q) → q ≡ p + length bs
+begun : (bs : List ℕ) (p q : ℕ) (ws : List Word) → read level.Top bs (fresh Start) p ≡ Ok (ws, q) → ws ≢ [] → p < q
 unfolding read
-all_left [] s p q h e = let x = halted_empty (stop s.mode s) p q [] e in omega (arith, x)
-all_left (b ∷ bs) s p q h e =
-    let x = turned_empty (step s b) (length bs) p q (λ n. read bs n (p + 1)) (step_keeps s b h) (λ n k r. let y = all_left bs n (p + 1) q k r in omega (arith, y)) e in omega (arith, x)
+begun [] p q ws e ne = absurd (ne (none_left p q ws e))
+begun (b ∷ bs) p q ws e ne = moved_on p q (step level.Top (fresh Start) b) ws (λ n. read level.Top bs n (p + 1)) (first_takes b) (λ n r. (range level.Top bs n (p + 1) q ws r).0) e
+
+moved_over : (n p q : ℕ) (m : Move) (more : State → Answer) → Keeps m → ((s : State) → Kept s → more s ≡ Ok ([], q) → q ≡ p + 1 + n) → onward m p more ≡ Ok ([], q) → q ≡ p + 1 + n
+unfolding ok_words
+moved_over n p q (Go s) more k ih e = ih s k e
+moved_over n p q (Over vs j) more k ih e = absurd (k (ap (ok_words vs) e))
+moved_over n p q (Fails f) more k ih e = absurd cc
+
+all_left : (bs : List ℕ) (s : State) (p q : ℕ) → Kept s → read level.Top bs s p ≡ Ok ([], q) → q ≡ p + length bs
+unfolding read
+all_left [] s p q k e = let h = halted (stop s) p q [] e in omega (arith, h)
+all_left (b ∷ bs) s p q k e =
+    let h = moved_over (length bs) p q (step level.Top s b) (λ n. read level.Top bs n (p + 1)) (step_keeps s b k) (λ n kn r. let x = all_left bs n (p + 1) q kn r in omega (arith, x)) e in omega (arith, h)
 
 -- no fault of a text is Memory
-abbrev Own : Turn → Type 0
-Own (Go n) = Unit {0}
-Own (End ws) = Unit {0}
-Own (Bad f) = f ≢ Memory
+abbrev OwnMove : Move → Type 0
+OwnMove (Fails f) = f ≢ Memory
+OwnMove m = Unit {0}
 
-own : (m : Mode) (c : Class) (s : State) (b : ℕ) → Own (turn m c s b)
-unfolding turn
-own Start Blank s b = tt
-own Start Newline s b = tt
-own Start Semicolon s b = tt
-own Start Hash s b = tt
-own Start Quote s b = tt
-own Start Open s b = tt
-own Start c s b = tt
-own Comment Newline s b = tt
-own Comment Backslash s b = tt
-own Comment c s b = tt
-own CommentPair c s b = tt
-own Gap Blank s b = tt
-own Gap Newline s b = tt
-own Gap Semicolon s b = tt
-own Gap Quote s b = tt
-own Gap Open s b = tt
-own Gap c s b = tt
-own Bare Blank s b = tt
-own Bare Newline s b = tt
-own Bare Semicolon s b = tt
-own Bare c s b = tt
-own Quoted Quote s b = tt
-own Quoted Backslash s b = tt
-own Quoted c s b = tt
-own QuotedPair c s b = tt
-own (Braced n) Open s b = tt
-own (Braced zero) Close s b = tt
-own (Braced (suc n)) Close s b = tt
-own (Braced n) Backslash s b = tt
-own (Braced zero) c s b = tt
-own (Braced (suc n)) c s b = tt
-own (BracedPair n) c s b = tt
-own BehindBrace Blank s b = tt
-own BehindBrace Newline s b = tt
-own BehindBrace Semicolon s b = tt
-own BehindBrace c s b = λ e. cc
-own BehindQuote Blank s b = tt
-own BehindQuote Newline s b = tt
-own BehindQuote Semicolon s b = tt
-own BehindQuote c s b = λ e. cc
+opens_own : (b : Bool) (f : WordFault) (s : State) → f ≢ Memory → OwnMove (opens b f s)
+opens_own true f s h = tt
+opens_own false f s h = h
 
-step_own : (s : State) (b : ℕ) → Own (step s b)
+leave_own : (is : List Spot) (n : ℕ) (d : Draft) → OwnMove (leaves_index is n d)
+leave_own [] n d = tt
+leave_own (i ∷ is) n d = tt
+
+bracket_own : MissingBracket ≢ Memory
+bracket_own e = cc
+
+paren_own : MissingParen ≢ Memory
+paren_own e = cc
+
+follow_own : (x : Next) (n : ℕ) (d : Draft) → Own x → OwnMove (follow x n d)
+follow_own (next.To m) n d h = tt
+follow_own next.Deeper n d h = tt
+follow_own next.Shallower n d h = tt
+follow_own (next.Bracket s) n d h = opens_own (has_room d []) _ _ bracket_own
+follow_own (next.Paren s) n d h = opens_own (has_room d []) _ _ paren_own
+follow_own next.Leave n d h = leave_own d.indices n d
+follow_own next.End n d h = tt
+follow_own next.Rest n d h = tt
+follow_own (next.Bad f) n d h = h
+
+leaves_own : (os : List Outer) (n : ℕ) (d : Draft) (b : ℕ) → OwnMove (leaves os n d b)
+leaves_own [] n d b = tt
+leaves_own (o ∷ []) n d b = tt
+leaves_own (o ∷ p ∷ os) n d b = tt
+
+inside_own : (x : Next) (n : ℕ) (os : List Outer) (d : Draft) (b : ℕ) → Own x → OwnMove (follow_inside x n os d b)
+inside_own (next.To m) n os d b h = tt
+inside_own next.Deeper n os d b h = tt
+inside_own next.Shallower n os d b h = tt
+inside_own (next.Bracket s) n os d b h = opens_own (has_room d os) _ _ bracket_own
+inside_own (next.Paren s) n os d b h = opens_own (has_room d os) _ _ paren_own
+inside_own next.Leave n os d b h = leaves_own os n d b
+inside_own next.End n os d b h = tt
+inside_own next.Rest n os d b h = tt
+inside_own (next.Bad f) n os d b h = h
+
+turn_move_own : (t : Turn) (n : ℕ) (os : List Outer) (d : Draft) (b : ℕ) → Own t.next → OwnMove (take_turn t n os d b)
+turn_move_own t n [] d b h = follow_own t.next n (perform t.second (perform t.first d)) h
+turn_move_own t n (o ∷ os) d b h = inside_own t.next n (o ∷ os) d b h
+
+step_own : (l : Level) (s : State) (b : ℕ) → OwnMove (step l s b)
 unfolding step
-step_own s b = own s.mode (class_of b) s b
+step_own l s b = turn_move_own (turn (level_in l s.inner) (nat_lt 0 s.depth) s.mode (class_of b) b) s.depth s.inner s.draft b (turn_own (level_in l s.inner) (nat_lt 0 s.depth) s.mode (class_of b) b)
 
-stop_own : (m : Mode) (s : State) → stop m s ≢ Err Memory
+abbrev OwnEnd : Ending → Type 0
+OwnEnd (ending.Bad f) = f ≢ Memory
+OwnEnd e = Unit {0}
+
+spot_end_own : (top : Bool) (s : Spot) (d e : Deed) → OwnEnd (spot_ends top s d e)
+spot_end_own top Quoted d e = λ x. cc
+spot_end_own top Index d e = λ x. cc
+spot_end_own true Bare d e = tt
+spot_end_own true Alone d e = tt
+spot_end_own false Bare d e = λ x. cc
+spot_end_own false Alone d e = λ x. cc
+
+number_end_own : (top : Bool) (s : Spot) (d : Option Deed) → OwnEnd (number_ends top s d)
+number_end_own top s (Some d) = spot_end_own top s _ d
+number_end_own true Bare None = λ x. cc
+number_end_own true Alone None = λ x. cc
+number_end_own true Quoted None = λ x. cc
+number_end_own true Index None = λ x. cc
+number_end_own false s None = spot_end_own false s _ _
+
+rests_own : (top : Bool) (e : Ending) → OwnEnd e → OwnEnd (rests top e)
+rests_own true e h = h
+rests_own false e h = λ x. cc
+
+ends_own : (top : Bool) (m : Mode) → OwnEnd (ends top m)
+unfolding ends
+ends_own top Start = rests_own top _ tt
+ends_own top StartPair = rests_own top _ tt
+ends_own top Comment = rests_own top _ tt
+ends_own top CommentPair = rests_own top _ tt
+ends_own top Gap = rests_own top _ tt
+ends_own top GapPair = rests_own top _ tt
+ends_own top Operand = rests_own top _ tt
+ends_own top (In s) = spot_end_own top s _ _
+ends_own top (Pair s) = spot_end_own top s _ _
+ends_own top (Join s) = spot_end_own top s _ _
+ends_own top (Dollar s) = spot_end_own top s _ _
+ends_own top (Colon s) = spot_end_own top s _ _
+ends_own top (Name s) = spot_end_own top s _ _
+ends_own top (NameBrace s) = λ x. cc
+ends_own top (Number s n) = number_end_own top s (whole n)
+ends_own top BraceFirst = λ x. cc
+ends_own top BraceStar = λ x. cc
+ends_own top BehindStar = rests_own top _ tt
+ends_own top StarPair = rests_own top _ tt
+ends_own top Braced = λ x. cc
+ends_own top BracedPair = λ x. cc
+ends_own top BracedJoin = λ x. cc
+ends_own top (Behind d) = rests_own top _ tt
+ends_own top (BehindPair d) = rests_own top _ (after_own d)
+
+ended_own : (e : Ending) (d : Draft) → OwnEnd e → ended e d ≢ Err Memory
+ended_own (ending.Word x y) d h e = cc
+ended_own ending.Done d h e = cc
+ended_own (ending.Bad f) d h e = h cc
+
+stop_own : (s : State) → stop s ≢ Err Memory
 unfolding stop
-stop_own Quoted s e = cc
-stop_own QuotedPair s e = cc
-stop_own (Braced n) s e = cc
-stop_own (BracedPair n) s e = cc
-stop_own m s e = cc
+stop_own s = ended_own (ends (is_none s.inner) s.mode) s.draft (ends_own (is_none s.inner) s.mode)
 
 stopped_own : (r : Result (List Word) WordFault) (p : ℕ) → r ≢ Err Memory → kind_of (stopped r p) ≢ Err Memory
 stopped_own (Ok vs) p n e = cc
 stopped_own (Err f) p n e = n (let same : f ≡ Memory = cc in ap Err same)
 
-turned_own : (t : Turn) (p : ℕ) (more : State → Answer) → Own t → ((s : State) → kind_of (more s) ≢ Err Memory) → kind_of (onward t p more) ≢ Err Memory
-turned_own (Go s) p more o ih e = ih s e
-turned_own (End vs) p more o ih e = cc
-turned_own (Bad f) p more o ih e = o cc
+onward_own : (m : Move) (p : ℕ) (more : State → Answer) → OwnMove m → ((s : State) → kind_of (more s) ≢ Err Memory) → kind_of (onward m p more) ≢ Err Memory
+onward_own (Go s) p more o ih e = ih s e
+onward_own (Over vs k) p more o ih e = cc
+onward_own (Fails f) p more o ih e = o cc
 
-read_own : (bs : List ℕ) (s : State) (p : ℕ) → kind_of (read bs s p) ≢ Err Memory
+pub read_own : (l : Level) (bs : List ℕ) (s : State) (p : ℕ) → kind_of (read l bs s p) ≢ Err Memory
 unfolding read
-read_own [] s p = stopped_own (stop s.mode s) p (stop_own s.mode s)
-read_own (b ∷ bs) s p = turned_own (step s b) p (λ n. read bs n (p + 1)) (step_own s b) (λ n. read_own bs n (p + 1))
+read_own l [] s p = stopped_own (stop s) p (stop_own s)
+read_own l (b ∷ bs) s p = onward_own (step l s b) p (λ n. read l bs n (p + 1)) (step_own l s b) (λ n. read_own l bs n (p + 1))
 
 kind_ok : (a : Answer) (x : List Word × ℕ) → kind_of a ≡ Ok x → a ≡ Ok x
 kind_ok (Ok y) x e = cc
 kind_ok (Err f) x e = absurd cc
 
-opened : (text : List ℕ) (at next : ℕ) (words : List Word) → command_at text at ≡ Ok (words, next) → read (drop at text) fresh at ≡ Ok (words, next)
+opened : (text : List ℕ) (at next : ℕ) (words : List Word) → command_at text at ≡ Ok (words, next) → read level.Top (drop at text) (fresh Start) at ≡ Ok (words, next)
 unfolding command_at
-opened text at next words e = kind_ok (read (drop at text) fresh at) (words, next) e
+opened text at next words e = kind_ok (read level.Top (drop at text) (fresh Start) at) (words, next) e
 
 -- the place behind a command is within the text
 pub next_within : (text : List ℕ) (at next : ℕ) (words : List Word) → at ≤ length text → command_at text at ≡ Ok (words, next) → next ≤ length text
 next_within text at next words le e =
-    let h = range (drop at text) fresh at next words (opened text at next words e) in omega (arith, h.1, length-drop at text, le)
+    let h = range level.Top (drop at text) (fresh Start) at next words (opened text at next words e) in omega (arith, h.1, length-drop at text, le)
 
 -- and not before the place where it was sought
 pub next_behind : (text : List ℕ) (at next : ℕ) (words : List Word) → command_at text at ≡ Ok (words, next) → at ≤ next
-next_behind text at next words e = let h = range (drop at text) fresh at next words (opened text at next words e) in omega (arith, h.0)
+next_behind text at next words e = (range level.Top (drop at text) (fresh Start) at next words (opened text at next words e)).0
 
 -- it is further on where there are words
 pub next_onward : (text : List ℕ) (at next : ℕ) (words : List Word) → command_at text at ≡ Ok (words, next) → words ≢ [] → at < next
@@ -232,20 +285,61 @@ next_onward text at next words e ne = begun (drop at text) at next words (opened
 -- where there are no words nothing is left
 pub next_over : (text : List ℕ) (at next : ℕ) (words : List Word) → at ≤ length text → command_at text at ≡ Ok (words, next) → words ≡ [] → next ≡ length text
 next_over text at next words le e none =
-    let h = all_left (drop at text) fresh at next tt (subst (λ ws. read (drop at text) fresh at ≡ Ok (ws, next)) none (opened text at next words e)) in
+    let h = all_left (drop at text) (fresh Start) at next fresh_kept (subst (λ ws. read level.Top (drop at text) (fresh Start) at ≡ Ok (ws, next)) none (opened text at next words e)) in
     omega (arith, h, length-drop at text, le)
 
 -- a text's own fault is not Memory
 pub never_memory : (text : List ℕ) (at : ℕ) → command_at text at ≢ Err Memory
 unfolding command_at
-never_memory text at = read_own (drop at text) fresh at
+never_memory text at = read_own level.Top (drop at text) (fresh Start) at
+
+same_kind : (a : Answer) (f : WordFault) → words_only a ≡ Err f → kind_of a ≡ Err f
+same_kind (Ok x) f e = absurd cc
+same_kind (Err g) f e = cc
+
+pub words_never_memory : (text : List ℕ) → words_of text ≢ Err Memory
+unfolding words_of
+words_never_memory text e = read_own level.List text (fresh Gap) 0 (same_kind (read level.List text (fresh Gap) 0) Memory e)
+
+pub operand_never_memory : (text : List ℕ) (at : ℕ) → operand_at text at ≢ Err Memory
+unfolding operand_at
+operand_never_memory text at = read_own level.Alone (drop at text) (fresh Operand) at
+
+pub operand_within : (text : List ℕ) (at next : ℕ) (words : List Word) → at ≤ length text → operand_at text at ≡ Ok (words, next) → next ≤ length text
+unfolding operand_at
+operand_within text at next words le e =
+    let h = range level.Alone (drop at text) (fresh Operand) at next words (kind_ok (read level.Alone (drop at text) (fresh Operand) at) (words, next) e) in omega (arith, h.1, length-drop at text, le)
 
 -- the answer of a reader, by what it returned
-pub gives_command : (text : List ℕ) (at : ℕ) (r : Result Parsed WordFault) → Gives (λ p. (p.words, p.next)) r (read (drop at text) fresh at) →
+pub gives_command : (text : List ℕ) (at : ℕ) (r : Result Parsed WordFault) → Gives (λ p. (p.words, p.next)) r (read level.Top (drop at text) (fresh Start) at) →
     MatchResult r (λ p. command_at text at ≡ Ok (p.words, p.next)) (λ f. (f ≡ Memory) ⊎ (command_at text at ≡ Err f))
 unfolding command_at
 gives_command text at (Ok p) e = ap kind_of e
 gives_command text at (Err f) e = e
+
+pub gives_operand : (text : List ℕ) (at : ℕ) (r : Result Parsed WordFault) → Gives (λ p. (p.words, p.next)) r (read level.Alone (drop at text) (fresh Operand) at) →
+    MatchResult r (λ p. operand_at text at ≡ Ok (p.words, p.next)) (λ f. (f ≡ Memory) ⊎ (operand_at text at ≡ Err f))
+unfolding operand_at
+gives_operand text at (Ok p) e = ap kind_of e
+gives_operand text at (Err f) e = e
+
+pub gives_operand_within : (text : List ℕ) (at : ℕ) (r : Result Parsed WordFault) → at ≤ length text →
+    MatchResult r (λ p. operand_at text at ≡ Ok (p.words, p.next)) (λ f. (f ≡ Memory) ⊎ (operand_at text at ≡ Err f)) → IfOk r (λ p. p.next ≤ length text)
+gives_operand_within text at (Ok p) le e = operand_within text at p.next p.words le e
+gives_operand_within text at (Err f) le e = tt
+
+pub gives_words : (text : List ℕ) (ws : List Word) (n : ℕ) → read level.List text (fresh Gap) 0 ≡ Ok (ws, n) → words_of text ≡ Ok ws
+unfolding words_of
+gives_words text ws n e = ap words_only e
+
+only_fault : (a : Answer) (f : WordFault) → kind_of a ≡ Err f → words_only a ≡ Err f
+only_fault (Ok x) f e = absurd cc
+only_fault (Err g) f e = cc
+
+pub gives_fault : (text : List ℕ) (f : WordFault) → (f ≡ Memory) ⊎ (kind_of (read level.List text (fresh Gap) 0) ≡ Err f) → (f ≡ Memory) ⊎ (words_of text ≡ Err f)
+unfolding words_of
+gives_fault text f (inl m) = inl m
+gives_fault text f (inr e) = inr (only_fault (read level.List text (fresh Gap) 0) f e)
 
 pub gives_within : (text : List ℕ) (at : ℕ) (r : Result Parsed WordFault) → at ≤ length text →
     MatchResult r (λ p. command_at text at ≡ Ok (p.words, p.next)) (λ f. (f ≡ Memory) ⊎ (command_at text at ≡ Err f)) → IfOk r (λ p. p.next ≤ length text)

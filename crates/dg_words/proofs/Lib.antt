@@ -1,3 +1,10 @@
+pub mod Defaults
+pub mod Framing
 pub mod Loop
-pub mod Level
+pub mod Turning
+pub mod Own
+pub mod Kept
 pub mod Advance
+pub mod Listing
+pub mod RoundTrip
+pub mod First

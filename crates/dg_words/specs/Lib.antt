@@ -1,6 +1,12 @@
 pub mod Piece
 pub mod Parts
 pub mod PartsFall
+pub mod Classes
+pub mod Turns
 pub mod Machine
+pub mod Frames
 pub mod Reading
 pub mod Answers
+pub mod Elements
+pub mod Canonical
+pub mod First

@@ -1,124 +1,161 @@
--- What is open behind a text, and what one more byte makes of it.
-use Rattle.std.specs.Prelude.{ℕ, zero, suc, ◌+◌, List, [], ◌∷◌, ◌++◌, false, Result, Ok, Err, if◌then◌else◌, ◌==◌}
-use Rattle.dg_words.specs.Piece.{Piece, Text}
+-- What is open behind a text, and how a text is read from its beginning.
+use Rattle.std.specs.Prelude.{◌≡◌, ℕ, zero, suc, ◌+◌, ◌-◌, List, [], ◌∷◌, ◌++◌, length, Bool, true, false, Result, Ok, Err, if◌then◌else◌, ◌==◌, nat_lt}
+use Rattle.std.specs.Char.{encode_utf8}
+use Rattle.dg_words.specs.Piece.{Piece, Text, Variable, Element, End, Command}
 use Rattle.dg_words.specs.declared.fault.WordFault.{WordFault}
-use Rattle.dg_words.specs.declared.fault.WordFault.TheVariants.{MissingBrace, MissingQuote, AfterBrace, AfterQuote}
-use Rattle.dg_words.specs.declared.kinds.Class.{Class}
-use Rattle.dg_words.specs.declared.kinds.Class.TheVariants.{Blank, Newline, Semicolon, Hash, Quote, Open, Close, Backslash, Plain}
+use Rattle.dg_words.specs.declared.fault.WordFault.TheVariants.{MissingBracket, MissingParen}
+use Rattle.dg_words.specs.declared.kinds.Level.{Level}
+use Rattle.dg_words.specs.declared.kinds.Level.TheVariants.{Inside}
+use Rattle.dg_words.specs.declared.kinds.Spot.{Spot}
+use Rattle.dg_words.specs.declared.kinds.Spot.TheVariants.{Bare, Index}
+use Rattle.dg_words.specs.declared.kinds.Outer.{Outer}
+use Rattle.dg_words.specs.declared.kinds.Outer.TheVariants as outer
 use Rattle.dg_words.specs.declared.kinds.Mode.{Mode}
-use Rattle.dg_words.specs.declared.kinds.Mode.TheVariants.{Start, Comment, CommentPair, Gap, Bare, Quoted, QuotedPair, Braced, BracedPair, BehindBrace, BehindQuote}
+use Rattle.dg_words.specs.declared.kinds.Mode.TheVariants.{Start, In, Braced}
+use Rattle.dg_words.specs.declared.kinds.Deed.{Deed}
+use Rattle.dg_words.specs.declared.kinds.Deed.TheVariants as deed
+use Rattle.dg_words.specs.declared.kinds.Next.{Next}
+use Rattle.dg_words.specs.declared.kinds.Next.TheVariants as next
+use Rattle.dg_words.specs.declared.kinds.Turn.{Turn}
+use Rattle.dg_words.specs.declared.kinds.Ending.{Ending}
+use Rattle.dg_words.specs.declared.kinds.Ending.TheVariants as ending
 use Rattle.dg_words.specs.declared.word.Word.{Word}
+use Rattle.dg_words.specs.Classes.{class_of}
+use Rattle.dg_words.specs.Turns.{turn, ends}
 
--- what a byte is to the grammar
-unfoldable pub class_of : ℕ → Class
-class_of b =
-    if b == 10 then Newline else if b == 59 then Semicolon else
-    if b == 32 then Blank else if b == 9 then Blank else if b == 11 then Blank else if b == 12 then Blank else if b == 13 then Blank else
-    if b == 35 then Hash else if b == 34 then Quote else if b == 123 then Open else if b == 125 then Close else if b == 92 then Backslash else Plain
-
--- the parts of a text: none where it is empty
-abbrev pub parts_of : List ℕ → List Piece
-parts_of [] = []
-parts_of (b ∷ bs) = Text (b ∷ bs) ∷ []
-
--- the word of a text
-abbrev pub word_of : List ℕ → Word
-word_of t = record { expand = false; parts = parts_of t }
-
--- What is open behind a text, the whole words before it, and the bytes of the word that is open.
-pub record State : Type 0 where
-  pub mode : Mode
+-- What was read: the whole words, and of the word that is open whether it expands, the indices that are open in it
+-- (innermost first, each where its element stands), its pieces, and the text of the part that is open.
+pub record Draft : Type 0 where
   pub words : List Word
+  pub expand : Bool
+  pub indices : List Spot
+  pub parts : List Piece
   pub text : List ℕ
 
--- a byte that belongs to no word
-abbrev pub to : Mode → State → State
-to m s = record { mode = m; words = s.words; text = s.text }
+-- pieces, with the text behind them where there is one
+abbrev pub closed : List Piece → List ℕ → List Piece
+closed parts [] = parts
+closed parts (b ∷ bs) = parts ++ Text (b ∷ bs) ∷ []
 
--- one more byte of the word that is open
-abbrev pub put : Mode → State → ℕ → State
-put m s b = record { mode = m; words = s.words; text = s.text ++ b ∷ [] }
+abbrev pub add : List ℕ → Draft → Draft
+add t d = record d { text = d.text ++ t }
 
--- a word ends
-abbrev pub finish : Mode → State → State
-finish m s = record { mode = m; words = s.words ++ word_of s.text ∷ []; text = [] }
+abbrev pub close : Draft → Draft
+close d = record d { parts = closed d.parts d.text; text = [] }
 
--- what a byte makes: more is open, the command has ended with these words, or no spelling goes on
-pub data Turn : Type 0 where
-  Go : State → Turn
-  End : List Word → Turn
-  Bad : WordFault → Turn
+-- a word ends, outside of its indices
+abbrev pub end_word : List Spot → Draft → Draft
+end_word [] d = record d { words = d.words ++ record { expand = d.expand; parts = closed d.parts d.text } ∷ []; expand = false; parts = []; text = [] }
+end_word (s ∷ ss) d = d
 
-abbrev pub in_gap : Class → State → ℕ → Turn
-in_gap Blank s b = Go (to Gap s)
-in_gap Newline s b = End s.words
-in_gap Semicolon s b = End s.words
-in_gap Quote s b = Go (to Quoted s)
-in_gap Open s b = Go (to (Braced 0) s)
-in_gap c s b = Go (put Bare s b)
+abbrev pub perform : Deed → Draft → Draft
+perform deed.Nothing d = d
+perform (deed.Byte b) d = add (b ∷ []) d
+perform (deed.Code c) d = add (encode_utf8 c) d
+perform deed.Dollar d = add (36 ∷ []) d
+perform deed.DollarColon d = add (36 ∷ 58 ∷ []) d
+perform deed.Close d = close d
+perform deed.Global d = record d { parts = closed d.parts d.text; text = 58 ∷ 58 ∷ [] }
+perform deed.Value d = record d { parts = d.parts ++ Variable d.text ∷ []; text = [] }
+perform deed.Expand d = record d { expand = true; text = [] }
+perform deed.Word d = end_word d.indices d
 
-abbrev pub in_start : Class → State → ℕ → Turn
-in_start Blank s b = Go (to Start s)
-in_start Newline s b = Go (to Start s)
-in_start Semicolon s b = Go (to Start s)
-in_start Hash s b = Go (to Comment s)
-in_start c s b = in_gap c s b
+-- an element's index begins, and ends
+abbrev pub open_index : Spot → Draft → Draft
+open_index s d = record d { indices = s ∷ d.indices; parts = d.parts ++ Element d.text ∷ []; text = [] }
 
-abbrev pub in_comment : Class → State → Turn
-in_comment Newline s = Go (to Start s)
-in_comment Backslash s = Go (to CommentPair s)
-in_comment c s = Go (to Comment s)
+abbrev pub close_index : List Spot → Draft → Draft
+close_index rest d = record d { indices = rest; parts = closed d.parts d.text ++ End ∷ []; text = [] }
 
-abbrev pub in_bare : Class → State → ℕ → Turn
-in_bare Blank s b = Go (finish Gap s)
-in_bare Newline s b = End (s.words ++ word_of s.text ∷ [])
-in_bare Semicolon s b = End (s.words ++ word_of s.text ∷ [])
-in_bare c s b = Go (put Bare s b)
+-- the text that was read within brackets is a part
+abbrev pub command : Draft → Draft
+command d = record d { parts = d.parts ++ Command d.text ∷ []; text = [] }
 
-abbrev pub in_quoted : Class → State → ℕ → Turn
-in_quoted Quote s b = Go (finish BehindQuote s)
-in_quoted Backslash s b = Go (put QuotedPair s b)
-in_quoted c s b = Go (put Quoted s b)
+-- What is open: the innermost item, the braces inside of a braced word, the brackets and the indices in brackets
+-- (innermost first), and what was read. Within brackets that is the text of the outermost, and no parts.
+pub record State : Type 0 where
+  pub mode : Mode
+  pub depth : ℕ
+  pub inner : List Outer
+  pub draft : Draft
 
-abbrev pub in_braced : ℕ → Class → State → ℕ → Turn
-in_braced n Open s b = Go (put (Braced (n + 1)) s b)
-in_braced zero Close s b = Go (finish BehindBrace s)
-in_braced (suc n) Close s b = Go (put (Braced n) s b)
-in_braced n Backslash s b = Go (put (BracedPair n) s b)
-in_braced n c s b = Go (put (Braced n) s b)
+-- what a byte makes: more is open, the command is over with so many bytes more, or no spelling goes on
+pub data Move : Type 0 where
+  Go : State → Move
+  Over : List Word → ℕ → Move
+  Fails : WordFault → Move
 
-abbrev pub behind : WordFault → Class → State → Turn
-behind f Blank s = Go (to Gap s)
-behind f Newline s = End s.words
-behind f Semicolon s = End s.words
-behind f c s = Bad f
+abbrev pub spot_of : Outer → Spot
+spot_of (outer.Bracket s) = s
+spot_of (outer.Paren s) = s
 
-unfoldable pub turn : Mode → Class → State → ℕ → Turn
-turn Start c s b = in_start c s b
-turn Comment c s b = in_comment c s
-turn CommentPair c s b = Go (to Comment s)
-turn Gap c s b = in_gap c s b
-turn Bare c s b = in_bare c s b
-turn Quoted c s b = in_quoted c s b
-turn QuotedPair c s b = Go (put Quoted s b)
-turn (Braced n) c s b = in_braced n c s b
-turn (BracedPair n) c s b = Go (put (Braced n) s b)
-turn BehindBrace c s b = behind AfterBrace c s
-turn BehindQuote c s b = behind AfterQuote c s
+-- brackets and indices that may be open inside each other
+abbrev pub has_room : Draft → List Outer → Bool
+has_room d inner = nat_lt (length d.indices + length inner) 100
 
-unfoldable pub step : State → ℕ → Turn
-step s b = turn s.mode (class_of b) s b
+abbrev pub opens : Bool → WordFault → State → Move
+opens true f s = Go s
+opens false f s = Fails f
+
+abbrev pub leaves_index : List Spot → ℕ → Draft → Move
+leaves_index [] n d = Go (record { mode = In Bare; depth = n; inner = []; draft = d })
+leaves_index (s ∷ ss) n d = Go (record { mode = In s; depth = n; inner = []; draft = close_index ss d })
+
+-- outside brackets, behind the deeds
+abbrev pub follow : Next → ℕ → Draft → Move
+follow (next.To m) n d = Go (record { mode = m; depth = n; inner = []; draft = d })
+follow next.Deeper n d = Go (record { mode = Braced; depth = n + 1; inner = []; draft = d })
+follow next.Shallower n d = Go (record { mode = Braced; depth = n - 1; inner = []; draft = d })
+follow (next.Bracket s) n d = opens (has_room d []) MissingBracket (record { mode = Start; depth = n; inner = outer.Bracket s ∷ []; draft = close d })
+follow (next.Paren s) n d = opens (has_room d []) MissingParen (record { mode = In Index; depth = n; inner = []; draft = open_index s d })
+follow next.Leave n d = leaves_index d.indices n d
+follow next.End n d = Over d.words 1
+follow next.Rest n d = Over d.words 0
+follow (next.Bad f) n d = Fails f
+
+-- the innermost bracket or index within brackets ends
+abbrev pub leaves : List Outer → ℕ → Draft → ℕ → Move
+leaves [] n d b = Go (record { mode = In Bare; depth = n; inner = []; draft = d })
+leaves (o ∷ []) n d b = Go (record { mode = In (spot_of o); depth = n; inner = []; draft = command d })
+leaves (o ∷ p ∷ os) n d b = Go (record { mode = In (spot_of o); depth = n; inner = p ∷ os; draft = add (b ∷ []) d })
+
+-- within brackets, where each byte goes to their text, and behind a command another may begin
+abbrev pub follow_inside : Next → ℕ → List Outer → Draft → ℕ → Move
+follow_inside (next.To m) n os d b = Go (record { mode = m; depth = n; inner = os; draft = add (b ∷ []) d })
+follow_inside next.Deeper n os d b = Go (record { mode = Braced; depth = n + 1; inner = os; draft = add (b ∷ []) d })
+follow_inside next.Shallower n os d b = Go (record { mode = Braced; depth = n - 1; inner = os; draft = add (b ∷ []) d })
+follow_inside (next.Bracket s) n os d b = opens (has_room d os) MissingBracket (record { mode = Start; depth = n; inner = outer.Bracket s ∷ os; draft = add (b ∷ []) d })
+follow_inside (next.Paren s) n os d b = opens (has_room d os) MissingParen (record { mode = In Index; depth = n; inner = outer.Paren s ∷ os; draft = add (b ∷ []) d })
+follow_inside next.Leave n os d b = leaves os n d b
+follow_inside next.End n os d b = Go (record { mode = Start; depth = n; inner = os; draft = add (b ∷ []) d })
+follow_inside next.Rest n os d b = Go (record { mode = Start; depth = n; inner = os; draft = add (b ∷ []) d })
+follow_inside (next.Bad f) n os d b = Fails f
+
+abbrev pub take_turn : Turn → ℕ → List Outer → Draft → ℕ → Move
+take_turn t n [] d b = follow t.next n (perform t.second (perform t.first d))
+take_turn t n (o ∷ os) d b = follow_inside t.next n (o ∷ os) d b
+
+abbrev pub level_in : Level → List Outer → Level
+level_in l [] = l
+level_in l (o ∷ os) = Inside
+
+abbrev pub is_none : List Outer → Bool
+is_none [] = true
+is_none (o ∷ os) = false
+
+unfoldable pub step : Level → State → ℕ → Move
+step l s b = take_turn (turn (level_in l s.inner) (nat_lt 0 s.depth) s.mode (class_of b) b) s.depth s.inner s.draft b
 
 -- what the end of the text makes: these words, or the kind of what is open
-unfoldable pub stop : Mode → State → Result (List Word) WordFault
-stop Bare s = Ok (s.words ++ word_of s.text ∷ [])
-stop Quoted s = Err MissingQuote
-stop QuotedPair s = Err MissingQuote
-stop (Braced n) s = Err MissingBrace
-stop (BracedPair n) s = Err MissingBrace
-stop m s = Ok s.words
+abbrev pub ended : Ending → Draft → Result (List Word) WordFault
+ended (ending.Word d e) draft = Ok (perform deed.Word (perform e (perform d draft))).words
+ended ending.Done draft = Ok draft.words
+ended (ending.Bad f) draft = Err f
 
--- the words of a command and the place behind it, or the first fault and its place
+unfoldable pub stop : State → Result (List Word) WordFault
+stop s = ended (ends (is_none s.inner) s.mode) s.draft
+
+-- the words and the place behind them, or the first fault and its place
 abbrev pub Answer : Type 0
 Answer = Result (List Word × ℕ) (WordFault × ℕ)
 
@@ -126,16 +163,17 @@ abbrev pub stopped : Result (List Word) WordFault → ℕ → Answer
 stopped (Ok words) p = Ok (words, p)
 stopped (Err f) p = Err (f, p)
 
--- after a turn at place p
-abbrev pub onward : Turn → ℕ → (State → Answer) → Answer
+-- after a move at place p
+abbrev pub onward : Move → ℕ → (State → Answer) → Answer
 onward (Go s) p more = more s
-onward (End words) p more = Ok (words, p + 1)
-onward (Bad f) p more = Err (f, p)
+onward (Over words n) p more = Ok (words, p + n)
+onward (Fails f) p more = Err (f, p)
 
 -- Reading of a text from place p on.
-unfoldable pub read : List ℕ → State → ℕ → Answer
-read [] s p = stopped (stop s.mode s) p
-read (b ∷ bs) s p = onward (step s b) p (λ next. read bs next (p + 1))
+unfoldable pub read : Level → List ℕ → State → ℕ → Answer
+read l [] s p = stopped (stop s) p
+read l (b ∷ bs) s p = onward (step l s b) p (λ n. read l bs n (p + 1))
 
-abbrev pub fresh : State
-fresh = record { mode = Start; words = []; text = [] }
+-- nothing was read
+abbrev pub fresh : Mode → State
+fresh m = record { mode = m; depth = 0; inner = []; draft = record { words = []; expand = false; indices = []; parts = []; text = [] } }

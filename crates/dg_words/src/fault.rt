@@ -11,6 +11,9 @@ pub enum WordFault {
     /// The text ends inside braces.
     #[error("missing close-brace")]
     MissingBrace,
+    /// The text ends inside brackets, or too many brackets and indices stand inside each other.
+    #[error("missing close-bracket")]
+    MissingBracket,
     /// The text ends inside quotes.
     #[error("missing \"")]
     MissingQuote,
@@ -20,9 +23,24 @@ pub enum WordFault {
     /// A quoted word is followed by more than a blank or its command's end.
     #[error("extra characters after close-quote")]
     AfterQuote,
+    /// A list ends inside braces.
+    #[error("unmatched open brace in list")]
+    ListBrace,
+    /// A list ends inside quotes.
+    #[error("unmatched open quote in list")]
+    ListQuote,
+    /// A braced or quoted element of a list is followed by more than a blank.
+    #[error("list element followed by more text")]
+    ListAfter,
     /// A growth was refused.
     #[error("out of memory")]
     Memory,
+    /// The text ends inside an index, or too many brackets and indices stand inside each other.
+    #[error("missing )")]
+    MissingParen,
+    /// An escape writes no character of Unicode, as a surrogate.
+    #[error("bad code point")]
+    BadCodePoint,
 }
 
 impl From<AllocError> for WordFault {

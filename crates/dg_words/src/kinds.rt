@@ -11,30 +11,150 @@ pub enum Class {
     Quote,
     Open,
     Close,
+    LeftBracket,
+    RightBracket,
+    LeftParen,
+    RightParen,
     Backslash,
+    Dollar,
+    Colon,
+    Star,
+    Name,
     Plain,
 }
 
-/// The innermost open item. A pair is a backslash whose second byte is still to come.
+/// What is read: commands, the words of a list, commands within brackets, or an operand alone.
+#[derive(Clone, Copy)]
+pub enum Level {
+    Top,
+    List,
+    Inside,
+    Alone,
+}
+
+/// Where parts stand: in a bare or a quoted word, in an index, or alone.
+#[derive(Clone, Copy)]
+pub enum Spot {
+    Bare,
+    Quoted,
+    Index,
+    Alone,
+}
+
+/// What is open around the innermost item, and where it stands.
+#[derive(Clone, Copy)]
+pub enum Outer {
+    Bracket(Spot),
+    Paren(Spot),
+}
+
+/// An escape by number: `\7`, `\x`, `\u`, `\U`.
+#[derive(Clone, Copy)]
+pub enum Escape {
+    Octal,
+    Byte,
+    Short,
+    Long,
+}
+
+/// The digits of an escape: how many may still come, and their value so far.
+#[derive(Clone, Copy)]
+pub struct Digits {
+    pub escape: Escape,
+    pub left: u32,
+    pub value: u32,
+}
+
+/// What a word stands within.
+#[derive(Clone, Copy)]
+pub enum Delimiter {
+    Brace,
+    Quote,
+}
+
+/// The innermost open item. A pair is a backslash whose second byte is still to come; behind a joined
+/// line spaces and tabs are left out.
 #[derive(Clone, Copy)]
 pub enum Mode {
     Start,
+    StartPair,
     Comment,
     CommentPair,
     Gap,
-    Bare,
-    Quoted,
-    QuotedPair,
-    Braced(u64),
-    BracedPair(u64),
-    BehindBrace,
-    BehindQuote,
+    GapPair,
+    Operand,
+    In(Spot),
+    Pair(Spot),
+    Join(Spot),
+    Dollar(Spot),
+    Colon(Spot),
+    Name(Spot),
+    NameBrace(Spot),
+    Number(Spot, Digits),
+    BraceFirst,
+    BraceStar,
+    BehindStar,
+    StarPair,
+    Braced,
+    BracedPair,
+    BracedJoin,
+    Behind(Delimiter),
+    BehindPair(Delimiter),
 }
 
-/// What a byte made of a reading.
+/// What is done to the word that is open.
 #[derive(Clone, Copy)]
-pub enum Pace {
-    Go,
+pub enum Deed {
+    Nothing,
+    /// One more byte of text.
+    Byte(u8),
+    /// A character in UTF-8.
+    Code(char),
+    /// A dollar sign that begins no variable, and one with a colon.
+    Dollar,
+    DollarColon,
+    /// The text becomes a part.
+    Close,
+    /// A name with a leading `::` begins.
+    Global,
+    /// The text is the name of a variable.
+    Value,
+    /// The text was the prefix `{*}`.
+    Expand,
+    /// The word ends.
+    Word,
+}
+
+/// Where the reading goes.
+#[derive(Clone, Copy)]
+pub enum Next {
+    To(Mode),
+    /// A brace within a braced word opens or closes.
+    Deeper,
+    Shallower,
+    /// A bracket or an index opens, or the innermost of them closes.
+    Bracket(Spot),
+    Paren(Spot),
+    Leave,
+    /// The command ends with the byte, or before it.
     End,
+    Rest,
+    Bad(WordFault),
+}
+
+/// What a byte makes: two deeds, and where the reading goes.
+#[derive(Clone, Copy)]
+pub struct Turn {
+    pub first: Deed,
+    pub second: Deed,
+    pub next: Next,
+}
+
+/// What the end of the text makes: the word that is open ends after two deeds, no word is open, or
+/// something is missing.
+#[derive(Clone, Copy)]
+pub enum Ending {
+    Word(Deed, Deed),
+    Done,
     Bad(WordFault),
 }

@@ -3,16 +3,20 @@
 
 mod bytes;
 mod copying;
+mod draft;
 mod fault;
 mod kinds;
+mod list;
 mod scan;
 mod seq;
+mod turn;
 mod word;
 
 pub use crate::bytes::Bytes;
 pub use crate::copying::TryCopy;
 pub use crate::fault::WordFault;
-pub use crate::scan::parse_command;
+pub use crate::list::{list_text, split_list};
+pub use crate::scan::{first_command, first_fault, parse_command, parse_operand, parse_words};
 pub use crate::seq::Seq;
 pub use crate::word::{Parsed, Part, Parts, Word};
 

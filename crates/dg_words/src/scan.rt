@@ -1,51 +1,97 @@
-//! The reading of one command.
-ghost use Rattle.std.specs.Prelude.{◌≡◌, ◌++◌, ◌∷◌, [], ◌+◌, ◌<◌, ◌≤◌, ◌≢◌, ◌^◌, ◌⊎◌, OnOk, IfOk, MatchOption, MatchResult, length, drop, Ok, Err};
-ghost use Rattle.dg_words.specs.Answers.{Gives, Took, level};
-ghost use Rattle.dg_words.specs.Machine.{Go, behind, class_of, finish, fresh, in_bare, in_braced, in_comment, in_gap, in_quoted, in_start, put, read, step, stop, to, turn};
-ghost use Rattle.dg_words.specs.Reading.{command_at};
+//! The reading of a command, of the words of a list, and of an operand.
+ghost use Rattle.std.specs.Prelude.{◌≡◌, ◌++◌, ◌∷◌, [], ◌+◌, ◌==◌, ◌<◌, ◌≤◌, ◌≢◌, ◌^◌, ◌⊎◌, OnOk, IfOk, MatchOption, MatchResult, length, drop, Ok, Err, ℕ, List};
+ghost use Rattle.dg_words.specs.Answers.{Gives, Made};
+ghost use Rattle.dg_words.specs.First.{FirstCommand, FirstFault};
+ghost use Rattle.dg_words.specs.Machine.{Go, follow, follow_inside, fresh, has_room, is_none, leaves, level_in, read, spot_of, step, stop, take_turn};
+ghost use Rattle.dg_words.specs.Reading.{command_at, operand_at, words_of};
 
-use crate::bytes::Bytes;
+use crate::draft::Draft;
 use crate::fault::WordFault;
-use crate::kinds::{Class, Mode, Pace};
+use crate::kinds::{Deed, Ending, Level, Mode, Next, Outer, Spot, Turn};
 use crate::seq::Seq;
-use crate::word::{Parsed, Part, Parts, Word};
+use crate::turn::class_of;
+use crate::word::{Parsed, Word};
 use std::alloc::{AllocError, Global};
 use std::marker::Model;
-use std::mem;
 
-/// What a byte is to the grammar.
-#[tactic(auto, unfolding(crate::specs::Machine::class_of))]
-fn class_of(byte: u8) -> Class
-    ensures { result ≡ class_of byte }
-{
-    if byte == b'\n' {
-        Class::Newline
-    } else if byte == b';' {
-        Class::Semicolon
-    } else if byte == b' ' || byte == 9 || byte == 11 || byte == 12 || byte == 13 {
-        Class::Blank
-    } else if byte == b'#' {
-        Class::Hash
-    } else if byte == b'"' {
-        Class::Quote
-    } else if byte == b'{' {
-        Class::Open
-    } else if byte == b'}' {
-        Class::Close
-    } else if byte == b'\\' {
-        Class::Backslash
-    } else {
-        Class::Plain
+/// Brackets and indices that may be open inside each other.
+const NESTING: usize = 100;
+
+/// What a byte made of a reading: it goes on, it is over with so many bytes more, or nothing goes on.
+#[derive(Clone, Copy)]
+pub enum Pace {
+    Go,
+    Over(usize),
+    Bad(WordFault),
+}
+
+/// The brackets and indices that are open in brackets. A contract sees the innermost first.
+#[derive(Drop)]
+struct Outers {
+    inner: Vec<Outer>,
+}
+
+impl Model for Outers {
+    ghost use Rattle.std.specs.Prelude.{List, reverse};
+    ghost use Rattle.dg_words.specs.declared.kinds.Outer.{Outer};
+
+    ghost Value = { List Outer };
+
+    ghost view = { λ o. reverse o.inner.items };
+}
+
+impl Outers {
+    fn new(alloc: Global) -> Outers
+        ensures { result ≡ [] }
+    {
+        Outers {
+            inner: Vec::new(alloc),
+        }
+    }
+
+    fn len(&self) -> usize
+        ensures { result ≡ length self.now }
+    {
+        self.inner.len()
+    }
+
+    fn is_empty(&self) -> bool
+        ensures { result ≡ is_none self.now }
+    {
+        self.inner.is_empty()
+    }
+
+    fn push(&mut self, outer: Outer) -> Result<(), AllocError>
+        ensures { OnOk result (self.new ≡ outer ∷ self.old) }
+    {
+        self.inner.push(outer)?;
+        Ok(())
+    }
+
+    fn pop(&mut self) -> Option<Outer>
+        ensures { MatchOption result ((self.old ≡ []) × (self.new ≡ [])) (λ o. self.old ≡ o ∷ self.new) }
+    {
+        self.inner.pop()
+    }
+}
+
+impl Outer {
+    fn spot(self) -> Spot
+        ensures { result ≡ spot_of self }
+    {
+        match self {
+            Outer::Bracket(spot) | Outer::Paren(spot) => spot,
+        }
     }
 }
 
 /// A reading that is under way.
 #[derive(Drop)]
 struct Scanner {
-    alloc: Global,
     mode: Mode,
-    words: Seq<Word>,
-    text: Bytes,
+    depth: u64,
+    inner: Outers,
+    draft: Draft,
 }
 
 impl Model for Scanner {
@@ -53,204 +99,211 @@ impl Model for Scanner {
 
     ghost Value = { State };
 
-    ghost view = { λ s. record { mode = s.mode; words = s.words; text = s.text } };
+    ghost view = { λ s. record { mode = s.mode; depth = s.depth; inner = s.inner; draft = s.draft } };
 }
 
 impl Scanner {
-    fn new(alloc: Global) -> Scanner
-        ensures { result ≡ fresh }
+    fn new(alloc: Global, mode: Mode) -> Scanner
+        ensures { result ≡ fresh mode }
     {
         Scanner {
-            alloc,
-            mode: Mode::Start,
-            words: Seq::new(alloc),
-            text: Bytes::new(alloc),
+            mode,
+            depth: 0,
+            inner: Outers::new(alloc),
+            draft: Draft::new(alloc),
         }
     }
 
-    /// A byte that belongs to no word.
-    fn to(&mut self, mode: Mode) -> Pace
-        ensures { Took (Go (to mode self.old)) result self.new }
+    /// Whether one more bracket or index may open.
+    fn has_room(&self) -> bool
+        ensures { result ≡ has_room self.now.draft self.now.inner }
     {
-        self.mode = mode;
-        Pace::Go
+        let open = self.draft.open();
+        open < NESTING && self.inner.len() < NESTING - open
     }
 
-    /// One more byte of the word that is open.
-    fn put(&mut self, mode: Mode, byte: u8) -> Result<Pace, AllocError>
-        ensures { IfOk result (λ pace. Took (Go (put mode self.old byte)) pace self.new) }
+    /// Goes there outside of brackets.
+    fn follow(&mut self, next: Next) -> Result<Pace, AllocError>
+        requires inner { self.now.inner ≡ [] }
+        requires depth { self.now.depth + 1 < 2 ^ 64 }
+        ensures { IfOk result (λ pace. Made (follow next self.old.depth self.old.draft) pace self.new) }
     {
-        self.text.push(byte)?;
-        self.mode = mode;
-        Ok(Pace::Go)
-    }
-
-    /// The word that is open ends.
-    fn finish(&mut self, mode: Mode) -> Result<Pace, AllocError>
-        ensures { IfOk result (λ pace. Took (Go (finish mode self.old)) pace self.new) }
-    {
-        let mut parts = Parts::new(self.alloc);
-        if !self.text.is_empty() {
-            let text = mem::replace(&mut self.text, Bytes::new(self.alloc));
-            parts.push(Part::Text(text))?;
-        }
-        self.words.push(Word {
-            expand: false,
-            parts,
-        })?;
-        self.mode = mode;
-        Ok(Pace::Go)
-    }
-
-    fn in_gap(&mut self, class: Class, byte: u8) -> Result<Pace, AllocError>
-        ensures { IfOk result (λ pace. Took (in_gap class self.old byte) pace self.new) }
-    {
-        match class {
-            Class::Blank => Ok(self.to(Mode::Gap)),
-            Class::Newline | Class::Semicolon => Ok(Pace::End),
-            Class::Quote => Ok(self.to(Mode::Quoted)),
-            Class::Open => Ok(self.to(Mode::Braced(0))),
-            _ => Ok(self.put(Mode::Bare, byte)?),
-        }
-    }
-
-    fn in_start(&mut self, class: Class, byte: u8) -> Result<Pace, AllocError>
-        ensures { IfOk result (λ pace. Took (in_start class self.old byte) pace self.new) }
-    {
-        match class {
-            Class::Blank | Class::Newline | Class::Semicolon => Ok(self.to(Mode::Start)),
-            Class::Hash => Ok(self.to(Mode::Comment)),
-            _ => Ok(self.in_gap(class, byte)?),
-        }
-    }
-
-    fn in_comment(&mut self, class: Class) -> Pace
-        ensures { Took (in_comment class self.old) result self.new }
-    {
-        match class {
-            Class::Newline => self.to(Mode::Start),
-            Class::Backslash => self.to(Mode::CommentPair),
-            _ => self.to(Mode::Comment),
-        }
-    }
-
-    fn in_bare(&mut self, class: Class, byte: u8) -> Result<Pace, AllocError>
-        ensures { IfOk result (λ pace. Took (in_bare class self.old byte) pace self.new) }
-    {
-        match class {
-            Class::Blank => Ok(self.finish(Mode::Gap)?),
-            Class::Newline | Class::Semicolon => {
-                self.finish(Mode::Gap)?;
-                Ok(Pace::End)
+        match next {
+            Next::To(mode) => self.mode = mode,
+            Next::Deeper => {
+                self.mode = Mode::Braced;
+                self.depth += 1;
             }
-            _ => Ok(self.put(Mode::Bare, byte)?),
+            Next::Shallower => {
+                self.mode = Mode::Braced;
+                self.depth = self.depth.saturating_sub(1);
+            }
+            Next::Bracket(spot) => {
+                if !self.has_room() {
+                    return Ok(Pace::Bad(WordFault::MissingBracket));
+                }
+                self.draft.close()?;
+                self.inner.push(Outer::Bracket(spot))?;
+                self.mode = Mode::Start;
+            }
+            Next::Paren(spot) => {
+                if !self.has_room() {
+                    return Ok(Pace::Bad(WordFault::MissingParen));
+                }
+                self.draft.open_index(spot)?;
+                self.mode = Mode::In(Spot::Index);
+            }
+            Next::Leave => {
+                let spot = self.draft.close_index()?;
+                self.mode = Mode::In(spot.unwrap_or(Spot::Bare));
+            }
+            Next::End => return Ok(Pace::Over(1)),
+            Next::Rest => return Ok(Pace::Over(0)),
+            Next::Bad(fault) => return Ok(Pace::Bad(fault)),
         }
+        Ok(Pace::Go)
     }
 
-    fn in_quoted(&mut self, class: Class, byte: u8) -> Result<Pace, AllocError>
-        ensures { IfOk result (λ pace. Took (in_quoted class self.old byte) pace self.new) }
+    /// The innermost bracket or index within brackets ends.
+    fn leave(&mut self, byte: u8) -> Result<(), AllocError>
+        ensures { OnOk result (leaves self.old.inner self.old.depth self.old.draft byte ≡ Go self.new) }
     {
-        match class {
-            Class::Quote => Ok(self.finish(Mode::BehindQuote)?),
-            Class::Backslash => Ok(self.put(Mode::QuotedPair, byte)?),
-            _ => Ok(self.put(Mode::Quoted, byte)?),
+        let Some(outer) = self.inner.pop() else {
+            self.mode = Mode::In(Spot::Bare);
+            return Ok(());
+        };
+        if self.inner.is_empty() {
+            self.draft.command()?;
+        } else {
+            self.draft.put(byte)?;
         }
+        self.mode = Mode::In(outer.spot());
+        Ok(())
     }
 
-    fn in_braced(&mut self, depth: u64, class: Class, byte: u8) -> Result<Pace, AllocError>
-        requires { depth + 1 < 2 ^ 64 }
-        ensures { IfOk result (λ pace. Took (in_braced depth class self.old byte) pace self.new) }
+    /// Goes there within brackets, whose text every byte belongs to. Behind a command another may begin.
+    fn follow_inside(&mut self, next: Next, byte: u8) -> Result<Pace, AllocError>
+        requires { self.now.depth + 1 < 2 ^ 64 }
+        ensures { IfOk result (λ pace. Made (follow_inside next self.old.depth self.old.inner self.old.draft byte) pace self.new) }
     {
-        match class {
-            Class::Open => Ok(self.put(Mode::Braced(depth + 1), byte)?),
-            Class::Close if depth == 0 => Ok(self.finish(Mode::BehindBrace)?),
-            Class::Close => Ok(self.put(Mode::Braced(depth - 1), byte)?),
-            Class::Backslash => Ok(self.put(Mode::BracedPair(depth), byte)?),
-            _ => Ok(self.put(Mode::Braced(depth), byte)?),
+        match next {
+            Next::To(mode) => self.mode = mode,
+            Next::Deeper => {
+                self.mode = Mode::Braced;
+                self.depth += 1;
+            }
+            Next::Shallower => {
+                self.mode = Mode::Braced;
+                self.depth = self.depth.saturating_sub(1);
+            }
+            Next::Bracket(spot) => {
+                if !self.has_room() {
+                    return Ok(Pace::Bad(WordFault::MissingBracket));
+                }
+                self.inner.push(Outer::Bracket(spot))?;
+                self.mode = Mode::Start;
+            }
+            Next::Paren(spot) => {
+                if !self.has_room() {
+                    return Ok(Pace::Bad(WordFault::MissingParen));
+                }
+                self.inner.push(Outer::Paren(spot))?;
+                self.mode = Mode::In(Spot::Index);
+            }
+            Next::Leave => {
+                self.leave(byte)?;
+                return Ok(Pace::Go);
+            }
+            Next::End | Next::Rest => self.mode = Mode::Start,
+            Next::Bad(fault) => return Ok(Pace::Bad(fault)),
         }
+        self.draft.put(byte)?;
+        Ok(Pace::Go)
     }
 
-    fn behind(&mut self, fault: WordFault, class: Class) -> Pace
-        ensures { Took (behind fault class self.old) result self.new }
+    fn take_turn(&mut self, turn: Turn, byte: u8) -> Result<Pace, AllocError>
+        requires { self.now.depth + 1 < 2 ^ 64 }
+        ensures { IfOk result (λ pace. Made (take_turn turn self.old.depth self.old.inner self.old.draft byte) pace self.new) }
     {
-        match class {
-            Class::Blank => self.to(Mode::Gap),
-            Class::Newline | Class::Semicolon => Pace::End,
-            _ => Pace::Bad(fault),
+        if !self.inner.is_empty() {
+            return Ok(self.follow_inside(turn.next, byte)?);
         }
+        self.draft.perform(turn.first)?;
+        self.draft.perform(turn.second)?;
+        Ok(self.follow(turn.next)?)
     }
 
-    #[tactic(auto, unfolding(crate::specs::Machine::turn, crate::specs::Machine::step))]
-    fn step(&mut self, byte: u8) -> Result<Pace, AllocError>
-        requires { level self.now.mode + 1 < 2 ^ 64 }
-        ensures { IfOk result (λ pace. Took (step self.old byte) pace self.new) }
+    /// One more byte.
+    #[tactic(auto, unfolding(crate::specs::Machine::step))]
+    fn step(&mut self, level: Level, byte: u8) -> Result<Pace, AllocError>
+        requires { self.now.depth + 1 < 2 ^ 64 }
+        ensures { IfOk result (λ pace. Made (step level self.old byte) pace self.new) }
     {
-        let class = class_of(byte);
-        match self.mode {
-            Mode::Start => Ok(self.in_start(class, byte)?),
-            Mode::Comment => Ok(self.in_comment(class)),
-            Mode::CommentPair => Ok(self.to(Mode::Comment)),
-            Mode::Gap => Ok(self.in_gap(class, byte)?),
-            Mode::Bare => Ok(self.in_bare(class, byte)?),
-            Mode::Quoted => Ok(self.in_quoted(class, byte)?),
-            Mode::QuotedPair => Ok(self.put(Mode::Quoted, byte)?),
-            Mode::Braced(depth) => Ok(self.in_braced(depth, class, byte)?),
-            Mode::BracedPair(depth) => Ok(self.put(Mode::Braced(depth), byte)?),
-            Mode::BehindBrace => Ok(self.behind(WordFault::AfterBrace, class)),
-            Mode::BehindQuote => Ok(self.behind(WordFault::AfterQuote, class)),
-        }
+        let here = if self.inner.is_empty() {
+            level
+        } else {
+            Level::Inside
+        };
+        let turn = self.mode.turn(here, self.depth > 0, class_of(byte), byte);
+        Ok(self.take_turn(turn, byte)?)
     }
 
-    /// The text ends: what is still open.
+    /// The text ends: its words, or what is missing.
     #[tactic(auto, unfolding(crate::specs::Machine::stop))]
-    fn stop(&mut self) -> Result<Option<WordFault>, AllocError>
-        ensures { IfOk result (λ fault. MatchOption fault (stop self.old.mode self.old ≡ Ok self.new.words) (λ f. stop self.old.mode self.old ≡ Err f)) }
+    fn stop(mut self) -> Result<Seq<Word>, WordFault>
+        ensures { MatchResult result (λ words. stop self ≡ Ok words) (λ f. (f ≡ WordFault.Memory) ⊎ (stop self ≡ Err f)) }
     {
-        match self.mode {
-            Mode::Quoted | Mode::QuotedPair => Ok(Some(WordFault::MissingQuote)),
-            Mode::Braced(_) | Mode::BracedPair(_) => Ok(Some(WordFault::MissingBrace)),
-            Mode::Bare => {
-                self.finish(Mode::Gap)?;
-                Ok(None)
+        match self.mode.ends(self.inner.is_empty()) {
+            Ending::Word(first, second) => {
+                self.draft.perform(first)?;
+                self.draft.perform(second)?;
+                self.draft.perform(Deed::Word)?;
             }
-            _ => Ok(None),
+            Ending::Done => {}
+            Ending::Bad(fault) => return Err(fault),
         }
+        let Scanner { draft, .. } = self;
+        Ok(draft.into_words())
     }
 }
 
-/// The words of the first command from a place on, the place behind it, or the first fault.
-fn scan(alloc: Global, text: &[u8], at: usize) -> Result<Parsed, WordFault>
+/// Reads from a place on: the words, the place behind them, or the first fault.
+fn scan(
+    alloc: Global,
+    level: Level,
+    mode: Mode,
+    text: &[u8],
+    at: usize,
+) -> Result<Parsed, WordFault>
     requires { at ≤ length text.now }
-    ensures { Gives (λ p. (p.words, p.next)) result (read (drop at text.now) fresh at) }
+    ensures { Gives (λ p. (p.words, p.next)) result (read level (drop at text.now) (fresh mode) at) }
 {
-    let mut scanner = Scanner::new(alloc);
+    let mut scanner = Scanner::new(alloc, mode);
     for place in at..text.len() {
-        match scanner.step(text[place])? {
+        match scanner.step(level, text[place])? {
             Pace::Go => {}
-            Pace::End => {
-                let Scanner { words, .. } = scanner;
+            Pace::Over(taken) => {
+                let Scanner { draft, .. } = scanner;
                 return Ok(Parsed {
-                    words,
-                    next: place + 1,
+                    words: draft.into_words(),
+                    next: place + taken,
                 });
             }
             Pace::Bad(fault) => return Err(fault),
         }
     }
-    if let Some(fault) = scanner.stop()? {
-        return Err(fault);
+    match scanner.stop() {
+        Ok(words) => Ok(Parsed {
+            words,
+            next: text.len(),
+        }),
+        Err(fault) => Err(fault),
     }
-    let Scanner { words, .. } = scanner;
-    Ok(Parsed {
-        words,
-        next: text.len(),
-    })
 }
 
-/// Reads one command from a place on: its words, and the place just behind the newline or `;` that
-/// ends it, or the length of the text. Newlines, `;`, blanks and comments before it are skipped; there
-/// are no words only at the end of the text. By Tcl(n), without substitutions: backslashes, `$` and
-/// brackets stand for themselves.
+/// Reads one command from a place on, by Tcl(n): its words, and the place just behind the newline or
+/// `;` that ends it, or the length of the text. Newlines, `;`, blanks and comments before it are
+/// skipped; there are no words only at the end of the text.
 ///
 /// # Errors
 /// The first fault of the text from there on, or `Memory` where a growth is refused.
@@ -263,5 +316,45 @@ pub fn parse_command(alloc: Global, text: &[u8], at: usize) -> Result<Parsed, Wo
     // No words: nothing is left.
     ensures over { IfOk result (λ p. p.words ≡ [] → p.next ≡ length text.now) }
 {
-    scan(alloc, text, at)
+    scan(alloc, Level::Top, Mode::Start, text, at)
 }
+
+/// Reads the words of a text, by the same rules, but newlines are blanks, and `;` and `#` stand for
+/// themselves.
+///
+/// # Errors
+/// The first fault of the text, or `Memory` where a growth is refused.
+pub fn parse_words(alloc: Global, text: &[u8]) -> Result<Seq<Word>, WordFault>
+    ensures { MatchResult result (λ ws. words_of text.now ≡ Ok ws) (λ f. (f ≡ WordFault.Memory) ⊎ (words_of text.now ≡ Err f)) }
+{
+    match scan(alloc, Level::List, Mode::Gap, text, 0) {
+        Ok(Parsed { words, .. }) => Ok(words),
+        Err(fault) => Err(fault),
+    }
+}
+
+/// Reads the operand at a place, by the same rules: a quoted or a braced text, a variable, an element or
+/// a command, as one word, and the place just behind it, whatever stands there. A dollar sign that begins
+/// no variable is a text; where nothing else begins there the word has no parts and takes no bytes.
+///
+/// # Errors
+/// The first fault of the text from there on, or `Memory` where a growth is refused.
+pub fn parse_operand(alloc: Global, text: &[u8], at: usize) -> Result<Parsed, WordFault>
+    requires { at ≤ length text.now }
+    ensures reading { MatchResult result (λ p. operand_at text.now at ≡ Ok (p.words, p.next)) (λ f. (f ≡ WordFault.Memory) ⊎ (operand_at text.now at ≡ Err f)) }
+    // The place behind is within the text.
+    ensures within { IfOk result (λ p. p.next ≤ length text.now) }
+{
+    scan(alloc, Level::Alone, Mode::Operand, text, at)
+}
+
+/// A law: the fault of a text is the first. It stands at the end of the text, or no text that begins with
+/// the bytes up to the one where it stands is read.
+pub fn first_fault()
+    ensures { (text : List ℕ) (fault : WordFault) (place : ℕ) → read Level.Top text (fresh Mode.Start) 0 ≡ Err (fault, place) → FirstFault text fault place }
+{}
+
+/// A law: a command that ends before the text does is read so whatever follows it.
+pub fn first_command()
+    ensures { (text : List ℕ) (words : List Word) (next : ℕ) → read Level.Top text (fresh Mode.Start) 0 ≡ Ok (words, next) → FirstCommand text words next }
+{}
