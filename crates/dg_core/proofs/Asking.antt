@@ -5,7 +5,7 @@ use Rattle.std.specs.Prelude.{Option, Some, None}
 use Rattle.dg_world.specs.World.{WorldView, look, content_of, answer_of}
 use Rattle.dg_world.specs.Question.{fits}
 use Rattle.dg_world.specs.declared.question.Question.{Question}
-use Rattle.dg_world.specs.declared.question.Question.TheVariants.{File}
+use Rattle.dg_world.specs.declared.question.Question.TheVariants.{File, Variable}
 use Rattle.dg_world.specs.declared.question.Answer.{Answer}
 use Rattle.dg_world.specs.declared.question.Read.{Read}
 use Rattle.dg_world.specs.declared.test_id.TestId.{TestId}
@@ -33,6 +33,7 @@ fits-look w (File n) = kind (content_of w n)
     kind : (o : Option (List ℕ)) → fits (File n) (answer_of o) ≡ true
     kind None = refl
     kind (Some t) = refl
+fits-look w (Variable n) = refl
 
 pub heard-look : (w : WorldView) (q : Question) → heard q (answers_of w q) ≡ Some (look w q)
 heard-look w q = ap (λ b. elim b as (λ _. Option Answer) [ true ↦ Some (look w q) | false ↦ None ]) (fits-look w q)

@@ -6,7 +6,7 @@ use Rattle.std.specs.Cmp.Lexicographic.{pointwise, bytes_decides}
 use Rattle.std.proofs.lemmas.List.Elements.{All-nil, All-cons, All-head, All-tail}
 use Rattle.dg_world.specs.World.{WorldView, look}
 use Rattle.dg_world.specs.declared.question.Answer.{Answer}
-use Rattle.dg_world.specs.declared.question.Answer.TheVariants.{Absent, Content}
+use Rattle.dg_world.specs.declared.question.Answer.TheVariants.{Absent, Content, Unset, Value}
 use Rattle.dg_world.specs.declared.question.Read.{Read}
 use Rattle.dg_records.specs.Truth.{RecordView, Agree}
 use Rattle.dg_core.specs.Core.{same_answer, holds}
@@ -17,12 +17,26 @@ same_answer-refl a b e = subst (λ x. same_answer a x ≡ true) e (itself a)
     itself : (a : Answer) → same_answer a a ≡ true
     itself Absent = refl
     itself (Content t) = (bytes_decides t t).1 refl
+    itself Unset = refl
+    itself (Value t) = (bytes_decides t t).1 refl
 
 pub same_answer-true : (a b : Answer) → same_answer a b ≡ true → a ≡ b
 same_answer-true Absent Absent h = refl
 same_answer-true Absent (Content b) h = cc
+same_answer-true Absent Unset h = cc
+same_answer-true Absent (Value b) h = cc
 same_answer-true (Content a) Absent h = cc
 same_answer-true (Content a) (Content b) h = ap Content ((bytes_decides a b).0 h)
+same_answer-true (Content a) Unset h = cc
+same_answer-true (Content a) (Value b) h = cc
+same_answer-true Unset Absent h = cc
+same_answer-true Unset (Content b) h = cc
+same_answer-true Unset Unset h = refl
+same_answer-true Unset (Value b) h = cc
+same_answer-true (Value a) Absent h = cc
+same_answer-true (Value a) (Content b) h = cc
+same_answer-true (Value a) Unset h = cc
+same_answer-true (Value a) (Value b) h = ap Value ((bytes_decides a b).0 h)
 
 pub both : (a b : Bool) → (a && b) ≡ true → (a ≡ true) × (b ≡ true)
 both true b h = (refl, h)

@@ -6,7 +6,7 @@ use Rattle.dg_world.specs.World.{WorldView, new_world, edited, look, selected}
 use Rattle.dg_world.specs.declared.edit.Edit.{Edit}
 use Rattle.dg_world.specs.declared.refusal.Refusal.{Refusal}
 use Rattle.dg_world.specs.declared.question.Answer.{Answer}
-use Rattle.dg_world.specs.declared.question.Answer.TheVariants.{Absent, Content}
+use Rattle.dg_world.specs.declared.question.Answer.TheVariants.{Absent, Content, Unset, Value}
 use Rattle.dg_world.specs.declared.question.Read.{Read}
 use Rattle.dg_world.specs.declared.test_id.TestId.{TestId}
 use Rattle.dg_results.specs.declared.verdict.Line.{Line}
@@ -27,9 +27,10 @@ new_core = record { world = new_world; shelf = []; evaluations = 0 }
 -- whether two answers are the same
 abbrev pub same_answer : Answer → Answer → Bool
 same_answer Absent Absent = true
-same_answer Absent (Content b) = false
-same_answer (Content a) Absent = false
 same_answer (Content a) (Content b) = pointwise nat_eq a b
+same_answer Unset Unset = true
+same_answer (Value a) (Value b) = pointwise nat_eq a b
+same_answer _ _ = false
 
 -- whether each question that a record read still has its answer
 abbrev pub holds : WorldView → RecordView → Bool

@@ -22,7 +22,7 @@ fn content(alloc: Global, answer: &Answer) -> Result<Option<Bytes>, AllocError>
 {
     match answer {
         Answer::Content(text) => Ok(Some(text.copy(alloc)?)),
-        Answer::Absent => Ok(None),
+        Answer::Absent | Answer::Unset | Answer::Value(_) => Ok(None),
     }
 }
 

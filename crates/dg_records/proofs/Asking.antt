@@ -3,7 +3,7 @@ use Rattle.std.proofs.Common.{◌≡◌, ℕ, Bool, true, false, List, [], ◌�
 use Rattle.std.specs.Prelude.{Option, Some, None}
 use Rattle.std.specs.Cmp.Lexicographic.{nat_list_eq_equiv, same_text}
 use Rattle.dg_world.specs.declared.question.Question.{Question}
-use Rattle.dg_world.specs.declared.question.Question.TheVariants.{File}
+use Rattle.dg_world.specs.declared.question.Question.TheVariants.{File, Variable}
 use Rattle.dg_world.specs.declared.question.Answer.{Answer}
 use Rattle.dg_world.specs.declared.question.Read.{Read}
 use Rattle.dg_world.specs.Question.{same_question}
@@ -13,9 +13,13 @@ use Rattle.dg_records.specs.Language.{Ending, ask, hear}
 
 pub same_question-refl : (q : Question) → same_question q q ≡ true
 same_question-refl (File n) = nat_list_eq_equiv.refl n
+same_question-refl (Variable n) = nat_list_eq_equiv.refl n
 
 pub same_question-true : (p q : Question) → same_question p q ≡ true → p ≡ q
 same_question-true (File m) (File n) e = ap File (same_text m n (sym e))
+same_question-true (File m) (Variable n) e = cc
+same_question-true (Variable m) (File n) e = cc
+same_question-true (Variable m) (Variable n) e = ap Variable (same_text m n (sym e))
 
 pub lookup-learned : (q : Question) (a : Answer) (rs : List Read) → lookup q rs ≡ None
     → lookup q (rs ++ record { question = q; answer = a } ∷ []) ≡ Some a

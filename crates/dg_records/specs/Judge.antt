@@ -3,7 +3,7 @@ use Rattle.std.specs.Prelude.{◌≡◌, ℕ, Option, Some, None, List, [], ◌�
 use Rattle.dg_world.specs.declared.question.Question.{Question}
 use Rattle.dg_world.specs.declared.question.Question.TheVariants.{File}
 use Rattle.dg_world.specs.declared.question.Answer.{Answer}
-use Rattle.dg_world.specs.declared.question.Answer.TheVariants.{Absent, Content}
+use Rattle.dg_world.specs.declared.question.Answer.TheVariants.{Absent, Content, Unset, Value}
 use Rattle.dg_world.specs.declared.question.Read.{Read}
 use Rattle.dg_world.specs.declared.test_id.TestId.{TestId}
 use Rattle.dg_results.specs.declared.verdict.Line.{Line}
@@ -22,6 +22,8 @@ finish Failed v s = Ends (aborted v s)
 abbrev pub content_of : Answer → Option (List ℕ)
 content_of (Content t) = Some t
 content_of Absent = None
+content_of Unset = None
+content_of (Value _) = None
 
 abbrev pub opened : Option (List ℕ) → State → Then → Play Ending
 opened (Some t) s k = evaluate 100 t s k

@@ -12,3 +12,4 @@ mod tests;
 pub use crate::fault::ScopeFault;
 pub use crate::name::{base_of, global_name, has_index};
 pub use crate::scopes::{LONGEST_VALUE, Scopes};
+pub use crate::table::Table;

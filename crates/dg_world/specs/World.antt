@@ -15,9 +15,9 @@ use Rattle.dg_world.specs.Tests.{tests_on}
 use Rattle.dg_world.specs.declared.selection.Selection.{Selection}
 use Rattle.dg_world.specs.declared.test_id.TestId.{TestId}
 use Rattle.dg_world.specs.declared.question.Question.{Question}
-use Rattle.dg_world.specs.declared.question.Question.TheVariants.{File}
+use Rattle.dg_world.specs.declared.question.Question.TheVariants.{File, Variable}
 use Rattle.dg_world.specs.declared.question.Answer.{Answer}
-use Rattle.dg_world.specs.declared.question.Answer.TheVariants.{Absent, Content}
+use Rattle.dg_world.specs.declared.question.Answer.TheVariants.{Absent, Content, Unset}
 use Rattle.dg_world.specs.declared.edit.Edit.{Edit}
 use Rattle.dg_world.specs.declared.edit.Edit.TheVariants.{PutFile, RemoveFile}
 use Rattle.dg_world.specs.declared.refusal.Refusal.{Refusal}
@@ -52,6 +52,7 @@ answer_of (Some bytes) = Content bytes
 -- what a world answers
 abbrev pub look : WorldView → Question → Answer
 look w (File name) = answer_of (content_of w name)
+look w (Variable name) = Unset
 
 -- a world with these bytes as the file of this name, in its place in the order
 abbrev pub with_file : WorldView → List ℕ → List ℕ → WorldView

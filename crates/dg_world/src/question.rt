@@ -11,6 +11,8 @@ use std::alloc::{AllocError, Global};
 pub enum Question {
     /// What the file of this name holds.
     File(Name),
+    /// What the line of the run sets the global of this name to.
+    Variable(Bytes),
 }
 
 /// What the world may answer.
@@ -20,6 +22,10 @@ pub enum Answer {
     Absent,
     /// The bytes of the file.
     Content(Bytes),
+    /// The line doesn't set the variable.
+    Unset,
+    /// The line sets the variable to this.
+    Value(Bytes),
 }
 
 /// A question, and the answer that it had.
@@ -36,6 +42,7 @@ impl Question {
     {
         Ok(match self {
             Question::File(name) => Question::File(name.copy(alloc)?),
+            Question::Variable(name) => Question::Variable(name.copy(alloc)?),
         })
     }
 
@@ -45,6 +52,8 @@ impl Question {
     {
         match (self, other) {
             (Question::File(one), Question::File(two)) => *one == *two,
+            (Question::Variable(one), Question::Variable(two)) => *one == *two,
+            _ => false,
         }
     }
 
@@ -54,6 +63,8 @@ impl Question {
     {
         match (self, answer) {
             (Question::File(_), Answer::Absent | Answer::Content(_)) => true,
+            (Question::Variable(_), Answer::Unset | Answer::Value(_)) => true,
+            _ => false,
         }
     }
 }
@@ -66,6 +77,8 @@ impl Answer {
         Ok(match self {
             Answer::Absent => Answer::Absent,
             Answer::Content(bytes) => Answer::Content(bytes.copy(alloc)?),
+            Answer::Unset => Answer::Unset,
+            Answer::Value(bytes) => Answer::Value(bytes.copy(alloc)?),
         })
     }
 

@@ -111,6 +111,7 @@ impl World {
                 Some(bytes) => Ok(Some(Answer::Content(bytes.copy(alloc)?))),
                 None => Ok(Some(Answer::Absent)),
             },
+            Question::Variable(_) => Ok(Some(Answer::Unset)),
         }
     }
 
@@ -124,6 +125,7 @@ impl World {
                 (None, Answer::Absent) => true,
                 _ => false,
             },
+            Question::Variable(_) => matches!(answer, Answer::Unset),
         }
     }
 

@@ -1,0 +1,137 @@
+-- What every evaluation is made of: its ends, its questions, its steps and its limits.
+use Rattle.std.specs.Prelude.{◌≡◌, ℕ, ◌+◌, Bool, true, false, Option, Some, None, List, [], ◌∷◌, ◌++◌, length, nat_lt, codes, Result, Ok, Err}
+use Rattle.dg_words.specs.Elements.{elements_of}
+use Rattle.dg_words.specs.declared.fault.WordFault.{WordFault}
+use Rattle.dg_words.specs.declared.fault.WordFault.TheVariants.{MissingBrace, MissingBracket, MissingQuote, AfterBrace, AfterQuote, ListBrace, ListQuote, ListAfter, Memory, MissingParen, BadCodePoint}
+use Rattle.dg_world.specs.declared.question.Question.{Question}
+use Rattle.dg_world.specs.declared.question.Answer.{Answer}
+use Rattle.dg_results.specs.declared.verdict.Line.{Line}
+use Rattle.dg_results.specs.Lines.{lines_of, abort_lines}
+use Rattle.dg_language.specs.declared.code.Code.{Code}
+use Rattle.dg_language.specs.declared.code.Code.TheVariants.{Done, Failed, Returned, Broken, Continued}
+use Rattle.dg_records.specs.Play.{Play, Ends, Asks, lookup}
+use Rattle.dg_language.specs.State.{State, stepped, learn}
+
+-- how the judging of a test ends: with these lines, after so many steps
+pub record Ending : Type 0 where
+  pub verdict : List Line
+  pub steps : ℕ
+
+-- what is done with the code, the value and the state in which an evaluation ends
+abbrev pub Then : Type 0
+Then = Code → List ℕ → State → Play Ending
+
+-- the evaluation of a text, inside another
+abbrev pub Nested : Type 0
+Nested = List ℕ → State → Then → Play Ending
+
+-- the lines of the result calls
+unfoldable pub ended : State → Ending
+ended s = record { verdict = lines_of s.calls; steps = s.steps }
+
+-- these lines and the closing ones of an error
+unfoldable pub aborted : List ℕ → State → Ending
+aborted why s = record { verdict = lines_of s.calls ++ abort_lines s.test.script why; steps = s.steps }
+
+-- a limit ends the whole test as an error does, whatever stands around
+unfoldable pub cut : List ℕ → State → Play Ending
+cut why s = Ends (aborted why s)
+
+-- a question that was answered is not asked again
+abbrev pub hear : Option Answer → Question → State → (Answer → State → Play Ending) → Play Ending
+hear (Some a) q s k = k a s
+hear None q s k = Asks q (λ a. k a (learn q a s))
+
+unfoldable pub ask : Question → State → (Answer → State → Play Ending) → Play Ending
+ask q s k = hear (lookup q s.known) q s k
+
+-- a step is taken, if one is left
+unfoldable pub tick : State → (State → Play Ending) → Play Ending
+tick s k = elim (nat_lt s.steps 100000) [ true ↦ k (stepped s) | false ↦ cut (codes "step limit reached") s ]
+
+-- a value of so many bytes is made, if it is no longer than a value may be
+unfoldable pub within : ℕ → State → Play Ending → Play Ending
+within n s p = elim (nat_lt 1048576 n) [ true ↦ cut (codes "value too long") s | false ↦ p ]
+
+-- an error, whose message is a value
+unfoldable pub fail : List ℕ → State → Then → Play Ending
+fail message s k =
+    elim (nat_lt 1048576 (length message)) [ true ↦ cut (codes "value too long") s | false ↦ k Failed message s ]
+
+-- what comes after an evaluation that ended well; any other code goes on up
+abbrev pub if_done : (List ℕ → State → Play Ending) → Then → Then
+if_done f k Done v s = f v s
+if_done f k Failed v s = k Failed v s
+if_done f k Returned v s = k Returned v s
+if_done f k Broken v s = k Broken v s
+if_done f k Continued v s = k Continued v s
+
+-- what a loop does after its body
+abbrev pub loop_after : (State → Play Ending) → Then → Then
+loop_after again k Done v s = again s
+loop_after again k Continued v s = again s
+loop_after again k Broken v s = k Done [] s
+loop_after again k Failed v s = k Failed v s
+loop_after again k Returned v s = k Returned v s
+
+-- a name between quotes
+abbrev pub quoted : List ℕ → List ℕ
+quoted n = codes "\"" ++ n ++ codes "\""
+
+abbrev pub outside_of_a_loop : List ℕ → List ℕ
+outside_of_a_loop name = codes "invoked " ++ (quoted name ++ codes " outside of a loop")
+
+-- how the end of a procedure or of a file reads outside of it
+abbrev pub outside : Then → Then
+outside k Done v s = k Done v s
+outside k Returned v s = k Done v s
+outside k Failed v s = k Failed v s
+outside k Broken v s = k Failed (outside_of_a_loop (codes "break")) s
+outside k Continued v s = k Failed (outside_of_a_loop (codes "continue")) s
+
+abbrev pub wrong_count : List ℕ → List ℕ
+wrong_count name = codes "wrong # args: " ++ name
+
+-- the only one of a list that has just one
+abbrev pub one_of : {A : Type 0} → List A → Option A
+one_of [] = None
+one_of (a ∷ []) = Some a
+one_of (_ ∷ _ ∷ _) = None
+
+-- the first of a list, and the others
+abbrev pub first_of : {A : Type 0} → List A → Option (A × List A)
+first_of [] = None
+first_of (a ∷ others) = Some (a, others)
+
+abbrev pub three_of : {A : Type 0} → List A → Option (A × A × A)
+three_of [] = None
+three_of (_ ∷ []) = None
+three_of (_ ∷ _ ∷ []) = None
+three_of (a ∷ b ∷ c ∷ []) = Some (a, b, c)
+three_of (_ ∷ _ ∷ _ ∷ _ ∷ _) = None
+
+abbrev pub on : {A : Type 0} → Option A → Play Ending → (A → Play Ending) → Play Ending
+on None p f = p
+on (Some a) p f = f a
+
+-- why a text can't be read
+abbrev pub fault_text : WordFault → List ℕ
+fault_text MissingBrace = codes "missing close-brace"
+fault_text MissingBracket = codes "missing close-bracket"
+fault_text MissingQuote = codes "missing \""
+fault_text AfterBrace = codes "extra characters after close-brace"
+fault_text AfterQuote = codes "extra characters after close-quote"
+fault_text ListBrace = codes "unmatched open brace in list"
+fault_text ListQuote = codes "unmatched open quote in list"
+fault_text ListAfter = codes "list element followed by more text"
+fault_text Memory = codes "out of memory"
+fault_text MissingParen = codes "missing )"
+fault_text BadCodePoint = codes "bad code point"
+
+abbrev pub or_message : Result (List (List ℕ)) WordFault → Result (List (List ℕ)) (List ℕ)
+or_message (Err fault) = Err (fault_text fault)
+or_message (Ok elements) = Ok elements
+
+-- the elements of a list, or the message of its fault
+unfoldable pub list_in : List ℕ → Result (List (List ℕ)) (List ℕ)
+list_in text = or_message (elements_of text)

@@ -1,0 +1,10 @@
+pub mod State
+pub mod Evaluation
+pub mod Results
+pub mod Variables
+pub mod Procedures
+pub mod Control
+pub mod Language
+pub mod Law
+pub mod Calls
+pub mod Touch

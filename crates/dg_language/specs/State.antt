@@ -1,0 +1,73 @@
+-- What an evaluation has made so far.
+use Rattle.std.specs.Prelude.{◌≡◌, ℕ, ◌+◌, Option, Some, None, List, [], ◌∷◌, ◌++◌, true, false, length, nat_lt}
+use Rattle.std.specs.FinMap as map
+use Rattle.dg_world.specs.declared.question.Question.{Question}
+use Rattle.dg_world.specs.declared.question.Answer.{Answer}
+use Rattle.dg_world.specs.declared.question.Read.{Read}
+use Rattle.dg_world.specs.declared.test_id.TestId.{TestId}
+use Rattle.dg_results.specs.Calls.{Call}
+use Rattle.dg_scope.specs.Scopes.{Names, Variables, no_variables, with_value, with_global, without_value, with_link, with_scope, without_scope}
+use Rattle.dg_language.specs.declared.procedure.Binding.{Binding}
+use Rattle.dg_language.specs.declared.procedure.Procedure.{Procedure}
+
+pub record State : Type 0 where
+  -- the test that is judged
+  pub test : TestId
+  -- the calls of result commands, in order
+  pub calls : List Call
+  -- the steps that were taken
+  pub steps : ℕ
+  -- the questions that were answered, in order
+  pub known : List Read
+  pub variables : Variables
+  -- the globals that began with what the line gives them
+  pub begun : Names (Unit {0})
+  pub procedures : Names Procedure
+
+-- nothing was done yet
+unfoldable pub fresh : TestId → State
+fresh t =
+    record { test = t; calls = []; steps = 0; known = []; variables = no_variables; begun = map.empty; procedures = map.empty }
+
+unfoldable pub with_call : Call → State → State
+with_call c s = record s { calls = s.calls ++ c ∷ [] }
+
+unfoldable pub stepped : State → State
+stepped s = record s { steps = s.steps + 1 }
+
+unfoldable pub learn : Question → Answer → State → State
+learn q a s = record s { known = s.known ++ record { question = q; answer = a } ∷ [] }
+
+-- a global has begun, with this value if it has one
+unfoldable pub began : List ℕ → State → State
+began g s = record s { begun = map.insert s.begun g tt }
+
+unfoldable pub began_with : List ℕ → List ℕ → State → State
+began_with g v s = record s { begun = map.insert s.begun g tt; variables = with_global s.variables g v }
+
+-- a variable has this value
+unfoldable pub assigned : List ℕ → List ℕ → State → State
+assigned n v s = record s { variables = with_value s.variables n v }
+
+unfoldable pub unassigned : List ℕ → State → State
+unassigned n s = record s { variables = without_value s.variables n }
+
+unfoldable pub linked : List ℕ → State → State
+linked n s = record s { variables = with_link s.variables n }
+
+unfoldable pub defined : List ℕ → Procedure → State → State
+defined n p s = record s { procedures = map.insert s.procedures n p }
+
+-- variables that have these values; of equal names the first counts
+abbrev pub bound : List Binding → Variables → Variables
+bound [] v = v
+bound (b ∷ bs) v = with_value (bound bs v) b.name b.value
+
+-- a procedure's own scope, in which its parameters have these values
+unfoldable pub entered : List Binding → State → State
+entered bs s = record s { variables = bound bs (with_scope s.variables) }
+
+-- the procedure's scope is gone; the first scope stays
+unfoldable pub departed : State → State
+departed s =
+    elim (nat_lt 1 (length s.variables.scopes)) [ true ↦ (record s { variables = without_scope s.variables }) | false ↦ s ]

@@ -1,0 +1,17 @@
+-- What comes before the use of a variable.
+use Rattle.std.specs.Prelude.{◌≡◌, ℕ, List, Option, Some, None, codes}
+use Rattle.dg_records.specs.Play.{Play, Asks, lookup}
+use Rattle.dg_language.specs.State.{State, learn}
+use Rattle.dg_language.specs.Evaluation.{Ending, cut}
+use Rattle.dg_language.specs.Variables.{touch}
+use Rattle.dg_language.specs.declared.state.Touch.{Touch}
+use Rattle.dg_language.specs.declared.state.Touch.TheVariants.{Ready, Asking, TooLong}
+
+-- the variable can be used, and may have begun; or a question stands, or a limit is met, and nothing has changed
+abbrev pub Touches : List ℕ → State → State → Touch → Type 0
+Touches n old new Ready =
+    ((k : State → Play Ending) → touch n old k ≡ k new) × (new.known ≡ old.known) × (new.steps ≡ old.steps)
+Touches n old new (Asking q) =
+    ((k : State → Play Ending) → touch n old k ≡ Asks q (λ a. touch n (learn q a old) k)) × (new ≡ old) × (lookup q old.known ≡ None)
+Touches n old new TooLong =
+    ((k : State → Play Ending) → touch n old k ≡ cut (codes "value too long") old) × (new ≡ old)

@@ -1,0 +1,152 @@
+-- Variables, and the commands on them: set(n), append(n), lappend(n), unset(n), info(n), global(n).
+use Rattle.std.specs.Prelude.{◌≡◌, ℕ, ◌+◌, Bool, true, false, not, ◌&&◌, Option, Some, None, List, [], ◌∷◌, ◌++◌, length, is_some, nat_lt, nat_eq, codes, Result, Ok, Err}
+use Rattle.std.specs.Cmp.Lexicographic.{pointwise}
+use Rattle.std.specs.List.{concat}
+use Rattle.std.specs.FinMap as map
+use Rattle.dg_words.specs.Canonical.{text_of_list}
+use Rattle.dg_scope.specs.Names.{global_name, has_index}
+use Rattle.dg_scope.specs.Scopes.{means_global, value_of}
+use Rattle.dg_world.specs.declared.question.Question.TheVariants.{Variable}
+use Rattle.dg_world.specs.declared.question.Answer.{Answer}
+use Rattle.dg_world.specs.declared.question.Answer.TheVariants.{Absent, Content, Unset, Value}
+use Rattle.dg_language.specs.declared.code.Code.TheVariants.{Done}
+use Rattle.dg_language.specs.declared.command.VariableCommand.{VariableCommand}
+use Rattle.dg_language.specs.declared.command.VariableCommand.TheVariants.{Set, Append, ListAppend, Unset as UnsetCommand, Info, Global}
+use Rattle.dg_records.specs.Play.{Play}
+use Rattle.dg_language.specs.State.{State, began, began_with, assigned, unassigned, linked}
+use Rattle.dg_language.specs.Evaluation.{Ending, Then, ask, within, fail, on, one_of, first_of, quoted, wrong_count, list_in}
+
+-- whether a name is that of a global that has not begun; a name with an index is a variable of its own, which no line sets
+abbrev pub is_to_begin : List ℕ → State → Bool
+is_to_begin n s =
+    means_global s.variables n && (not (has_index (global_name n)) && not (map.contains_key s.begun (global_name n)))
+
+-- the value that a global has of itself
+abbrev pub predefined : List ℕ → Option (List ℕ)
+predefined g = elim (pointwise nat_eq g (codes "timeout")) [ true ↦ Some (codes "10") | false ↦ None ]
+
+-- the value with which a global begins: the line's, or its own
+abbrev pub first_value : List ℕ → Answer → Option (List ℕ)
+first_value g Absent = predefined g
+first_value g (Content _) = predefined g
+first_value g Unset = predefined g
+first_value g (Value v) = Some v
+
+-- a global begins
+abbrev pub begin : List ℕ → Option (List ℕ) → State → (State → Play Ending) → Play Ending
+begin g None s k = k (began g s)
+begin g (Some v) s k = within (length v) s (k (began_with g v s))
+
+-- Before a variable is first read, written, unset or tested: if it is a global, what the line sets it to is asked for.
+unfoldable pub touch : List ℕ → State → (State → Play Ending) → Play Ending
+touch n s k =
+    elim (is_to_begin n s) [
+      | true ↦ ask (Variable (global_name n)) s (λ a s'. begin (global_name n) (first_value (global_name n) a) s' k)
+      | false ↦ k s
+    ]
+
+abbrev pub cannot_read : List ℕ → List ℕ
+cannot_read n = codes "can't read " ++ (quoted n ++ codes ": no such variable")
+
+abbrev pub cannot_unset : List ℕ → List ℕ
+cannot_unset n = codes "can't unset " ++ (quoted n ++ codes ": no such variable")
+
+abbrev pub given : Option (List ℕ) → List ℕ → State → Then → Play Ending
+given (Some v) n s k = k Done v s
+given None n s k = fail (cannot_read n) s k
+
+-- the value of a variable
+unfoldable pub read_variable : List ℕ → State → Then → Play Ending
+read_variable n s k = touch n s (λ s'. given (value_of s'.variables n) n s' k)
+
+-- a variable gets a value, which is the command's too
+unfoldable pub store : List ℕ → List ℕ → State → Then → Play Ending
+store n v s k = within (length v) s (k Done v (assigned n v s))
+
+abbrev pub or_empty : Option (List ℕ) → List ℕ
+or_empty None = []
+or_empty (Some v) = v
+
+-- `set name` and `set name value`
+abbrev pub set_of : List ℕ → List (List ℕ) → State → Then → Play Ending
+set_of n [] s k = read_variable n s k
+set_of n (v ∷ []) s k = touch n s (λ s'. store n v s' k)
+set_of n (_ ∷ _ ∷ _) s k = fail (wrong_count (codes "set")) s k
+
+unfoldable pub do_set : List (List ℕ) → State → Then → Play Ending
+do_set args s k = on (first_of args) (fail (wrong_count (codes "set")) s k) (λ p. set_of p.0 p.1 s k)
+
+-- `append name value..`: an unset name counts as empty
+unfoldable pub do_append : List (List ℕ) → State → Then → Play Ending
+do_append args s k =
+    on (first_of args) (fail (wrong_count (codes "append")) s k) (λ p.
+    touch p.0 s (λ s'. store p.0 (or_empty (value_of s'.variables p.0) ++ concat p.1) s' k))
+
+-- `lappend name value..`: without values the text stays as it is
+abbrev pub longer_list : List ℕ → List (List ℕ) → List (List ℕ) → List ℕ
+longer_list old elements [] = old
+longer_list old elements (v ∷ vs) = text_of_list (elements ++ v ∷ vs)
+
+abbrev pub with_appended : List ℕ → List ℕ → List (List ℕ) → Result (List (List ℕ)) (List ℕ) → State → Then → Play Ending
+with_appended n old vs (Err message) s k = fail message s k
+with_appended n old vs (Ok elements) s k = store n (longer_list old elements vs) s k
+
+unfoldable pub append_elements : List ℕ → List ℕ → List (List ℕ) → State → Then → Play Ending
+append_elements n old vs s k = with_appended n old vs (list_in old) s k
+
+unfoldable pub do_lappend : List (List ℕ) → State → Then → Play Ending
+do_lappend args s k =
+    on (first_of args) (fail (wrong_count (codes "lappend")) s k) (λ p.
+    touch p.0 s (λ s'. append_elements p.0 (or_empty (value_of s'.variables p.0)) p.1 s' k))
+
+-- one of the names of `unset`; what follows is done where it could be unset or none complains
+abbrev pub unset_one : Bool → Bool → List ℕ → State → (State → Play Ending) → Then → Play Ending
+unset_one complains true n s more k = more (unassigned n s)
+unset_one true false n s more k = fail (cannot_unset n) s k
+unset_one false false n s more k = more s
+
+-- `unset name..`, up to the first that isn't set
+unfoldable pub unset_all : Bool → List (List ℕ) → State → Then → Play Ending
+unset_all complains [] s k = k Done [] s
+unset_all complains (n ∷ ns) s k =
+    touch n s (λ s'. unset_one complains (is_some (value_of s'.variables n)) n s' (λ t. unset_all complains ns t k) k)
+
+-- a first word `-nocomplain` is no name
+abbrev pub unset_names : List (List ℕ) → Bool × List (List ℕ)
+unset_names [] = (true, [])
+unset_names (n ∷ ns) = elim (pointwise nat_eq n (codes "-nocomplain")) [ true ↦ (false, ns) | false ↦ (true, n ∷ ns) ]
+
+unfoldable pub do_unset : List (List ℕ) → State → Then → Play Ending
+do_unset args s k = unset_all (unset_names args).0 (unset_names args).1 s k
+
+abbrev pub digit : Bool → List ℕ
+digit true = codes "1"
+digit false = codes "0"
+
+-- `info exists name`
+abbrev pub info_of : Bool → List (List ℕ) → State → Then → Play Ending
+info_of false args s k = fail (codes "unknown subcommand") s k
+info_of true args s k =
+    on (one_of args) (fail (wrong_count (codes "info")) s k) (λ n.
+    touch n s (λ s'. k Done (digit (is_some (value_of s'.variables n))) s'))
+
+unfoldable pub do_info : List (List ℕ) → State → Then → Play Ending
+do_info args s k =
+    on (first_of args) (fail (wrong_count (codes "info")) s k) (λ p. info_of (pointwise nat_eq p.0 (codes "exists")) p.1 s k)
+
+-- `global name..`
+abbrev pub all_linked : List (List ℕ) → State → State
+all_linked [] s = s
+all_linked (n ∷ ns) s = all_linked ns (linked n s)
+
+unfoldable pub do_global : List (List ℕ) → State → Then → Play Ending
+do_global args s k = k Done [] (all_linked args s)
+
+-- a command on variables
+abbrev pub do_variable : VariableCommand → List (List ℕ) → State → Then → Play Ending
+do_variable Set args s k = do_set args s k
+do_variable Append args s k = do_append args s k
+do_variable ListAppend args s k = do_lappend args s k
+do_variable UnsetCommand args s k = do_unset args s k
+do_variable Info args s k = do_info args s k
+do_variable Global args s k = do_global args s k

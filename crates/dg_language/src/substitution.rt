@@ -1,0 +1,21 @@
+//! How the words of a command are made, by Tcl(n).
+use dg_words::Bytes;
+
+/// A step in the making of a command's words, from left to right.
+#[derive(Drop)]
+pub enum Substitution {
+    /// This text is added.
+    Literal(Bytes),
+    /// The value of this variable is added.
+    Variable(Bytes),
+    /// The index of an element of this name begins.
+    IndexBegins(Bytes),
+    /// The index has ended, and the value of its element is added.
+    IndexEnds,
+    /// The value of this script is added.
+    Script(Bytes),
+    /// A word has ended.
+    WordEnds,
+    /// A word has ended whose elements become words.
+    ListEnds,
+}
