@@ -1,5 +1,7 @@
 //! A core over one script, from its first report to a mended one.
 
+mod growth;
+
 use crate::judging_core::Core;
 use crate::reply::Reply;
 use dg_words::Bytes;

@@ -6,3 +6,4 @@ pub mod StateLemmas
 pub mod ValueLemmas
 pub mod ProcedureLemmas
 pub mod Choices
+pub mod Commands

@@ -5,6 +5,7 @@ pub mod Variables
 pub mod Procedures
 pub mod Control
 pub mod Language
+pub mod Judge
 pub mod Law
 pub mod Calls
 pub mod Touch

@@ -1,13 +1,12 @@
 -- What a good line is, and what the lines so far come to.
-use Rattle.std.proofs.Common.{◌≡◌, ℕ, zero, suc, ◌+◌, ◌-◌, ◌<◌, ◌≤◌, Bool, true, false, cond, ◌&&◌, List, [], ◌∷◌, ◌++◌, length, take, drop, get_or, Option, Some, None, Ok, Err, refl, sym, ap, subst, ◌∙◌, append_assoc, arith, inl, inr}
-use Rattle.std.specs.Prelude.{Result, nat_lt, nat_le, ◌==◌, slice_get, codes, count_by}
-use Rattle.std.proofs.lemmas.Bool.{and_parts, eqb-true, leb-false, ltb-true, lt-leb, le-leb}
+use Rattle.std.proofs.Common.{◌≡◌, ℕ, zero, suc, ◌+◌, ◌≤◌, Bool, true, false, cond, List, [], ◌∷◌, ◌++◌, length, take, drop, Option, Some, None, Ok, Err, refl, sym, ap, subst, ◌∙◌, append_assoc, arith}
+use Rattle.std.specs.Prelude.{Result, ◌==◌, slice_get, codes, count_by}
+use Rattle.std.proofs.lemmas.Bool.{and_parts, leb-false}
 use Rattle.std.proofs.lemmas.List.{length-append, append-nil}
 use Rattle.std.proofs.lemmas.List.Sums.{sum_by-append}
 use Rattle.bstr.specs.Text.{lines_of}
 use Rattle.dg_transcript.specs.declared.cause.Cause.{Cause}
 use Rattle.dg_transcript.specs.declared.cause.Cause.TheVariants as cause
-use Rattle.dg_transcript.specs.declared.entry.Entry.{Entry}
 use Rattle.dg_transcript.specs.declared.line.Line.{Line}
 use Rattle.dg_transcript.specs.declared.line.Line.TheVariants as line
 use Rattle.dg_transcript.specs.declared.line.Role.{Role}
@@ -17,7 +16,7 @@ use Rattle.dg_transcript.specs.declared.line.Place.TheVariants as place
 use Rattle.dg_transcript.specs.Order.{role_of, admits, opens_session, after_role, after_line}
 use Rattle.dg_transcript.specs.Fields.{◌>>=◌, Fails, read_line}
 use Rattle.dg_transcript.specs.Step.{same_bytes}
-use Rattle.dg_transcript.specs.Lines.{is_session, is_said, is_over, place_from, place_of, may_come, is_past, placed, ends_line, body, whole_line_at, line_at, line_behind, Say, IsBad, IsFirstBad, IsFault, Takes}
+use Rattle.dg_transcript.specs.Lines.{is_session, is_said, is_over, place_from, place_of, may_come, is_past, placed, ends_line, body, whole_line_at, line_at, line_behind, Say, IsBad, IsFault, Takes}
 use Rattle.dg_transcript.specs.Kept.{Keeps, other_lines}
 
 -- the line says l, which may come there

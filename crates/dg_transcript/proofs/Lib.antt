@@ -11,3 +11,4 @@ pub mod Spaces
 pub mod Digits
 pub mod Splitting
 pub mod WordsLemmas
+pub mod SmallDigits

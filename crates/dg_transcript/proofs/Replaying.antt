@@ -1,16 +1,15 @@
 -- Steps over a list of entries are the replay of that list.
-use Rattle.std.proofs.Common.{◌≡◌, ℕ, zero, suc, ◌+◌, ◌-◌, ◌<◌, ◌≤◌, Bool, true, false, cond, List, [], ◌∷◌, length, Option, Some, None, unwrap_or, refl, sym, ap, subst, ◌∙◌, arith}
+use Rattle.std.proofs.Common.{◌≡◌, ℕ, ◌+◌, ◌-◌, ◌<◌, ◌≤◌, Bool, true, false, cond, List, [], ◌∷◌, length, Some, None, unwrap_or, refl, ap, ◌∙◌, arith}
 use Rattle.std.specs.Prelude.{nat_lt, nat_le, ◌==◌}
 use Rattle.std.proofs.lemmas.Bool.{lt-ltb, eq-eqb, ne_eqb}
 use Rattle.dg_transcript.specs.declared.entry.Entry.{Entry}
 use Rattle.dg_transcript.specs.declared.entry.Entry.TheVariants as entry
 use Rattle.dg_transcript.specs.declared.cursor.Cursor.{Cursor}
-use Rattle.dg_transcript.specs.declared.cursor.Act.{Act}
 use Rattle.dg_transcript.specs.declared.cursor.Act.TheVariants as act
 use Rattle.dg_transcript.specs.declared.cursor.Action.{Action}
 use Rattle.dg_transcript.specs.declared.cursor.Action.TheVariants as action
-use Rattle.dg_transcript.specs.Step.{Step, step, step_at, gone_on, same_bytes, same_words, arrives, is_silent, answers_if}
-use Rattle.dg_transcript.specs.Replay.{Left, Outcome, answered, timed_out, departed, left_with, answered_if, behind_heard, heard, starts, sends, closes, waits, arrival, silence, reads, replay, buffer_behind, stepped, steps}
+use Rattle.dg_transcript.specs.Step.{Step, step_at, gone_on, same_bytes, same_words, answers_if}
+use Rattle.dg_transcript.specs.Replay.{Outcome, answered, timed_out, left_with, answered_if, reads, replay, buffer_behind, stepped, steps}
 
 module _ (add : List ℕ → List ℕ → List ℕ) where
   -- what steps come to at a step

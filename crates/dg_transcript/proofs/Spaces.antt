@@ -1,11 +1,10 @@
 -- Lines, written one field after the other.
-use Rattle.std.proofs.Common.{◌≡◌, ℕ, suc, ◌+◌, ◌<◌, ◌≤◌, List, [], ◌∷◌, ◌++◌, length, map, flat_map, take, get_or, refl, sym, ap, ◌∙◌, append_assoc, arith}
+use Rattle.std.proofs.Common.{◌≡◌, ℕ, suc, ◌+◌, ◌<◌, ◌≤◌, List, [], ◌∷◌, ◌++◌, length, map, flat_map, take, get_or, sym, ap, ◌∙◌, append_assoc, arith}
 use Rattle.std.specs.Prelude.{Result, Ok, Err, OnOk, codes, decimal}
 use Rattle.std.specs.List.{join_with_byte}
 use Rattle.std.proofs.lemmas.List.{append-nil}
-use Rattle.dg_transcript.specs.Text.{word_field, entry_fields, line_fields, line_text, sessions_lines, text_of}
+use Rattle.dg_transcript.specs.Text.{word_field, entry_fields, line_text, sessions_lines, text_of}
 use Rattle.dg_transcript.specs.declared.entry.Entry.{Entry}
-use Rattle.dg_transcript.specs.declared.line.Line.{Line}
 use Rattle.dg_transcript.specs.declared.line.Line.TheVariants as line
 use Rattle.std.proofs.lemmas.List.{take_more, take_all, length-take}
 use Rattle.std.proofs.lemmas.Grind.{flat_map-append}

@@ -1,7 +1,7 @@
 -- What a line says is what it is spelled of, and what is spelled is said again.
-use Rattle.std.proofs.Common.{◌≡◌, ℕ, zero, suc, ◌+◌, ◌-◌, ◌^◌, ◌<◌, ◌≤◌, Bool, true, false, cond, ◌&&◌, List, [], ◌∷◌, ◌++◌, length, map, take, Option, Some, None, Ok, Err, refl, sym, ap, subst, ◌∙◌, arith}
+use Rattle.std.proofs.Common.{◌≡◌, ℕ, ◌^◌, ◌<◌, Bool, true, false, cond, List, [], ◌∷◌, length, map, Option, Some, None, Ok, refl, sym, ap, subst, ◌∙◌, arith}
 use Rattle.std.specs.Prelude.{Result, codes, decimal, ok_or, find}
-use Rattle.std.specs.List.{AllByRecursion, join_with_byte, slice_split}
+use Rattle.std.specs.List.{join_with_byte, slice_split}
 use Rattle.std.proofs.lemmas.List.Splits.{join_with_byte-slice_split}
 use Rattle.hex.specs.Hex.{encode_lower}
 use Rattle.dg_transcript.specs.declared.cause.Cause.{Cause}
@@ -16,12 +16,12 @@ use Rattle.dg_transcript.specs.declared.line.Kind.{Kind}
 use Rattle.dg_transcript.specs.declared.line.Kind.TheVariants as kind
 use Rattle.dg_transcript.specs.Step.{same_bytes}
 use Rattle.dg_transcript.specs.Text.{code_number, word_field, entry_fields, line_fields}
-use Rattle.dg_transcript.specs.Limits.{BytesFit, EntryFits}
+use Rattle.dg_transcript.specs.Limits.{EntryFits}
 use Rattle.dg_transcript.specs.Fields.{◌>>=◌, is_space, number_of, within, wait_of, code_of, bytes_of, words_of, only_field, first_field, no_field, keyword, kinds, kind_of, said, line_by, line_from, read_line}
 use Rattle.dg_transcript.proofs.GoodLines.{bind_ok, ok_is}
-use Rattle.dg_transcript.proofs.FieldsRead.{same_is, is_same, number_takes, number_again, within_takes, within_again, code_takes, code_again, bytes_takes, bytes_again, words_take, words_again}
+use Rattle.dg_transcript.proofs.FieldsRead.{same_is, number_takes, number_again, within_takes, within_again, code_takes, code_again, bytes_takes, bytes_again, words_take, words_again}
 use Rattle.dg_transcript.proofs.Ordered.{LineFits}
-use Rattle.dg_transcript.proofs.Plain.{are_plain, AllPlain, decimal_plain, hex_plain, words_plain, cut_again}
+use Rattle.dg_transcript.proofs.Plain.{AllPlain, decimal_plain, hex_plain, words_plain, cut_again}
 
 -- a session's number that is not past every limit
 abbrev pub IsSmall : Line → Type 0

@@ -1,6 +1,6 @@
 -- A text of good lines is that of a transcript, and each transcript's text has good lines.
-use Rattle.std.proofs.Common.{◌≡◌, ℕ, zero, suc, ◌+◌, ◌-◌, ◌<◌, ◌≤◌, Bool, true, false, cond, ◌&&◌, List, [], ◌∷◌, ◌++◌, length, map, flat_map, take, drop, get_or, Option, Some, None, Ok, Err, refl, sym, ap, subst, ◌∙◌, append_assoc, arith}
-use Rattle.std.specs.Prelude.{Result, ◌==◌, nat_lt, nat_le, codes, slice_index, slice_get, count_by, MatchResult}
+use Rattle.std.proofs.Common.{◌≡◌, ℕ, suc, ◌+◌, ◌-◌, ◌<◌, ◌≤◌, true, false, cond, List, [], ◌∷◌, ◌++◌, length, map, flat_map, take, Option, Some, None, Ok, Err, refl, sym, ap, subst, ◌∙◌, append_assoc, arith}
+use Rattle.std.specs.Prelude.{Result, ◌==◌, nat_lt, codes, slice_index, slice_get, count_by}
 use Rattle.std.specs.List.{AllByRecursion, join_with_byte, concat}
 use Rattle.std.proofs.lemmas.Bool.{and_parts, eqb-true, eq-eqb, leb-false, ltb-true, lt-ltb}
 use Rattle.std.proofs.lemmas.List.{length-append, append-nil, take_at}
@@ -19,10 +19,10 @@ use Rattle.dg_transcript.specs.Step.{same_bytes}
 use Rattle.dg_transcript.specs.Fields.{read_line}
 use Rattle.dg_transcript.specs.Text.{line_fields, line_text, sessions_lines, transcript_lines, text_of}
 use Rattle.dg_transcript.specs.Sessions.{sessions_in}
-use Rattle.dg_transcript.specs.Lines.{is_session, is_said, is_over, place_from, place_of, may_come, is_past, ends_line, body, line_at, line_behind, Say, IsBad, IsFirstBad, IsFault}
+use Rattle.dg_transcript.specs.Lines.{is_session, is_said, is_over, place_of, may_come, ends_line, body, line_at, line_behind, Say, IsBad, IsFirstBad, IsFault}
 use Rattle.dg_transcript.proofs.GoodLines.{MayCome, IsGoodAt, line_ok, line_good, count-push, place_from-push}
-use Rattle.dg_transcript.proofs.FieldsRead.{same_is, is_same}
-use Rattle.dg_transcript.proofs.Ordered.{LineFits, Fitting, Comes, Run, more_begun, more_said, whole, run_transcript, sessions_back}
+use Rattle.dg_transcript.proofs.FieldsRead.{same_is}
+use Rattle.dg_transcript.proofs.Ordered.{Fitting, Comes, Run, more_begun, more_said, whole, run_transcript, sessions_back}
 use Rattle.dg_transcript.proofs.Plain.{has_no_feed, joined_no_feed, cut_lines}
 use Rattle.dg_transcript.proofs.Spelled.{IsSmall, IsLower, line_takes, line_again, line_plain}
 

@@ -1,6 +1,6 @@
 -- Reading words one after the other, as a loop does.
-use Rattle.std.proofs.Common.{◌≡◌, ℕ, zero, suc, ◌+◌, ◌<◌, ◌≤◌, Bool, true, false, cond, ◌&&◌, List, [], ◌∷◌, ◌++◌, length, Option, Some, None, Ok, Err, refl, sym, ap, ◌∙◌, append_assoc, arith}
-use Rattle.std.specs.Prelude.{Result, ok_or, nat_lt, nat_le}
+use Rattle.std.proofs.Common.{◌≡◌, ℕ, ◌+◌, ◌<◌, ◌≤◌, Bool, true, false, cond, ◌&&◌, List, [], ◌∷◌, ◌++◌, length, Option, Some, None, Ok, Err, refl, sym, ap, ◌∙◌, append_assoc, arith}
+use Rattle.std.specs.Prelude.{Result, ok_or, nat_lt}
 use Rattle.std.specs.Result.{result_ok}
 use Rattle.std.proofs.lemmas.List.{append-nil}
 use Rattle.std.proofs.lemmas.Bool.{le-leb, lt-leb}
@@ -8,7 +8,7 @@ use Rattle.hex.specs.Hex.{encode_lower, decode_of}
 use Rattle.dg_transcript.specs.declared.cause.Cause.{Cause}
 use Rattle.dg_transcript.specs.declared.cause.Cause.TheVariants as cause
 use Rattle.dg_transcript.specs.Step.{same_bytes}
-use Rattle.dg_transcript.specs.Fields.{◌>>=◌, Fails, Gives, spelled_by, hex_of, word_of, each_word, words_of}
+use Rattle.dg_transcript.specs.Fields.{◌>>=◌, Fails, spelled_by, hex_of, word_of, each_word, words_of}
 
 -- what was read before, and what is still read
 abbrev pub with_front : List (List ℕ) → Result (List (List ℕ)) Cause → Result (List (List ℕ)) Cause

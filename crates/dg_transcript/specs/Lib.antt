@@ -5,6 +5,7 @@ pub mod Lines
 pub mod Order
 pub mod Replay
 pub mod Sessions
+pub mod Small
 pub mod Spaced
 pub mod Step
 pub mod Text

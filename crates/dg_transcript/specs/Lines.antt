@@ -1,5 +1,5 @@
 -- Which lines may come after which, and the first bad line of a text.
-use Rattle.std.specs.Prelude.{◌≡◌, ℕ, suc, ◌+◌, ◌-◌, ◌==◌, nat_lt, nat_le, Bool, true, false, not, ◌&&◌, if◌then◌else◌, List, [], ◌∷◌, ◌++◌, length, take, slice_index, slice_get, count_by, codes, Option, Some, None, Result, Ok, Err}
+use Rattle.std.specs.Prelude.{◌≡◌, ℕ, suc, ◌+◌, ◌-◌, ◌==◌, nat_lt, nat_le, Bool, true, false, ◌&&◌, if◌then◌else◌, List, [], ◌∷◌, ◌++◌, length, take, slice_index, slice_get, count_by, codes, Option, Some, None, Result, Ok, Err}
 use Rattle.bstr.specs.Text.{lines_of}
 use Rattle.dg_transcript.specs.declared.cause.Cause.{Cause}
 use Rattle.dg_transcript.specs.declared.cause.Cause.TheVariants as cause

@@ -1,5 +1,5 @@
 -- A replay: what a whole action comes to in the record of a session, from the entries that are left.
-use Rattle.std.specs.Prelude.{ℕ, ◌+◌, ◌-◌, ◌==◌, nat_lt, nat_le, Bool, true, false, if◌then◌else◌, List, [], ◌∷◌, Option, Some, None, unwrap_or}
+use Rattle.std.specs.Prelude.{ℕ, ◌-◌, ◌==◌, nat_lt, nat_le, Bool, true, false, if◌then◌else◌, List, [], ◌∷◌, Option, Some, None, unwrap_or}
 use Rattle.dg_transcript.specs.declared.entry.Entry.{Entry}
 use Rattle.dg_transcript.specs.declared.entry.Entry.TheVariants as entry
 use Rattle.dg_transcript.specs.declared.cursor.Cursor.{Cursor}

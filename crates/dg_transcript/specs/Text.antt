@@ -1,7 +1,7 @@
 -- The text of a transcript: a line for each thing that a child did, spelled in one way.
-use Rattle.std.specs.Prelude.{◌≡◌, ℕ, suc, ◌+◌, ◌<◌, ◌≤◌, Bool, true, List, [], ◌∷◌, ◌++◌, length, map, flat_map, sum_by, codes, decimal, ⊤}
-use Rattle.std.specs.List.{join_with_byte, AllByRecursion}
-use Rattle.hex.specs.Hex.{encode_lower, IsBytes}
+use Rattle.std.specs.Prelude.{ℕ, suc, List, [], ◌∷◌, ◌++◌, map, flat_map, codes, decimal}
+use Rattle.std.specs.List.{join_with_byte}
+use Rattle.hex.specs.Hex.{encode_lower}
 use Rattle.dg_transcript.specs.declared.code.Code.{Code}
 use Rattle.dg_transcript.specs.declared.code.Code.TheVariants.{NotFound, NotPermitted, BrokenPipe, Other}
 use Rattle.dg_transcript.specs.declared.entry.Entry.{Entry}

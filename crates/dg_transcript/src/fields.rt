@@ -5,6 +5,7 @@ ghost use Rattle.std.specs.Char.{is_ascii_digit};
 ghost use Rattle.std.specs.Str.Parse.{digits_value};
 ghost use Rattle.dg_transcript.specs.Fields.{Gives, is_space, is_numeral, number_of, within, code_of, hex_of, bytes_of, word_of, words_of, only_field, no_field, first_field};
 ghost use Rattle.dg_transcript.specs.Spaced.{behind};
+ghost use Rattle.dg_transcript.specs.Small.{is_small};
 
 use crate::cause::Cause;
 use crate::code::Code;
@@ -133,8 +134,20 @@ pub(crate) fn code_of(text: &[u8]) -> Result<Code, Cause>
     })
 }
 
+/// Whether hexadecimal has no capital digit. The loop has no way out but its end, so that it can be
+/// built to look at many bytes at once.
+fn is_small(text: &[u8]) -> bool
+    ensures { result ≡ list_all is_small text.now }
+{
+    let mut small = true;
+    for b in text {
+        small &= !matches!(*b, b'A'..=b'F');
+    }
+    small
+}
+
 /// The bytes, at least one, that lower-case hexadecimal stands for.
-#[tactic(auto, unfolding(crate::specs::Fields::hex_of))]
+#[tactic(auto, using(crate::proofs::SmallDigits::spelled_again), unfolding(crate::specs::Fields::hex_of))]
 pub(crate) fn hex_of(alloc: Global, text: &[u8]) -> Result<Bytes, Cause>
     ensures { Gives (λ b. b) result (hex_of text.now) }
 {
@@ -143,8 +156,7 @@ pub(crate) fn hex_of(alloc: Global, text: &[u8]) -> Result<Bytes, Cause>
         Err(FromHexError::OutOfMemory) => return Err(Cause::Memory),
         Err(_) => return Err(Cause::Field),
     };
-    let again = hex::encode(alloc, bytes.as_slice())?;
-    if again.as_bytes() == text && !bytes.is_empty() {
+    if is_small(text) && !bytes.is_empty() {
         Ok(Bytes::from_vec(bytes))
     } else {
         Err(Cause::Field)

@@ -7,6 +7,8 @@ mod question;
 mod refusal;
 mod selection;
 mod test_id;
+#[cfg(test)]
+mod tests;
 mod world;
 
 pub use crate::edit::Edit;

@@ -51,6 +51,7 @@ fn cut_short(rt: HostRuntime) -> Result<(), Fail> {
         fault_below(alloc, b"done\nx")?,
         (3, Some(Cause::Truncated))
     );
+    assert_eq!(rt; fault_below(alloc, b"done")?, (2, Some(Cause::Truncated)));
     let cut = b"session 1\nstarted 636174\nchunk 0 78\ndon";
     assert_eq!(rt; fault_below(alloc, cut)?, (5, Some(Cause::Truncated)));
     Ok(())
@@ -64,6 +65,8 @@ fn headers_and_kinds(rt: HostRuntime) -> Result<(), Fail> {
         (1, Some(Cause::Header))
     );
     assert_eq!(rt; fault(alloc, b"done\n"), (1, Some(Cause::Header)));
+    assert_eq!(rt; fault(alloc, b"foo\n"), (1, Some(Cause::Header)));
+    assert_eq!(rt; fault_below(alloc, b"done\nx\n")?, (3, Some(Cause::Kind)));
     assert_eq!(rt;
         fault_below(alloc, b"done\ndone\n")?,
         (3, Some(Cause::Kind))
@@ -192,5 +195,41 @@ fn words_past_the_limit(rt: HostRuntime) -> Result<(), Fail> {
         fault_below(alloc, lines.as_slice())?,
         (3, Some(Cause::Field))
     );
+    Ok(())
+}
+
+// A status is at most 255, a signal 1 to 127, a code 1 to 4.
+#[test]
+fn ends_past_their_limits(rt: HostRuntime) -> Result<(), Fail> {
+    let alloc = rt.alloc();
+    assert!(rt; is_refused(alloc, b"exited 256", Cause::Field)?);
+    assert!(rt; is_refused(alloc, b"killed 0", Cause::Field)?);
+    assert!(rt; is_refused(alloc, b"killed 128", Cause::Field)?);
+    assert!(rt; is_refused(alloc, b"nowait 5", Cause::Field)?);
+    assert!(rt; is_read(alloc, b"closed\nexited 255")?);
+    assert!(rt; is_read(alloc, b"closed\nkilled 127")?);
+    Ok(())
+}
+
+// A word and so many null bytes.
+fn nulls(alloc: Global, word: &[u8], count: usize) -> Result<Vec<u8>, AllocError> {
+    let mut line = Vec::from_slice(alloc, word)?;
+    for _ in 0..count {
+        line.extend_from_slice(b"00")?;
+    }
+    Ok(line)
+}
+
+#[test]
+fn bytes_past_the_limits(rt: HostRuntime) -> Result<(), Fail> {
+    let alloc = rt.alloc();
+    let mut chunk = nulls(alloc, b"chunk 0 ", 4_096)?;
+    assert!(rt; is_read(alloc, chunk.as_slice())?);
+    chunk.extend_from_slice(b"00")?;
+    assert!(rt; is_refused(alloc, chunk.as_slice(), Cause::Field)?);
+    let mut sent = nulls(alloc, b"sent ", 1_048_576)?;
+    assert!(rt; is_read(alloc, sent.as_slice())?);
+    sent.extend_from_slice(b"00")?;
+    assert!(rt; is_refused(alloc, sent.as_slice(), Cause::Field)?);
     Ok(())
 }

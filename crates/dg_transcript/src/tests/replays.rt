@@ -135,3 +135,95 @@ fn closes_and_waits(rt: HostRuntime) -> Result<(), Fail> {
     );
     Ok(())
 }
+
+// What an action without words or bytes comes to at the first entry of a session.
+fn at_first(mut action: Action, entry: &Entry) -> Act {
+    Cursor::new(1).act(&mut action, Some(entry))
+}
+
+// However the child ended, or its wait failed, and likewise a call that failed.
+#[test]
+fn answers_of_each_kind(rt: HostRuntime) -> Result<(), Fail> {
+    let alloc = rt.alloc();
+    assert_eq!(rt; at_first(Action::Wait, &Entry::Killed(9)), Act::Answered);
+    assert_eq!(rt;
+        at_first(Action::Wait, &Entry::NoWait(Code::Other)),
+        Act::Answered
+    );
+    assert_eq!(rt;
+        at_first(Action::Close, &Entry::NoClose(Code::Other)),
+        Act::Answered
+    );
+    assert_eq!(rt;
+        at_first(Action::Read(0), &Entry::NoRead(Code::Other)),
+        Act::Answered
+    );
+    let failed = Entry::NoSend(Code::BrokenPipe, Bytes::from_slice(alloc, b"a")?);
+    let send = Action::Send(Bytes::from_slice(alloc, b"a")?);
+    assert_eq!(rt; at_first(send, &failed), Act::Answered);
+    Ok(())
+}
+
+#[test]
+fn entries_that_do_not_fit(rt: HostRuntime) -> Result<(), Fail> {
+    let alloc = rt.alloc();
+    let send = Action::Send(Bytes::from_slice(alloc, b"a")?);
+    assert_eq!(rt; at_first(send, &Entry::End(0)), Act::Departed);
+    assert_eq!(rt; at_first(Action::Read(5), &Entry::Closed), Act::Departed);
+    assert_eq!(rt; at_first(Action::Close, &Entry::End(0)), Act::Departed);
+    assert_eq!(rt; at_first(Action::Wait, &Entry::Silence(0)), Act::Departed);
+    Ok(())
+}
+
+// The whole limit, and then the record's end.
+#[test]
+fn a_silence_as_long_as_the_limit(rt: HostRuntime) -> Result<(), Fail> {
+    let mut cursor = Cursor::new(1);
+    let mut read = Action::Read(10_000);
+    assert_eq!(rt;
+        cursor.act(&mut read, Some(&Entry::Silence(10_000))),
+        Act::TimedOut
+    );
+    assert_eq!(rt; cursor.wants(), 1);
+    assert!(rt; read == Action::Read(0));
+    assert_eq!(rt; cursor.act(&mut Action::Read(10_000), None), Act::Departed);
+    Ok(())
+}
+
+// A send passes over a chunk of whose wait a part has passed, and over silences.
+#[test]
+fn a_send_behind_a_timeout(rt: HostRuntime) -> Result<(), Fail> {
+    let alloc = rt.alloc();
+    let chunk = Entry::Chunk(3_000, Bytes::from_slice(alloc, b"x")?);
+    let mut send = Action::Send(Bytes::from_slice(alloc, b"a")?);
+    let mut cursor = Cursor::new(1);
+    assert_eq!(rt;
+        cursor.act(&mut Action::Read(2_000), Some(&chunk)),
+        Act::TimedOut
+    );
+    assert_eq!(rt; cursor.act(&mut send, Some(&chunk)), Act::Wants(1));
+    assert_eq!(rt;
+        cursor.act(&mut send, Some(&Entry::Silence(5))),
+        Act::Wants(2)
+    );
+    let sent = Entry::Sent(Bytes::from_slice(alloc, b"a")?);
+    assert_eq!(rt; cursor.act(&mut send, Some(&sent)), Act::Answered);
+    assert_eq!(rt; cursor.wants(), 3);
+    Ok(())
+}
+
+// A record has 65,536 entries at most.
+#[test]
+fn behind_the_last_entry(rt: HostRuntime) -> Result<(), Fail> {
+    let silence = Entry::Silence(0);
+    let mut cursor = Cursor::new(1);
+    let mut close = Action::Close;
+    for _ in 0..65_536 {
+        if cursor.act(&mut close, Some(&silence)) == Act::Departed {
+            return Err(Fail::new("departed"));
+        }
+    }
+    assert_eq!(rt; cursor.wants(), 65_536);
+    assert_eq!(rt; cursor.act(&mut close, Some(&Entry::Closed)), Act::Departed);
+    Ok(())
+}

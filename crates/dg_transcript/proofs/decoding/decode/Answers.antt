@@ -1,8 +1,5 @@
-use Rattle.std.proofs.Common.{◌≡◌, ap, ◌∙◌, sym, subst, List}
+use Rattle.std.proofs.Common.{◌∙◌}
 use Rattle.std.proofs.lemmas.Result.{err_from_is_err_and}
-use Rattle.dg_transcript.specs.declared.entry.Entry.{Entry}
-use Rattle.dg_transcript.specs.Limits.{IsTranscript}
-use Rattle.dg_transcript.specs.Text.{text_of}
 use Rattle.dg_transcript.proofs.Texts.{text_found, text_only, text_no_fault}
 use Rattle.dg_transcript.proofs.decoding.decode.Goals as goal
 

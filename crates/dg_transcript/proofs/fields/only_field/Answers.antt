@@ -1,7 +1,6 @@
-use Rattle.std.proofs.Common.{◌≡◌, Ok, ap, ◌∙◌, sym, option_copied, Some}
-use Rattle.dg_transcript.specs.Fields.{only_field}
+use Rattle.std.proofs.Common.{option_copied}
 use Rattle.dg_transcript.specs.Spaced.{behind}
-use Rattle.dg_transcript.proofs.Splitting.{only_more_behind, only_from_first}
+use Rattle.dg_transcript.proofs.Splitting.{only_from_first}
 use Rattle.dg_transcript.proofs.fields.only_field.Goals as goal
 
 pub returns-in-Some : goal.returns-in-Some

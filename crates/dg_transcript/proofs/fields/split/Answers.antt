@@ -1,4 +1,4 @@
-use Rattle.std.proofs.Common.{sym, ◌∙◌}
+use Rattle.std.proofs.Common.{sym}
 use Rattle.dg_transcript.proofs.Splitting.{split_some, split_none}
 use Rattle.dg_transcript.proofs.fields.split.Goals as goal
 

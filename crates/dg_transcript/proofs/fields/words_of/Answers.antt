@@ -1,11 +1,11 @@
-use Rattle.std.proofs.Common.{◌≡◌, ◌≢◌, vec_len, ◌+◌, ap, ◌∙◌, sym, option_copied, Some, None, length, arith, append_assoc, rules, ◌++◌, ◌∷◌, []}
+use Rattle.std.proofs.Common.{◌≡◌, ◌≢◌, vec_len, ◌∙◌, sym, option_copied, arith}
 use Rattle.std.proofs.lemmas.List.{length-append}
 use Rattle.std.proofs.lemmas.List.Splits.{length-slice_split}
 use Rattle.std.proofs.lemmas.Bool.{eqb-true, eqb-false}
 use Rattle.std.proofs.lemmas.Result.{err_from_is_err_and}
-use Rattle.dg_transcript.specs.Fields.{each_word, words_of, is_space, Fails}
+use Rattle.dg_transcript.specs.Fields.{each_word, is_space}
 use Rattle.dg_transcript.specs.Spaced.{behind}
-use Rattle.dg_transcript.proofs.WordsLemmas.{with_front, goes_on, word_fails, words_many, words_done, words_none}
+use Rattle.dg_transcript.proofs.WordsLemmas.{goes_on, word_fails, words_many, words_done, words_none}
 use Rattle.dg_transcript.proofs.fields.words_of.Goals as goal
 
 pub returns-then-len-eq-MAX_WORDS : goal.returns-then-len-eq-MAX_WORDS

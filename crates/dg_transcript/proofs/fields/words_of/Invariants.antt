@@ -1,4 +1,4 @@
-use Rattle.std.proofs.Common.{◌≡◌, ◌+◌, ◌-◌, ◌≤◌, length, option_copied, vec_len}
+use Rattle.std.proofs.Common.{◌≡◌, ◌+◌, ◌-◌, ◌≤◌, length, option_copied}
 use Rattle.dg_transcript.specs.Fields.{each_word}
 use Rattle.dg_transcript.specs.Spaced.{behind}
 use Rattle.dg_transcript.proofs.WordsLemmas.{with_front}

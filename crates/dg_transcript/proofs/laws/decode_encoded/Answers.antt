@@ -1,6 +1,4 @@
-use Rattle.std.proofs.Common.{◌≡◌, ◌∙◌, ap, subst, sym, List}
-use Rattle.dg_transcript.specs.declared.entry.Entry.{Entry}
-use Rattle.dg_transcript.specs.Limits.{IsTranscript}
+use Rattle.std.proofs.Common.{◌∙◌}
 use Rattle.dg_transcript.proofs.laws.decode_encoded.Goals as goal
 
 pub returns-in-Ok : goal.returns-in-Ok

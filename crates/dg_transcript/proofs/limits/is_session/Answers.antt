@@ -1,7 +1,7 @@
 use Rattle.std.proofs.Common.{◌≡◌, true, false, ap, sym, subst, ◌∙◌, get_or, take}
 use Rattle.dg_transcript.specs.declared.line.Place.TheVariants as place
 use Rattle.dg_transcript.specs.Order.{admits, role_of, after_role}
-use Rattle.dg_transcript.specs.Limits.{EntryFits, in_order}
+use Rattle.dg_transcript.specs.Limits.{EntryFits}
 use Rattle.dg_transcript.proofs.Lists.{All-more, All-at}
 use Rattle.dg_transcript.proofs.Limiting.{refused, one_more, place_more, place_from}
 use Rattle.dg_transcript.proofs.limits.is_session.Goals as goal

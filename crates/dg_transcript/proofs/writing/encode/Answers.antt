@@ -1,4 +1,4 @@
-use Rattle.std.proofs.Common.{◌≡◌, ◌+◌, ◌++◌, ◌∷◌, ap, ◌∙◌, [], take, map, flat_map, arith, length, ◌≤◌, rules}
+use Rattle.std.proofs.Common.{◌+◌, ◌++◌, ap, ◌∙◌, map, flat_map, arith, rules}
 use Rattle.std.specs.Prelude.{codes}
 use Rattle.dg_transcript.specs.Text.{line_text, sessions_lines, text_of}
 use Rattle.dg_transcript.specs.declared.line.Line.TheVariants as line

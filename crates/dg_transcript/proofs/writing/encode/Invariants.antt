@@ -1,4 +1,4 @@
-use Rattle.std.proofs.Common.{◌≡◌, ◌++◌, ◌∷◌, flat_map, take, length, ◌≤◌}
+use Rattle.std.proofs.Common.{◌≡◌, ◌++◌, flat_map, take, length, ◌≤◌}
 use Rattle.std.specs.Prelude.{codes}
 use Rattle.dg_transcript.specs.Text.{line_text, sessions_lines}
 use Rattle.dg_transcript.proofs.writing.encode.Given as goal

@@ -1,4 +1,4 @@
-use Rattle.std.proofs.Common.{◌≡◌, ◌++◌, ◌∷◌, codes, decimal, append_assoc, ap, ◌∙◌}
+use Rattle.std.proofs.Common.{codes, decimal}
 use Rattle.dg_transcript.specs.Text.{code_number}
 use Rattle.dg_transcript.proofs.Spaces.{behind_words, behind_code}
 use Rattle.dg_transcript.proofs.writing.push_entry.Goals as goal

@@ -1,4 +1,4 @@
-use Rattle.std.proofs.Common.{◌≡◌, ◌++◌, ◌∷◌, ap, ◌∙◌, [], take}
+use Rattle.std.proofs.Common.{◌++◌, ap, ◌∙◌}
 use Rattle.dg_transcript.specs.Text.{line_text, entry_fields}
 use Rattle.std.specs.List.{join_with_byte}
 use Rattle.dg_transcript.specs.declared.line.Line.TheVariants as line

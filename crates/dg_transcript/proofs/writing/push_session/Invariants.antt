@@ -1,4 +1,4 @@
-use Rattle.std.proofs.Common.{◌≡◌, ◌++◌, ◌∷◌, flat_map, map, take}
+use Rattle.std.proofs.Common.{◌≡◌, ◌++◌, flat_map, map, take}
 use Rattle.dg_transcript.specs.Text.{line_text}
 use Rattle.dg_transcript.specs.declared.line.Line.TheVariants as line
 use Rattle.dg_transcript.proofs.writing.push_session.Given as goal

@@ -1,0 +1,9 @@
+pub mod PlaceLemmas
+pub mod GlobLemmas
+pub mod SetLemmas
+pub mod ListLemmas
+pub mod AnswerLemmas
+pub mod RepeatLemmas
+pub mod FieldLemmas
+pub mod FormatLemmas
+pub mod UnknownLemmas

@@ -1,0 +1,51 @@
+-- What a command gives for its words.
+use Rattle.std.specs.Prelude.{◌≡◌, ℕ, List, [], ◌∷◌, ◌++◌, length, nat_le, codes, Bool, true, false, Option, None, Some, Result, Ok, Err, MatchResult, ◌⊎◌, if◌then◌else◌}
+use Rattle.std.specs.Fmt.{decimal}
+use Rattle.dg_cmds.specs.declared.fault.CmdFault.{CmdFault}
+use Rattle.dg_cmds.specs.declared.fault.CmdFault.TheVariants.{Tcl, TooLong, Memory}
+
+-- a value, or why there is none
+abbrev pub Answer : Type 0
+Answer = Result (List ℕ) CmdFault
+
+-- What a function returned is what there is to give, unless memory ran out.
+abbrev pub Gives : {X : Type 0} → Result X CmdFault → Result X CmdFault → Type 0
+Gives r a = MatchResult r (λ x. a ≡ Ok x) (λ f. (f ≡ Memory) ⊎ (a ≡ Err f))
+
+infixl 10 ◌>>=◌
+-- what is made of a value, if there is one
+abbrev pub ◌>>=◌ : {X Y : Type 0} → Result X CmdFault → (X → Result Y CmdFault) → Result Y CmdFault
+Ok x >>= more = more x
+Err f >>= more = Err f
+
+-- a value of a script has at most 1,048,576 bytes
+unfoldable pub limited : List ℕ → Answer
+limited v = if nat_le (length v) 1048576 then Ok v else Err TooLong
+
+-- a script error; its message is a value too
+unfoldable pub failed : {X : Type 0} → List ℕ → Result X CmdFault
+failed m = if nat_le (length m) 1048576 then Err (Tcl m) else Err TooLong
+
+abbrev pub quoted : List ℕ → List ℕ
+quoted word = 34 ∷ word ++ 34 ∷ []
+
+-- a command has too few arguments, or too many
+abbrev pub wrong_count : {X : Type 0} → List ℕ → Result X CmdFault
+wrong_count name = Err (Tcl (codes "wrong # args: " ++ name))
+
+-- a place, or -1
+abbrev pub place_text : Option ℕ → List ℕ
+place_text None = codes "-1"
+place_text (Some n) = decimal n
+
+abbrev pub truth_text : Bool → List ℕ
+truth_text false = codes "0"
+truth_text true = codes "1"
+
+-- Bytes were added at the end of a value, which stays within the limit if it was; or they couldn't be.
+abbrev pub Adds : Result (Unit {0}) CmdFault → List ℕ → List ℕ → List ℕ → Type 0
+Adds r old new bytes = MatchResult r (λ _. (new ≡ old ++ bytes) × (limited old ≡ Ok old → limited new ≡ Ok new)) (λ f. (f ≡ Memory) ⊎ (limited (old ++ bytes) ≡ Err f))
+
+-- A value was changed to what there is to give, or it couldn't be.
+abbrev pub Makes : Result (Unit {0}) CmdFault → List ℕ → Answer → Type 0
+Makes r new a = MatchResult r (λ _. a ≡ Ok new) (λ f. (f ≡ Memory) ⊎ (a ≡ Err f))

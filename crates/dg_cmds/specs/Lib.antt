@@ -1,0 +1,9 @@
+pub mod Answers
+pub mod Bytes
+pub mod Places
+pub mod Numbers
+pub mod Indices
+pub mod Strings
+pub mod Lists
+pub mod Formats
+pub mod Commands

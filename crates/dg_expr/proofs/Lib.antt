@@ -1,0 +1,12 @@
+pub mod Digits
+pub mod Wholes
+pub mod Division
+pub mod Shifts
+mod Rows
+pub mod Levels
+pub mod Sound
+pub mod Complete
+pub mod Low
+pub mod Tokens
+pub mod Running
+pub mod Spelling

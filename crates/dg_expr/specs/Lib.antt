@@ -1,0 +1,14 @@
+pub mod Number
+pub mod Numbers
+pub mod Truth
+pub mod Operator
+pub mod Answers
+pub mod Tree
+pub mod Shape
+pub mod TreeFall
+pub mod TreeCode
+pub mod Token
+pub mod Grammar
+pub mod Reading
+pub mod Steps
+pub mod Code

@@ -1,0 +1,26 @@
+//! Expressions: numbers, truth, operators and trees.
+#![tactic(auto)]
+
+mod boolean;
+mod code;
+mod fault;
+mod frame;
+mod lexer;
+mod operator;
+mod reading;
+mod token;
+mod tree;
+mod value;
+mod whole;
+
+pub use crate::boolean::truth;
+pub use crate::code::{Instruction, code_runs, compile};
+pub use crate::fault::{ExprFault, Side};
+pub use crate::operator::{Infix, Prefix};
+pub use crate::reading::{one_tree, read_expr};
+pub use crate::tree::{Node, Tree};
+pub use crate::value::{apply, apply_one};
+pub use crate::whole::number;
+
+#[cfg(test)]
+mod tests;

@@ -1,0 +1,10 @@
+pub mod Numbers
+pub mod Bytes
+pub mod ListRead
+pub mod ListSpelled
+pub mod Segments
+pub mod Pieces
+pub mod Between
+pub mod WordRead
+pub mod GoOn
+pub mod Rows

@@ -1,0 +1,4 @@
+pub mod Escapes
+pub mod Lists
+pub mod Words
+pub mod Continuing

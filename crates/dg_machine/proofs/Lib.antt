@@ -1,0 +1,5 @@
+pub mod ScriptLemmas
+pub mod MachineLemmas
+pub mod GatherLemmas
+pub mod ProcedureLemmas
+pub mod LoopLemmas

@@ -1,0 +1,14 @@
+use Rattle.std.proofs.Common.{◌≡◌, ◌+◌, ◌<◌, ◌∷◌, ◌∙◌, refl, sym, arith}
+use Rattle.dg_machine.specs.Meaning.{go, rest, weight_of}
+use Rattle.dg_machine.proofs.MachineLemmas.{evaluate-none, evaluate-inside, weight-cons}
+use Rattle.dg_machine.proofs.machine.Machine.enter.Goals as goal
+
+pub returns-then-depth-eq0 : goal.returns-then-depth-eq0
+returns-then-depth-eq0 c =
+    rw c.cut.ensures.same (evaluate-none _ _ _ _ c.if-depth-eq0.true ∙ c.in_ok-verdict.ensures.ends, refl)
+
+pub returns : goal.returns
+unfolding rest go
+returns c =
+    rw (c.in_ok-push.ensures, c.new.ensures, c.requires)
+    (evaluate-inside _ _ _ _ c.if-depth-eq0.false, refl, (rw weight-cons (omega arith)))

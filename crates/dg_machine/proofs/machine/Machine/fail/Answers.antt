@@ -1,0 +1,13 @@
+use Rattle.std.proofs.Common.{rules, ◌≡◌, ◌∙◌, ◌<◌, ◌≤◌, ap, sym, refl, subst, length, arith}
+use Rattle.dg_machine.specs.Meaning.{rest, weight, all_back, ends_with}
+use Rattle.dg_machine.proofs.MachineLemmas.{fail-long, fail-short}
+use Rattle.dg_machine.proofs.machine.Machine.fail.Goals as goal
+
+pub returns-then-len-gt-VALUE : goal.returns-then-len-gt-VALUE
+returns-then-len-gt-VALUE c =
+    rw c.cut.ensures.same (fail-long _ _ _ (subst (λ n. 1048576 < n) c.len.ensures c.if-len-gt-VALUE.true) ∙ c.in_ok-verdict.ensures.ends, refl)
+
+pub returns : goal.returns
+unfolding rest weight
+returns c =
+    rw (c.end.ensures, c.requires) (sym (fail-short _ _ _ (subst (λ n. n ≤ 1048576) c.len.ensures c.if-len-gt-VALUE.false)), refl, omega arith)

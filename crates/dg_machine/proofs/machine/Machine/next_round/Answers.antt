@@ -1,0 +1,30 @@
+use Rattle.std.proofs.Common.{◌≡◌, ◌≤◌, ◌<◌, ◌⊎◌, inl, inr, ◌∙◌, refl, sym, length, arith}
+use Rattle.dg_machine.specs.Meaning.{go, rest, weight}
+use Rattle.dg_machine.proofs.MachineLemmas.{known-stepped}
+use Rattle.dg_machine.proofs.LoopLemmas.{each-done, each-cut, each-next, weight-frame}
+use Rattle.dg_machine.proofs.machine.Machine.next_round.Goals.{then-rounds-eq0-via-then-rounds-eq0, then-rounds-eq0-via-else-rounds-eq0+then-steps-ge-STEPS}
+use Rattle.dg_machine.proofs.machine.Machine.next_round.Goals as goal
+
+pub returns-then-len-eq0 : goal.returns-then-len-eq0
+unfolding rest weight
+returns-then-len-eq0 c =
+    let none : length c.args.rounds.values ≡ 0 = omega (arith, c.len.ensures, c.if-len-eq0.true) in
+    rw (c.end.ensures, c.new.ensures, c.requires) (sym (each-done _ _ _ _ _ _ _ none), refl, omega arith)
+
+pub returns-then-rounds-eq0 : goal.returns-then-rounds-eq0
+returns-then-rounds-eq0 c =
+    let some : 0 < length c.args.rounds.values = omega (arith, c.len.ensures, c.if-len-eq0.false) in
+    let h : (c.args.rounds.left ≡ 0) ⊎ (100000 ≤ c.args.self.now.state.steps) =
+    elim c.then-rounds-eq0.branch [
+      | then-rounds-eq0-via-then-rounds-eq0 w ↦ inl w.if-rounds-eq0.true
+      | then-rounds-eq0-via-else-rounds-eq0+then-steps-ge-STEPS w ↦ inr (rw w.steps.ensures at w.if-steps-ge-STEPS.true)
+    ] in
+    rw c.cut.ensures.same (each-cut _ _ _ _ _ _ _ some h ∙ c.in_ok-verdict.ensures.ends, refl)
+
+pub returns : goal.returns
+unfolding rest go
+returns c =
+    let some : 0 < length c.args.rounds.values = omega (arith, c.len.ensures, c.if-len-eq0.false) in
+    let h = rw c.steps.ensures at c.if-steps-ge-STEPS.false in
+    rw (c.in_ok-push.ensures, c.take_step.ensures, c.requires)
+    (each-next _ _ _ _ _ _ _ some c.if-rounds-eq0.false h, known-stepped _, weight-frame _ _ _ h (rw (← c.len-count.ensures) (omega arith)))

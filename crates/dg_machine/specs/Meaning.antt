@@ -1,0 +1,188 @@
+-- What is left of an evaluation, as frames, and what a move does to it.
+use Rattle.std.specs.Prelude.{◌≡◌, ℕ, ◌+◌, ◌-◌, ◌*◌, ◌^◌, ◌<◌, List, [], ◌∷◌, ◌++◌, drop, length, Option, Some, None}
+use Rattle.dg_world.specs.declared.question.Question.{Question}
+use Rattle.dg_world.specs.declared.question.Answer.{Answer}
+use Rattle.dg_world.specs.declared.question.Read.{Read}
+use Rattle.dg_language.specs.declared.code.Code.{Code}
+use Rattle.dg_language.specs.declared.code.Code.TheVariants.{Done, Failed}
+use Rattle.dg_results.specs.declared.verdict.Line.{Line}
+use Rattle.dg_records.specs.Play.{Play, Ends, Asks, lookup}
+use Rattle.dg_language.specs.State.{State, learn, departed}
+use Rattle.dg_language.specs.Evaluation.{Ending, Then, if_done, loop_after, outside}
+use Rattle.dg_language.specs.Variables.{touch, given, unset_all}
+use Rattle.dg_scope.specs.Scopes.{value_of}
+use Rattle.dg_language.specs.Control.{caught, each, give_each}
+use Rattle.dg_language.specs.Language.{longer, command, gather, substitutions, sequence, evaluate}
+use Rattle.dg_language.specs.declared.command.Command.{Command}
+use Rattle.dg_words.specs.declared.word.Word.{Word}
+use Rattle.dg_language.specs.Judge.{finish, open_script}
+use Rattle.dg_machine.specs.declared.frame.Frame.{Frame}
+use Rattle.dg_machine.specs.declared.frame.Frame.TheVariants.{Opening, Sequence, Gathering, Running, Catching, Calling, Looping, Unsetting}
+use Rattle.dg_machine.specs.declared.frame.Making.{Making}
+use Rattle.dg_machine.specs.declared.frame.Rounds.{Rounds}
+use Rattle.dg_machine.specs.declared.frame.Control.{Control}
+use Rattle.dg_machine.specs.declared.frame.Control.TheVariants.{Go, Ended}
+use Rattle.dg_machine.specs.declared.frame.Pace.{Pace}
+use Rattle.dg_machine.specs.declared.frame.Pace.TheVariants.{Moved, Stands, Over}
+use Rattle.dg_machine.specs.declared.frame.Stop.{Stop}
+use Rattle.dg_machine.specs.declared.frame.Stop.TheVariants.{AtQuestion, AtEnd}
+use Rattle.dg_machine.specs.declared.machine.Machine.{Machine}
+
+-- the words of a command go on being made
+abbrev pub making_on : Making → ℕ → State → Then → Play Ending
+making_on m depth s k = gather (evaluate depth) m.made m.outer m.text m.left s k
+
+-- a value is added to what is made of a word, and the words go on being made
+abbrev pub making_with : Making → ℕ → List ℕ → State → Then → Play Ending
+making_with m depth v s k =
+    longer m.text v s (λ u. gather (evaluate depth) m.made m.outer u m.left s k)
+
+-- the value of a variable, which can be used, is added
+abbrev pub reading : Making → ℕ → List ℕ → State → Then → Play Ending
+reading m depth n s k =
+    given (value_of s.variables n) n s (if_done (λ v s'. making_with m depth v s' k) k)
+
+-- what stood before an index is gone on with
+abbrev pub outside_index : Making → List ℕ → Making
+outside_index m before = record m { text = before }
+
+-- the next round of a loop
+abbrev pub next_round : Rounds → List (List ℕ) → State → Then → Play Ending
+next_round r values s k = each (evaluate r.depth) r.left r.names r.body values s k
+
+-- the body of a loop, with these values left for later rounds
+abbrev pub round_body : Rounds → List (List ℕ) → State → Then → Play Ending
+round_body r values s k = evaluate r.depth r.body s (loop_after (λ u. next_round r values u k) k)
+
+-- a loop between two rounds, or one whose names from this place on are to get their values
+abbrev pub looping : Rounds → Option ℕ → State → Then → Play Ending
+looping r None s k = next_round r r.values s k
+looping r (Some i) s k = give_each (drop i r.names) r.values s (λ values t. round_body r values t k)
+
+-- what a frame does when it is to go on
+unfoldable pub go : Frame → State → Then → Play Ending
+go Opening s k = open_script s k
+go (Sequence commands depth) s k = sequence (evaluate depth) commands [] s k
+go (Gathering m depth) s k = making_on m depth s k
+go (Running words depth) s k = command (evaluate depth) words s k
+go (Catching name) s k = k Done [] s
+go Calling s k = k Done [] s
+go (Looping r) s k = looping r r.given s k
+go (Unsetting complains names) s k = unset_all complains names s k
+
+-- what a frame does with what has ended inside of it
+unfoldable pub back : Frame → Then → Then
+back Opening k = k
+back (Sequence commands depth) k = if_done (λ v s. sequence (evaluate depth) commands v s k) k
+back (Gathering m depth) k = if_done (λ v s. making_with m depth v s k) k
+back (Running words depth) k = k
+back (Catching name) k = caught name k
+back Calling k = λ c v s. outside k c v (departed s)
+back (Looping r) k = loop_after (λ s. next_round r r.values s k) k
+back (Unsetting complains names) k = k
+
+-- what all the frames do with what has ended inside of them
+unfoldable pub all_back : List Frame → Then
+all_back [] = finish
+all_back (f ∷ fs) = back f (all_back fs)
+
+abbrev pub what_is_left : Control → State → List Frame → Play Ending
+what_is_left Go s [] = finish Done [] s
+what_is_left Go s (f ∷ fs) = go f s (all_back fs)
+what_is_left (Ended c v) s fs = all_back fs c v s
+
+-- what is left of an evaluation
+unfoldable pub rest : Machine → Play Ending
+rest m = what_is_left m.control m.state m.stack
+
+abbrev pub names_left : Rounds → Option ℕ → ℕ
+names_left r None = 0
+names_left r (Some i) = 4 + 4 * (length r.names - i)
+
+abbrev pub frame_weight : Frame → ℕ
+frame_weight Opening = 6
+frame_weight (Sequence commands depth) = 3
+frame_weight (Gathering m depth) = 2 ^ 69 + 4 + 4 * length m.left
+frame_weight (Running words depth) = 2 ^ 69
+frame_weight (Catching name) = 3
+frame_weight Calling = 3
+frame_weight (Looping r) = 5 + names_left r r.given
+frame_weight (Unsetting complains names) = 5 + 4 * length names
+
+unfoldable pub stack_weight : List Frame → ℕ
+stack_weight [] = 0
+stack_weight (f ∷ fs) = frame_weight f + stack_weight fs
+
+abbrev pub control_weight : Control → ℕ
+control_weight Go = 0
+control_weight (Ended c v) = 1
+
+-- it falls with each move
+unfoldable pub weight : Control → State → List Frame → ℕ
+weight c s fs = (100000 - s.steps) * 2 ^ 70 + stack_weight fs + control_weight c
+
+abbrev pub weight_of : Machine → ℕ
+weight_of m = weight m.control m.state m.stack
+
+-- the machine that was told the answer to a question
+abbrev pub told : Question → Answer → Machine → Machine
+told q a m = record m { state = learn q a m.state }
+
+-- the end with these lines
+abbrev pub ends_with : List Line → ℕ → Play Ending
+ends_with verdict steps = Ends (record { verdict = verdict; steps = steps })
+
+-- From this, with these reads and weight, a move came to that machine.
+abbrev pub Comes : Play Ending → List Read → ℕ → Machine → Pace → Type 0
+Comes play known w m Moved = (rest m ≡ play) × (m.state.known ≡ known) × (weight_of m < w)
+Comes play known w m (Stands q) =
+    (play ≡ Asks q (λ a. rest (told q a m))) × (m.state.known ≡ known) × (lookup q known ≡ None)
+Comes play known w m (Over v) = (play ≡ ends_with v m.state.steps) × (m.state.known ≡ known)
+
+-- the same, where no question can stand
+abbrev pub Goes : Play Ending → List Read → ℕ → Machine → Pace → Type 0
+Goes play known w m Moved = (rest m ≡ play) × (m.state.known ≡ known) × (weight_of m < w)
+Goes play known w m (Stands q) = ⊥
+Goes play known w m (Over v) = (play ≡ ends_with v m.state.steps) × (m.state.known ≡ known)
+
+-- From this, with what is done at another try, a command came to that machine; where a question stands, it has changed nothing.
+abbrev pub Runs : Play Ending → (State → Play Ending) → Machine → Machine → Pace → Type 0
+Runs play again old new Moved =
+    (rest new ≡ play) × (new.state.known ≡ old.state.known) × (weight_of new < weight_of old + 2 ^ 69)
+Runs play again old new (Stands q) =
+    (play ≡ Asks q (λ a. again (learn q a old.state))) × (new ≡ old) × (lookup q old.state.known ≡ None)
+Runs play again old new (Over v) = (play ≡ ends_with v new.state.steps) × (new.state.known ≡ old.state.known)
+
+-- a command, as one that a machine came to run
+abbrev pub RunsAs : (State → Then → Play Ending) → Machine → Machine → Pace → Type 0
+RunsAs f old new p = Runs (f old.state (all_back old.stack)) (λ s. f s (all_back old.stack)) old new p
+
+-- What comes before the use of a variable: nothing more, and it may have begun; or a question that stands, or a limit, and
+-- nothing has changed.
+abbrev pub Readies : List ℕ → Machine → Machine → Option Pace → Type 0
+Readies n old new None =
+    ((k : State → Play Ending) → touch n old.state k ≡ k new.state) × (new ≡ record old { state = new.state })
+    × (new.state.known ≡ old.state.known) × (new.state.steps ≡ old.state.steps)
+Readies n old new (Some Moved) = ⊥
+Readies n old new (Some (Stands q)) =
+    ((k : State → Play Ending) → touch n old.state k ≡ Asks q (λ a. touch n (learn q a old.state) k)) × (new ≡ old)
+    × (lookup q old.state.known ≡ None)
+Readies n old new (Some (Over v)) =
+    ((k : State → Play Ending) → touch n old.state k ≡ ends_with v new.state.steps) × (new ≡ old)
+
+-- a command of these words has begun, in front of the commands that are left
+abbrev pub Begins : List Command → List Word → ℕ → Machine → Machine → Type 0
+Begins commands words depth old new =
+    (new
+    ≡ record old {
+      stack =
+          Gathering (record { made = []; outer = []; text = []; left = substitutions words }) depth
+          ∷ Sequence commands depth ∷ old.stack;
+    })
+    × (length (substitutions words) < 2 ^ 64)
+
+-- where a machine comes to by itself: to a question that has no answer yet, or to the end
+abbrev pub ComesTo : Machine → Machine → Stop → Type 0
+ComesTo old new (AtQuestion q) =
+    (rest old ≡ Asks q (λ a. rest (told q a new))) × (new.state.known ≡ old.state.known) × (lookup q old.state.known ≡ None)
+ComesTo old new (AtEnd v) = (rest old ≡ ends_with v new.state.steps) × (new.state.known ≡ old.state.known)

@@ -1,0 +1,205 @@
+//! The commands on the course of a script.
+ghost use Rattle.std.specs.Prelude.{◌≡◌, ◌+◌, ◌*◌, ◌^◌, ◌<◌, ◌∷◌, ◌++◌, [], IfOk, drop, length};
+ghost use Rattle.dg_language.specs.State.{assigned};
+ghost use Rattle.dg_language.specs.Evaluation.{within};
+ghost use Rattle.dg_language.specs.Control.{digit_of, caught, do_catch, do_error, do_return, do_leave, do_foreach, do_control, each};
+ghost use Rattle.dg_language.specs.Language.{evaluate};
+ghost use Rattle.dg_machine.specs.declared.frame.Control.{Control};
+ghost use Rattle.dg_machine.specs.Meaning.{all_back, weight_of, looping, Comes, Goes, RunsAs};
+
+use crate::frame::{Frame, Pace, Rounds};
+use crate::machine::{Machine, STEPS, VALUE, three};
+use dg_language::{Code, ControlCommand, Queue, elements_in};
+use dg_words::{Bytes, Seq, TryCopy};
+use std::alloc::{AllocError, Global};
+
+/// A code as a value.
+fn digit_of(code: Code) -> &'static [u8]
+    ensures { result.now ≡ digit_of code }
+{
+    match code {
+        Code::Done => b"0",
+        Code::Failed => b"1",
+        Code::Returned => b"2",
+        Code::Broken => b"3",
+        Code::Continued => b"4",
+    }
+}
+
+impl Machine {
+    /// `break` and `continue`.
+    #[tactic(auto, unfolding(dg_language::specs::Control::do_leave, crate::specs::Meaning::rest, crate::specs::Meaning::weight))]
+    fn leave(
+        &mut self,
+        alloc: Global,
+        code: Code,
+        name: &[u8],
+        args: &[Bytes],
+    ) -> Result<Pace, AllocError>
+        requires { self.old.control ≡ Control.Go }
+        ensures { IfOk result (λ p. Goes (do_leave code name.now args.now self.old.state (all_back self.old.stack)) self.old.state.known (weight_of self.old + 2) self.new p) }
+    {
+        match args {
+            [] => {
+                self.end(code, Bytes::new(alloc));
+                Ok(Pace::Moved)
+            }
+            [_, ..] => Ok(self.wrong_count(alloc, name)?),
+        }
+    }
+
+    /// `return` and `return value`.
+    #[tactic(auto, unfolding(dg_language::specs::Control::do_return, crate::specs::Meaning::rest, crate::specs::Meaning::weight))]
+    fn give(&mut self, alloc: Global, args: &[Bytes]) -> Result<Pace, AllocError>
+        requires { self.old.control ≡ Control.Go }
+        ensures { IfOk result (λ p. Goes (do_return args.now self.old.state (all_back self.old.stack)) self.old.state.known (weight_of self.old + 2) self.new p) }
+    {
+        match args {
+            [] => self.end(Code::Returned, Bytes::new(alloc)),
+            [value] => self.end(Code::Returned, value.copy(alloc)?),
+            _ => return Ok(self.wrong_count(alloc, b"return")?),
+        }
+        Ok(Pace::Moved)
+    }
+
+    /// `error message`, and perhaps an information and a code.
+    #[tactic(auto, unfolding(dg_language::specs::Control::do_error))]
+    fn error(&mut self, alloc: Global, args: &[Bytes]) -> Result<Pace, AllocError>
+        requires { self.old.control ≡ Control.Go }
+        ensures { IfOk result (λ p. Goes (do_error args.now self.old.state (all_back self.old.stack)) self.old.state.known (weight_of self.old + 2) self.new p) }
+    {
+        match args {
+            [message] | [message, _] | [message, _, _] => {
+                let message = message.copy(alloc)?;
+                Ok(self.fail(alloc, message)?)
+            }
+            _ => Ok(self.wrong_count(alloc, b"error")?),
+        }
+    }
+
+    /// `catch script` and `catch script name`.
+    #[tactic(auto, unfolding(dg_language::specs::Control::do_catch, crate::specs::Meaning::back, crate::specs::Meaning::all_back, crate::specs::Meaning::weight, crate::specs::Meaning::stack_weight))]
+    fn catch(&mut self, alloc: Global, args: &[Bytes], depth: u32) -> Result<Pace, AllocError>
+        requires { self.old.control ≡ Control.Go }
+        ensures { IfOk result (λ p. Goes (do_catch (evaluate depth) args.now self.old.state (all_back self.old.stack)) self.old.state.known (weight_of self.old + 9) self.new p) }
+    {
+        let (script, name) = match args {
+            [script] => (script, None),
+            [script, name] => (script, Some(name.copy(alloc)?)),
+            _ => return Ok(self.wrong_count(alloc, b"catch")?),
+        };
+        self.stack.push(Frame::Catching { name })?;
+        let script = script.copy(alloc)?;
+        let pace = self.enter(alloc, script, depth)?;
+        Ok(pace)
+    }
+
+    /// What was caught: the value goes to the name, and the code is the value.
+    #[tactic(auto, unfolding(dg_language::specs::Control::caught, crate::specs::Meaning::rest, crate::specs::Meaning::weight))]
+    pub(crate) fn caught(
+        &mut self,
+        alloc: Global,
+        name: Option<Bytes>,
+        code: Code,
+        value: Bytes,
+    ) -> Result<Pace, AllocError>
+        requires { self.old.control ≡ Control.Go }
+        ensures { IfOk result (λ p. Comes (caught name (all_back self.old.stack) code value self.old.state) self.old.state.known (weight_of self.old + 4) self.new p) }
+    {
+        let Some(name) = name else {
+            let digit = Bytes::from_slice(alloc, digit_of(code))?;
+            self.end(Code::Done, digit);
+            return Ok(Pace::Moved);
+        };
+        match self.ready(alloc, name.as_slice())? {
+            Some(Pace::Stands(question)) => {
+                self.stack.push(Frame::Catching { name: Some(name) })?;
+                self.end(code, value);
+                Ok(Pace::Stands(question))
+            }
+            Some(Pace::Over(verdict)) => Ok(Pace::Over(verdict)),
+            Some(Pace::Moved) => Ok(Pace::Moved),
+            None => {
+                let pace = self.keep_caught(alloc, name.as_slice(), code, value)?;
+                Ok(pace)
+            }
+        }
+    }
+
+    /// What was caught goes to a name whose variable can be used.
+    #[tactic(auto, unfolding(crate::specs::Meaning::rest, crate::specs::Meaning::weight))]
+    fn keep_caught(
+        &mut self,
+        alloc: Global,
+        name: &[u8],
+        code: Code,
+        value: Bytes,
+    ) -> Result<Pace, AllocError>
+        requires { self.old.control ≡ Control.Go }
+        ensures { IfOk result (λ p. Goes (within (length value) self.old.state (all_back self.old.stack Code.Done (digit_of code) (assigned name.now value self.old.state))) self.old.state.known (weight_of self.old + 4) self.new p) }
+    {
+        if value.len() > VALUE {
+            let verdict = self.cut(alloc, b"value too long")?;
+            return Ok(Pace::Over(verdict));
+        }
+        let digit = Bytes::from_slice(alloc, digit_of(code))?;
+        self.state.assign(alloc, name, value)?;
+        self.end(Code::Done, digit);
+        Ok(Pace::Moved)
+    }
+
+    /// `foreach names values body`.
+    #[tactic(auto, unfolding(dg_language::specs::Control::do_foreach, crate::specs::Meaning::rest, crate::specs::Meaning::go, crate::specs::Meaning::weight, crate::specs::Meaning::stack_weight))]
+    fn for_each(&mut self, alloc: Global, args: &[Bytes], depth: u32) -> Result<Pace, AllocError>
+        requires { self.old.control ≡ Control.Go }
+        ensures { IfOk result (λ p. Goes (do_foreach (evaluate depth) args.now self.old.state (all_back self.old.stack)) self.old.state.known (weight_of self.old + 9) self.new p) }
+    {
+        let Some((names, values, body)) = three(args) else {
+            return Ok(self.wrong_count(alloc, b"foreach")?);
+        };
+        let names = match elements_in(alloc, names.as_slice())? {
+            Ok(names) => names,
+            Err(message) => return Ok(self.fail(alloc, message)?),
+        };
+        if names.is_empty() {
+            let message = Bytes::from_slice(alloc, b"foreach varlist is empty")?;
+            return Ok(self.fail(alloc, message)?);
+        }
+        let values = match elements_in(alloc, values.as_slice())? {
+            Ok(values) => Queue::new(values.into_vec()),
+            Err(message) => return Ok(self.fail(alloc, message)?),
+        };
+        let rounds = Rounds {
+            names,
+            body: body.copy(alloc)?,
+            values,
+            given: None,
+            left: STEPS,
+            depth,
+        };
+        self.stack.push(Frame::Looping { rounds })?;
+        Ok(Pace::Moved)
+    }
+
+    /// A command on the course of a script.
+    pub(crate) fn control(
+        &mut self,
+        alloc: Global,
+        which: ControlCommand,
+        args: &[Bytes],
+        depth: u32,
+    ) -> Result<Pace, AllocError>
+        requires { self.old.control ≡ Control.Go }
+        ensures { IfOk result (λ p. Goes (do_control (evaluate depth) which args.now self.old.state (all_back self.old.stack)) self.old.state.known (weight_of self.old + 9) self.new p) }
+    {
+        match which {
+            ControlCommand::Proc => Ok(self.define(alloc, args)?),
+            ControlCommand::Foreach => Ok(self.for_each(alloc, args, depth)?),
+            ControlCommand::Break => Ok(self.leave(alloc, Code::Broken, b"break", args)?),
+            ControlCommand::Continue => Ok(self.leave(alloc, Code::Continued, b"continue", args)?),
+            ControlCommand::Return => Ok(self.give(alloc, args)?),
+            ControlCommand::Error => Ok(self.error(alloc, args)?),
+            ControlCommand::Catch => Ok(self.catch(alloc, args, depth)?),
+        }
+    }
+}

@@ -1,0 +1,192 @@
+//! How the words of a command are made, a step at a time.
+ghost use Rattle.std.specs.Prelude.{◌≡◌, ◌+◌, ◌*◌, ◌^◌, ◌<◌, ◌∷◌, ◌++◌, [], IfOk, OnOk, length, codes};
+ghost use Rattle.dg_language.specs.Evaluation.{if_done, list_in};
+ghost use Rattle.dg_language.specs.Variables.{touch};
+ghost use Rattle.dg_language.specs.Language.{gather, element, evaluate, with_elements};
+ghost use Rattle.dg_machine.specs.declared.frame.Control.{Control};
+ghost use Rattle.dg_machine.specs.Meaning.{all_back, weight_of, making_on, making_with, reading, outside_index, Comes, Goes};
+
+use crate::frame::{Frame, Making, Pace};
+use crate::machine::{Machine, VALUE};
+use dg_language::{Substitution, cannot_read, elements_in};
+use dg_words::Bytes;
+use std::alloc::{AllocError, Global};
+use std::mem;
+
+/// The name of an element.
+fn element(alloc: Global, name: &[u8], index: &[u8]) -> Result<Bytes, AllocError>
+    ensures { IfOk result (λ b. b ≡ element name.now index.now) }
+{
+    let mut behind = Bytes::from_slice(alloc, index)?;
+    behind.extend(b")")?;
+    let mut between = Bytes::from_slice(alloc, b"(")?;
+    between.extend(behind.as_slice())?;
+    let mut element = Bytes::from_slice(alloc, name)?;
+    element.extend(between.as_slice())?;
+    Ok(element)
+}
+
+impl Machine {
+    /// A value is added to what is made of a word, and its command's words go on being made.
+    #[tactic(auto, unfolding(crate::specs::Meaning::rest, crate::specs::Meaning::go, crate::specs::Meaning::weight, crate::specs::Meaning::stack_weight))]
+    pub(crate) fn add_value(
+        &mut self,
+        alloc: Global,
+        mut making: Making,
+        value: &[u8],
+        depth: u32,
+    ) -> Result<Pace, AllocError>
+        requires { self.old.control ≡ Control.Go }
+        ensures { IfOk result (λ p. Goes (making_with making depth value.now self.old.state (all_back self.old.stack)) self.old.state.known (weight_of self.old + 2 ^ 69 + 8 + 4 * length making.left) self.new p) }
+    {
+        if value.len() > VALUE || making.text.len() > VALUE - value.len() {
+            let verdict = self.cut(alloc, b"value too long")?;
+            return Ok(Pace::Over(verdict));
+        }
+        making.text.extend(value)?;
+        self.stack.push(Frame::Gathering { making, depth })?;
+        Ok(Pace::Moved)
+    }
+
+    /// The value of a variable, which can be used, is added.
+    fn add_variable(
+        &mut self,
+        alloc: Global,
+        making: Making,
+        name: &[u8],
+        depth: u32,
+    ) -> Result<Pace, AllocError>
+        requires { self.old.control ≡ Control.Go }
+        ensures { IfOk result (λ p. Goes (reading making depth name.now self.old.state (all_back self.old.stack)) self.old.state.known (weight_of self.old + 2 ^ 69 + 8 + 4 * length making.left) self.new p) }
+    {
+        let Some(value) = self.state.value_of(name) else {
+            let message = cannot_read(alloc, name)?;
+            let pace = self.fail(alloc, message)?;
+            return Ok(pace);
+        };
+        let value = Bytes::from_slice(alloc, value)?;
+        let pace = self.add_value(alloc, making, value.as_slice(), depth)?;
+        Ok(pace)
+    }
+
+    /// The value of a variable is added.
+    fn gather_variable(
+        &mut self,
+        alloc: Global,
+        mut making: Making,
+        name: Bytes,
+        depth: u32,
+    ) -> Result<Pace, AllocError>
+        requires { self.old.control ≡ Control.Go }
+        ensures { IfOk result (λ p. Comes (touch name self.old.state (λ s. reading making depth name s (all_back self.old.stack))) self.old.state.known (weight_of self.old + 2 ^ 69 + 8 + 4 * length making.left) self.new p) }
+    {
+        match self.ready(alloc, name.as_slice())? {
+            Some(Pace::Stands(question)) => {
+                making.left.push_front(Substitution::Variable(name))?;
+                self.stack.push(Frame::Gathering { making, depth })?;
+                Ok(Pace::Stands(question))
+            }
+            Some(pace) => Ok(pace),
+            None => Ok(self.add_variable(alloc, making, name.as_slice(), depth)?),
+        }
+    }
+
+    /// The value of an element whose index is made is added to what stood before it.
+    fn gather_element(
+        &mut self,
+        alloc: Global,
+        mut making: Making,
+        name: Bytes,
+        before: Bytes,
+        depth: u32,
+    ) -> Result<Pace, AllocError>
+        requires { self.old.control ≡ Control.Go }
+        ensures { IfOk result (λ p. Comes (touch (element name making.text) self.old.state (λ s. reading (outside_index making before) depth (element name making.text) s (all_back self.old.stack))) self.old.state.known (weight_of self.old + 2 ^ 69 + 8 + 4 * length making.left) self.new p) }
+    {
+        let whole = element(alloc, name.as_slice(), making.text.as_slice())?;
+        match self.ready(alloc, whole.as_slice())? {
+            Some(Pace::Stands(question)) => {
+                making.outer.push((name, before))?;
+                making.left.push_front(Substitution::IndexEnds)?;
+                self.stack.push(Frame::Gathering { making, depth })?;
+                Ok(Pace::Stands(question))
+            }
+            Some(pace) => Ok(pace),
+            None => {
+                making.text = before;
+                Ok(self.add_variable(alloc, making, whole.as_slice(), depth)?)
+            }
+        }
+    }
+
+    /// An index begins.
+    #[tactic(auto, unfolding(crate::specs::Meaning::rest, crate::specs::Meaning::go, crate::specs::Meaning::weight, crate::specs::Meaning::stack_weight))]
+    fn begin_index(
+        &mut self,
+        alloc: Global,
+        mut making: Making,
+        name: Bytes,
+        depth: u32,
+    ) -> Result<Pace, AllocError>
+        requires { self.old.control ≡ Control.Go }
+        ensures { IfOk result (λ p. Goes (gather (evaluate depth) making.made ((name, making.text) ∷ making.outer) [] making.left self.old.state (all_back self.old.stack)) self.old.state.known (weight_of self.old + 2 ^ 69 + 8 + 4 * length making.left) self.new p) }
+    {
+        let before = mem::replace(&mut making.text, Bytes::new(alloc));
+        making.outer.push((name, before))?;
+        self.stack.push(Frame::Gathering { making, depth })?;
+        Ok(Pace::Moved)
+    }
+
+    /// An index ends.
+    #[tactic(auto, unfolding(crate::specs::Meaning::rest, crate::specs::Meaning::go, crate::specs::Meaning::weight, crate::specs::Meaning::stack_weight))]
+    fn end_index(
+        &mut self,
+        alloc: Global,
+        mut making: Making,
+        depth: u32,
+    ) -> Result<Pace, AllocError>
+        requires { self.old.control ≡ Control.Go }
+        ensures { IfOk result (λ p. Comes (gather (evaluate depth) making.made making.outer making.text (Substitution.IndexEnds ∷ making.left) self.old.state (all_back self.old.stack)) self.old.state.known (weight_of self.old + 2 ^ 69 + 8 + 4 * length making.left) self.new p) }
+    {
+        let Some((name, before)) = making.outer.pop() else {
+            self.stack.push(Frame::Gathering { making, depth })?;
+            return Ok(Pace::Moved);
+        };
+        let pace = self.gather_element(alloc, making, name, before, depth)?;
+        Ok(pace)
+    }
+
+    /// A word ends.
+    #[tactic(auto, unfolding(crate::specs::Meaning::rest, crate::specs::Meaning::go, crate::specs::Meaning::weight, crate::specs::Meaning::stack_weight))]
+    fn end_word(
+        &mut self,
+        alloc: Global,
+        mut making: Making,
+        depth: u32,
+    ) -> Result<Pace, AllocError>
+        requires { self.old.control ≡ Control.Go }
+        ensures { IfOk result (λ p. Goes (gather (evaluate depth) (making.made ++ making.text ∷ []) making.outer [] making.left self.old.state (all_back self.old.stack)) self.old.state.known (weight_of self.old + 2 ^ 69 + 8 + 4 * length making.left) self.new p) }
+    {
+        let word = mem::replace(&mut making.text, Bytes::new(alloc));
+        making.made.push(word)?;
+        self.stack.push(Frame::Gathering { making, depth })?;
+        Ok(Pace::Moved)
+    }
+
+    /// The value of a script is made, to be added.
+    #[tactic(auto, unfolding(crate::specs::Meaning::back, crate::specs::Meaning::all_back, crate::specs::Meaning::weight, crate::specs::Meaning::stack_weight))]
+    fn run_script(
+        &mut self,
+        alloc: Global,
+        making: Making,
+        script: Bytes,
+        depth: u32,
+    ) -> Result<Pace, AllocError>
+        requires { self.old.control ≡ Control.Go }
+        ensures { IfOk result (λ p. Goes (evaluate depth script self.old.state (if_done (λ v s. making_with making depth v s (all_back self.old.stack)) (all_back self.old.stack))) self.old.state.known (weight_of self.old + 2 ^ 69 + 8 + 4 * length making.left) self.new p) }
+    {
+        self.stack.push(Frame::Gathering { making, depth })?;
+        let pace = self.enter(alloc, script, depth)?;
+        Ok(pace)
+    }
+}

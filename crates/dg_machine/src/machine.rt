@@ -1,0 +1,213 @@
+//! A stopped evaluation, and how its commands begin and end.
+ghost use Rattle.std.specs.Prelude.{◌≡◌, ◌+◌, ◌*◌, ◌^◌, ◌<◌, ◌≤◌, ◌∷◌, ◌++◌, [], length, IfOk, codes, OnOk, MatchOption};
+ghost use Rattle.std.specs.Option.{option_copied};
+ghost use Rattle.dg_language.specs.Evaluation.{cut, fail, one_of, first_of, three_of, wrong_count};
+ghost use Rattle.dg_language.specs.Variables.{store};
+ghost use Rattle.dg_language.specs.Language.{sequence, evaluate};
+ghost use Rattle.dg_machine.specs.Meaning.{all_back, weight_of, ends_with, Begins, Goes, Readies};
+
+use crate::frame::{Control, Frame, Making, Pace, Stack};
+use crate::script::Script;
+use dg_language::{Code, Command, State, Touch, fault_text, steps_of, wrong_count};
+use dg_results::Verdict;
+use dg_words::{Bytes, Seq, TryCopy, Word};
+use std::alloc::{AllocError, Global};
+
+/// The most steps that an evaluation takes.
+pub(crate) const STEPS: u32 = 100_000;
+
+/// The most bytes of a value.
+pub(crate) const VALUE: usize = 1_048_576;
+
+/// A stopped evaluation.
+#[derive(Drop)]
+pub struct Machine {
+    pub state: State,
+    pub stack: Stack<Frame>,
+    pub control: Control,
+}
+
+/// The only word, if there is just one.
+pub(crate) fn only(words: &[Bytes]) -> Option<&Bytes>
+    ensures { option_copied result ≡ one_of words.now }
+{
+    match words {
+        [word] => Some(word),
+        _ => None,
+    }
+}
+
+/// The first word and the others.
+pub(crate) fn split(words: &[Bytes]) -> Option<(&Bytes, &[Bytes])>
+    ensures { MatchOption result (words.now ≡ []) (λ p. words.now ≡ p.0.now ∷ p.1.now) }
+{
+    match words {
+        [] => None,
+        [first, others @ ..] => Some((first, others)),
+    }
+}
+
+/// The three words, if there are just three.
+pub(crate) fn three(words: &[Bytes]) -> Option<(&Bytes, &Bytes, &Bytes)>
+    ensures { MatchOption result (three_of words.now ≡ None) (λ p. words.now ≡ p.0.now ∷ p.1.now ∷ p.2.now ∷ []) }
+{
+    match words {
+        [one, two, three] => Some((one, two, three)),
+        _ => None,
+    }
+}
+
+impl Machine {
+    /// A limit ends the evaluation as an error does.
+    #[tactic(auto, unfolding(dg_language::specs::Evaluation::cut, dg_language::specs::Evaluation::aborted))]
+    pub(crate) fn cut(&mut self, alloc: Global, why: &[u8]) -> Result<Verdict, AllocError>
+        ensures ends { IfOk result (λ v. cut why.now self.old.state ≡ ends_with v self.old.state.steps) }
+        ensures same { self.new ≡ self.old }
+    {
+        let judging = self.state.judged(alloc)?;
+        let verdict = judging.abort(alloc, self.state.test().script.as_slice(), why)?;
+        Ok(verdict)
+    }
+
+    /// An evaluation has ended with this code and value.
+    pub(crate) fn end(&mut self, code: Code, value: Bytes)
+        ensures { self.new ≡ record self.old { control = Control.Ended code value } }
+    {
+        self.control = Control::Ended { code, value };
+    }
+
+    /// The evaluation fails with a message.
+    #[tactic(auto, unfolding(crate::specs::Meaning::rest, crate::specs::Meaning::weight))]
+    pub(crate) fn fail(&mut self, alloc: Global, message: Bytes) -> Result<Pace, AllocError>
+        requires { self.old.control ≡ Control.Go }
+        ensures { IfOk result (λ p. Goes (fail message self.old.state (all_back self.old.stack)) self.old.state.known (weight_of self.old + 2) self.new p) }
+    {
+        if message.len() > VALUE {
+            let verdict = self.cut(alloc, b"value too long")?;
+            return Ok(Pace::Over(verdict));
+        }
+        self.end(Code::Failed, message);
+        Ok(Pace::Moved)
+    }
+
+    /// A command has the wrong count of arguments.
+    pub(crate) fn wrong_count(&mut self, alloc: Global, name: &[u8]) -> Result<Pace, AllocError>
+        requires { self.old.control ≡ Control.Go }
+        ensures { IfOk result (λ p. Goes (fail (wrong_count name.now) self.old.state (all_back self.old.stack)) self.old.state.known (weight_of self.old + 2) self.new p) }
+    {
+        let message = wrong_count(alloc, name)?;
+        let pace = self.fail(alloc, message)?;
+        Ok(pace)
+    }
+
+    /// A variable is about to be used.
+    #[tactic(auto, unfolding(dg_language::specs::Evaluation::cut, dg_language::specs::Evaluation::aborted))]
+    pub(crate) fn ready(&mut self, alloc: Global, name: &[u8]) -> Result<Option<Pace>, AllocError>
+        ensures { IfOk result (Readies name.now self.old self.new) }
+    {
+        match self.state.touch(alloc, name)? {
+            Touch::Ready => Ok(None),
+            Touch::Asking(question) => Ok(Some(Pace::Stands(question))),
+            Touch::TooLong => {
+                let verdict = self.cut(alloc, b"value too long")?;
+                Ok(Some(Pace::Over(verdict)))
+            }
+        }
+    }
+
+    /// A variable gets a value, which is the command's too.
+    #[tactic(auto, unfolding(dg_language::specs::Variables::store, crate::specs::Meaning::rest, crate::specs::Meaning::weight))]
+    pub(crate) fn store(
+        &mut self,
+        alloc: Global,
+        name: &[u8],
+        value: Bytes,
+    ) -> Result<Pace, AllocError>
+        requires { self.old.control ≡ Control.Go }
+        ensures { IfOk result (λ p. Goes (store name.now value self.old.state (all_back self.old.stack)) self.old.state.known (weight_of self.old + 2) self.new p) }
+    {
+        if value.len() > VALUE {
+            let verdict = self.cut(alloc, b"value too long")?;
+            return Ok(Pace::Over(verdict));
+        }
+        self.state.assign(alloc, name, value.copy(alloc)?)?;
+        self.end(Code::Done, value);
+        Ok(Pace::Moved)
+    }
+
+    /// The words of a command begin to be made, in front of the commands that are left.
+    fn begin_command(
+        &mut self,
+        alloc: Global,
+        commands: Script,
+        words: &[Word],
+        depth: u32,
+    ) -> Result<(), AllocError>
+        ensures { OnOk result (Begins commands words.now depth self.old self.new) }
+    {
+        let making = Making {
+            made: Seq::new(alloc),
+            outer: Stack::new(alloc),
+            text: Bytes::new(alloc),
+            left: steps_of(alloc, words)?,
+        };
+        let _count = making.left.len();
+        self.stack.push(Frame::Sequence { commands, depth })?;
+        self.stack.push(Frame::Gathering { making, depth })?;
+        Ok(())
+    }
+
+    /// The commands that are left go on: the next one runs, or the value of the last is theirs.
+    pub(crate) fn sequence(
+        &mut self,
+        alloc: Global,
+        mut commands: Script,
+        value: Bytes,
+        depth: u32,
+    ) -> Result<Pace, AllocError>
+        requires { self.old.control ≡ Control.Go }
+        ensures { IfOk result (λ p. Goes (sequence (evaluate depth) commands value self.old.state (all_back self.old.stack)) self.old.state.known (weight_of self.old + 3) self.new p) }
+    {
+        match commands.next(alloc)? {
+            None => {
+                self.end(Code::Done, value);
+                Ok(Pace::Moved)
+            }
+            Some(Command::Unreadable(fault)) => {
+                let message = Bytes::from_slice(alloc, fault_text(fault))?;
+                let pace = self.fail(alloc, message)?;
+                Ok(pace)
+            }
+            Some(Command::Words(words)) => {
+                if self.state.steps() >= STEPS {
+                    let verdict = self.cut(alloc, b"step limit reached")?;
+                    return Ok(Pace::Over(verdict));
+                }
+                self.state.take_step();
+                self.begin_command(alloc, commands, words.as_slice(), depth)?;
+                Ok(Pace::Moved)
+            }
+        }
+    }
+
+    /// The evaluation of a text begins, inside as many others as this leaves.
+    pub(crate) fn enter(
+        &mut self,
+        alloc: Global,
+        text: Bytes,
+        depth: u32,
+    ) -> Result<Pace, AllocError>
+        requires { self.old.control ≡ Control.Go }
+        ensures { IfOk result (λ p. Goes (evaluate depth text self.old.state (all_back self.old.stack)) self.old.state.known (weight_of self.old + 4) self.new p) }
+    {
+        if depth == 0 {
+            let verdict = self.cut(alloc, b"too many nested evaluations")?;
+            return Ok(Pace::Over(verdict));
+        }
+        self.stack.push(Frame::Sequence {
+            commands: Script::new(text),
+            depth: depth - 1,
+        })?;
+        Ok(Pace::Moved)
+    }
+}

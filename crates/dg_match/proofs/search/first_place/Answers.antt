@@ -1,0 +1,15 @@
+use Rattle.std.proofs.Common.{arith}
+use Rattle.std.proofs.lemmas.List.{take_rest}
+use Rattle.dg_match.proofs.OccursLemmas.{nowhere_found, least_found, passed_fewer}
+use Rattle.dg_match.proofs.search.first_place.Goals as goal
+
+pub returns-in_err-place : goal.returns-in_err-place
+returns-in_err-place c =
+    rw c.from_residual.ensures
+    (nowhere_found _ _ c.min-from.result (omega (arith, c.min-from.ensures)) (passed_fewer _ _ _ _ (omega (arith, c.min-from.ensures)) c.requires)
+    (rw (take_rest c.args.bytes.now c.min-from.result) at c.in_err-place.ensures))
+
+pub returns : goal.returns
+returns c =
+    let found = rw (take_rest c.args.bytes.now c.min-from.result) at c.in_ok-place.ensures in
+    least_found _ _ c.min-from.result (omega (arith, c.min-from.ensures)) (passed_fewer _ _ _ _ (omega (arith, c.min-from.ensures)) c.requires) c.in_ok-place.place found.0 found.1

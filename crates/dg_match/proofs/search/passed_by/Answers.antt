@@ -1,0 +1,6 @@
+use Rattle.std.proofs.Common.{arith}
+use Rattle.dg_match.proofs.OccursLemmas.{passed_nowhere}
+use Rattle.dg_match.proofs.search.passed_by.Goals as goal
+
+pub returns : goal.returns
+returns c = passed_nowhere _ _ _ (omega arith) c.requires

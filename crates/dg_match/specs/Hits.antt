@@ -1,0 +1,37 @@
+-- The hit of a list of patterns in bytes, as expect(1) finds it.
+use Rattle.std.specs.Prelude.{◌≡◌, ℕ, ◌<◌, List, [], length, Option, Some, None, MatchOption}
+use Rattle.std.specs.List.{All, HoldsAt, AllWithin}
+use Rattle.dg_glob.specs.Glob.{IsSpan, IsFirstSpan}
+use Rattle.dg_match.specs.Literals.{IsNowhere, IsFirstPlace}
+use Rattle.dg_match.specs.Groups.{regex_match}
+use Rattle.dg_match.specs.declared.found.Found.{Found}
+use Rattle.dg_match.specs.declared.hit.Hit.{Hit}
+use Rattle.dg_match.specs.declared.pattern.Pattern.{Pattern}
+use Rattle.dg_match.specs.declared.pattern.Pattern.TheVariants.{Glob, Exact, Regex}
+
+-- no part of the bytes matches the pattern
+abbrev pub HasNoMatch : Pattern → List ℕ → Type 0
+HasNoMatch (Glob p) bytes = (s e : ℕ) → IsSpan p bytes s e → ⊥
+HasNoMatch (Exact t) bytes = IsNowhere t bytes
+HasNoMatch (Regex t) bytes = regex_match t bytes ≡ None
+
+-- the pattern's match in the bytes: of a glob the span with the least start, and with the greatest end of those; of a
+-- literal the first place at which it stands; of a `-re` pattern the first match with its groups
+abbrev pub IsMatch : Pattern → List ℕ → Found → Type 0
+IsMatch (Glob p) bytes m = IsFirstSpan p bytes m.start m.end × (m.groups ≡ [])
+IsMatch (Exact t) bytes m = IsFirstPlace t bytes m.start m.end × (m.groups ≡ [])
+IsMatch (Regex t) bytes m = regex_match t bytes ≡ Some m
+
+-- The match of the first of the patterns that has one.
+pub record IsHit (patterns : List Pattern) (bytes : List ℕ) (hit : Hit) : Type 0 where
+  pub listed : hit.index < length patterns
+  pub matched : HoldsAt (λ p. IsMatch p bytes (record { start = hit.start; end = hit.end; groups = hit.groups })) patterns hit.index
+  pub first : AllWithin (λ p. HasNoMatch p bytes) patterns 0 hit.index
+
+-- the hit, or none where no pattern has a match
+abbrev pub IsTried : List Pattern → List ℕ → Option Hit → Type 0
+IsTried patterns bytes result = MatchOption result (All (λ p. HasNoMatch p bytes) patterns) (IsHit patterns bytes)
+
+-- the same for one pattern
+abbrev pub IsAnswer : Pattern → List ℕ → Option Found → Type 0
+IsAnswer p bytes answer = MatchOption answer (HasNoMatch p bytes) (IsMatch p bytes)

@@ -1,0 +1,301 @@
+//! The buffer that a session's output goes into.
+ghost use Rattle.std.specs.Prelude.{◌≡◌, ◌≤◌, ◌+◌, ◌*◌, ◌++◌, [], length, drop, take, OnOk, OnErr, IfOk, option_map, MatchOption};
+ghost use Rattle.dg_match.specs.Held.{last, without_nulls};
+ghost use Rattle.dg_match.specs.Hits.{IsTried, IsAnswer, HasNoMatch};
+ghost use Rattle.dg_match.specs.Starts.{IsPassed};
+ghost use Rattle.dg_match.specs.Literals.{IsNowhere, IsFirstPlace};
+ghost use Rattle.dg_glob.specs.Glob.{IsFirstSpan};
+
+use crate::found::{Found, first_match};
+use crate::hit::Hit;
+use crate::pattern::Pattern;
+use crate::search::{Search, front, search_glob, search_text};
+use crate::starts::Starts;
+use dg_words::{Bytes, Seq};
+use memchr::memchr;
+use std::alloc::{AllocError, Global};
+use std::marker::Model;
+
+/// The output of a session that was read and not yet taken: its last bytes, as many as it keeps at
+/// most, without nulls (expect(1), `match_max` and `remove_nulls`). A contract sees the bytes, how
+/// many are kept at most, and the count that [`Buffer::compared`] gives.
+#[derive(Drop)]
+pub struct Buffer {
+    /// The bytes, behind a front that was cut off.
+    bytes: Vec<u8>,
+    front: usize,
+    max: usize,
+    compared: u64,
+    starts: Starts,
+}
+
+impl Model for Buffer {
+    ghost use Rattle.std.specs.Prelude.{◌≤◌, ℕ, List, length, drop, refl};
+    ghost use Rattle.std.specs.Coded.{code_by, coded×, coded_list, coded_ℕ};
+    ghost use Rattle.dg_match.specs.Held.{Held};
+    ghost use Rattle.dg_match.specs.Starts.{AllPassed};
+
+    ghost Value = { Held };
+
+    ghost coded = { code_by ((List ℕ × ℕ) × ℕ) (coded× (coded× (coded_list coded_ℕ) coded_ℕ) coded_ℕ)
+        (λ h. ((h.bytes, h.max), h.compared)) (λ p. record { bytes = p.0.0; max = p.0.1; compared = p.1 }) (λ _. refl) };
+
+    ghost view = { λ b. record { bytes = drop b.front b.bytes.items; max = b.max; compared = b.compared } };
+
+    ghost invariant = { λ b. (b.front ≤ length b.bytes.items) × AllPassed (drop b.front b.bytes.items) b.starts };
+}
+
+/// A vector without its first bytes.
+fn without_front(bytes: &mut Vec<u8>, front: usize)
+    requires { front ≤ length bytes.old.items }
+    ensures { bytes.new.items ≡ drop front bytes.old.items }
+{
+    let left = bytes.len() - front;
+    bytes.copy_within(front.., 0);
+    bytes.truncate(left);
+}
+
+/// Adds the bytes of a chunk that are no nulls, or changes nothing.
+fn extend(alloc: Global, bytes: &mut Vec<u8>, chunk: &[u8]) -> Result<(), AllocError>
+    ensures ok { OnOk result (bytes.new.items ≡ bytes.old.items ++ without_nulls chunk.now) }
+    ensures err { OnErr result (bytes.new.items ≡ bytes.old.items) }
+{
+    if let Some(_null) = memchr(0, chunk) {
+        let kept: Vec<u8> = chunk
+            .iter()
+            .copied()
+            .filter(|byte| *byte != 0)
+            .collect(alloc)?;
+        return bytes.extend_from_slice(kept.as_slice());
+    }
+    bytes.extend_from_slice(chunk)
+}
+
+/// The match that a search for a glob or a literal has found.
+fn without_groups(alloc: Global, search: Search) -> Option<Found>
+    ensures { result ≡ option_map (λ s. record { start = s.start; end = s.end; groups = [] }) search.found }
+{
+    search.found.map(|span| Found {
+        start: span.start,
+        end: span.end,
+        groups: Seq::new(alloc),
+    })
+}
+
+impl Buffer {
+    /// An empty buffer that keeps at most so many bytes.
+    pub fn new(alloc: Global, max: usize) -> Buffer
+        ensures { result ≡ record { bytes = []; max = max; compared = 0 } }
+    {
+        Buffer {
+            bytes: Vec::new(alloc),
+            front: 0,
+            max,
+            compared: 0,
+            starts: Starts::new(alloc),
+        }
+    }
+
+    /// The bytes. It takes no memory.
+    pub fn as_slice(&self) -> &[u8]
+        ensures { result.now ≡ self.now.bytes }
+    {
+        &self.bytes[self.front..]
+    }
+
+    /// How many bytes literals and globs have compared so far; at its last value it stays. It takes
+    /// no memory.
+    pub fn compared(&self) -> u64
+        ensures { result ≡ self.now.compared }
+    {
+        self.compared
+    }
+
+    /// Lets the first bytes go.
+    fn cut(&mut self, count: usize)
+        requires { count ≤ length self.old.bytes }
+        ensures { self.new ≡ record self.old { bytes = drop count self.old.bytes } }
+    {
+        self.front += count;
+        self.starts.cut(count);
+    }
+
+    /// Keeps the last bytes.
+    fn keep_last(&mut self, count: usize)
+        ensures { self.new ≡ record self.old { bytes = last count self.old.bytes } }
+    {
+        self.cut(self.as_slice().len().saturating_sub(count));
+    }
+
+    /// Adds a chunk behind the bytes, without its nulls, and keeps the last bytes, as many as are
+    /// kept at most. Where a growth is refused nothing is changed.
+    pub fn add(&mut self, alloc: Global, chunk: &[u8]) -> Result<(), AllocError>
+        ensures ok { OnOk result (self.new ≡
+            record self.old { bytes = last self.old.max (self.old.bytes ++ without_nulls chunk.now) }) }
+        ensures err { OnErr result (self.new ≡ self.old) }
+    {
+        self.close_up();
+        self.append(alloc, chunk)?;
+        self.keep_last(self.max);
+        Ok(())
+    }
+
+    /// Moves the bytes to the front, once there is as much room before them as they need.
+    fn close_up(&mut self)
+        ensures { self.new ≡ self.old }
+    {
+        if self.front >= self.bytes.len() - self.front {
+            without_front(&mut self.bytes, self.front);
+            self.front = 0;
+        }
+    }
+
+    /// Adds a chunk behind the bytes, without its nulls, or changes nothing.
+    fn append(&mut self, alloc: Global, chunk: &[u8]) -> Result<(), AllocError>
+        ensures ok { OnOk result (self.new ≡
+            record self.old { bytes = self.old.bytes ++ without_nulls chunk.now }) }
+        ensures err { OnErr result (self.new ≡ self.old) }
+    {
+        extend(alloc, &mut self.bytes, chunk)?;
+        Ok(())
+    }
+
+    /// The first of the patterns that has a match, with its match: of a glob the least start and of
+    /// those the greatest end, of a literal the least start, of a `-re` pattern its first match
+    /// (expect(1)). The buffer is left as it is. Where a growth is refused, `compared` may have risen.
+    pub fn try_patterns(
+        &mut self,
+        alloc: Global,
+        patterns: &[Pattern],
+    ) -> Result<Option<Hit>, AllocError>
+        ensures hit { IfOk result (λ hit. IsTried patterns.now self.old.bytes hit) }
+        ensures same { self.new ≡ record self.old { compared = self.new.compared } }
+        ensures counted { self.old.compared ≤ self.new.compared }
+        ensures at_most { self.new.compared ≤
+            self.old.compared + length patterns.now * (2 * length self.old.bytes) }
+    {
+        for (index, pattern) in patterns.iter().enumerate() {
+            if let Some(found) = self.try_pattern(alloc, index, pattern)? {
+                return Ok(Some(Hit {
+                    index,
+                    start: found.start,
+                    end: found.end,
+                    groups: found.groups,
+                }));
+            }
+        }
+        Ok(None)
+    }
+
+    /// Tries the pattern of an index.
+    fn try_pattern(
+        &mut self,
+        alloc: Global,
+        index: usize,
+        pattern: &Pattern,
+    ) -> Result<Option<Found>, AllocError>
+        ensures answer { IfOk result (λ answer. IsAnswer pattern.now self.old.bytes answer) }
+        ensures same { self.new ≡ record self.old { compared = self.new.compared } }
+        ensures counted { self.old.compared ≤ self.new.compared }
+        ensures at_most { self.new.compared ≤ self.old.compared + 2 * length self.old.bytes }
+    {
+        match pattern {
+            Pattern::Glob(glob) => {
+                let search = self.try_glob(alloc, index, glob.as_slice())?;
+                Ok(without_groups(alloc, search))
+            }
+            Pattern::Exact(text) => {
+                let search = self.try_text(alloc, index, text.as_slice())?;
+                Ok(without_groups(alloc, search))
+            }
+            Pattern::Regex(built) => {
+                self.skip(alloc, index)?;
+                first_match(alloc, built, self.as_slice())
+            }
+        }
+    }
+
+    /// Tries the glob of an index.
+    fn try_glob(&mut self, alloc: Global, index: usize, glob: &[u8]) -> Result<Search, AllocError>
+        ensures found { IfOk result (λ r. MatchOption r.found (HasNoMatch (Pattern.Glob glob.now) self.old.bytes)
+            (λ s. IsFirstSpan glob.now self.old.bytes s.start s.end)) }
+        ensures same { self.new ≡ record self.old { compared = self.new.compared } }
+        ensures counted { self.old.compared ≤ self.new.compared }
+        ensures at_most { self.new.compared ≤ self.old.compared + 2 * length self.old.bytes }
+    {
+        let front = front(glob);
+        let search = search_glob(self.as_slice(), glob, self.passed(index, front));
+        self.note(alloc, index, front, search)?;
+        Ok(search)
+    }
+
+    /// Tries the literal of an index.
+    fn try_text(&mut self, alloc: Global, index: usize, text: &[u8]) -> Result<Search, AllocError>
+        ensures found { IfOk result (λ r. MatchOption r.found (IsNowhere text.now self.old.bytes)
+            (λ s. IsFirstPlace text.now self.old.bytes s.start s.end)) }
+        ensures same { self.new ≡ record self.old { compared = self.new.compared } }
+        ensures counted { self.old.compared ≤ self.new.compared }
+        ensures at_most { self.new.compared ≤ self.old.compared + 2 * length self.old.bytes }
+    {
+        let search = search_text(self.as_slice(), text, self.passed(index, text));
+        self.note(alloc, index, text, search)?;
+        Ok(search)
+    }
+
+    /// How many places a text that stands in every match of the pattern of this index is known
+    /// to have passed.
+    fn passed(&self, index: usize, text: &[u8]) -> usize
+        ensures { IsPassed text.now self.now.bytes result }
+    {
+        self.starts.passed(index, text)
+    }
+
+    /// Counts what a search has compared, and remembers the places that it has passed.
+    fn note(
+        &mut self,
+        alloc: Global,
+        index: usize,
+        text: &[u8],
+        search: Search,
+    ) -> Result<(), AllocError>
+        requires { IsPassed text.now self.old.bytes search.passed }
+        ensures same { self.new ≡ record self.old { compared = self.new.compared } }
+        ensures counted { self.old.compared ≤ self.new.compared }
+        ensures at_most { self.new.compared ≤ self.old.compared + search.compared }
+    {
+        self.compared = self.compared.saturating_add(search.compared as u64);
+        self.starts.pass(alloc, index, text, search.passed)
+    }
+
+    /// Remembers nothing of a pattern of which the whole buffer is searched.
+    fn skip(&mut self, alloc: Global, index: usize) -> Result<(), AllocError>
+        ensures { self.new ≡ self.old }
+    {
+        self.starts.pass(alloc, index, b"", 0)
+    }
+
+    /// Takes the bytes up to the end of a hit out of the buffer and gives them. Where a growth is
+    /// refused nothing is changed.
+    pub fn take(&mut self, alloc: Global, hit: &Hit) -> Result<Bytes, AllocError>
+        requires { hit.now.end ≤ length self.old.bytes }
+        ensures taken { IfOk result (λ bytes. bytes ≡ take hit.now.end self.old.bytes) }
+        ensures left { OnOk result (self.new ≡
+            record self.old { bytes = drop hit.now.end self.old.bytes }) }
+        ensures err { OnErr result (self.new ≡ self.old) }
+    {
+        let taken = Bytes::from_slice(alloc, &self.as_slice()[..hit.end])?;
+        self.cut(hit.end);
+        Ok(taken)
+    }
+
+    /// Keeps at most so many bytes from now on, and of those here the last ones. It takes no memory.
+    pub fn set_max(&mut self, max: usize)
+        requires some { 1 ≤ max }
+        requires most { max ≤ 65536 }
+        ensures { self.new ≡
+            record self.old { bytes = last max self.old.bytes; max = max } }
+    {
+        self.max = max;
+        self.keep_last(max);
+    }
+}

@@ -1,0 +1,58 @@
+//! A pattern that `regex` has built.
+ghost use Rattle.std.specs.Prelude.{◌≡◌, IfOk, IsErrOf, OnOk};
+ghost use Rattle.regex.specs.Bytes.{regex_source};
+ghost use Rattle.dg_match.specs.Regexes.{IsPatternText, IsNoPatternText, IsBuilt};
+
+use crate::fault::PatternFault;
+use regex::bytes::Regex;
+use std::alloc::Global;
+use std::marker::Model;
+use std::str;
+
+/// A built `-re` pattern. A contract sees the text that it was built from.
+#[derive(Drop)]
+pub struct Built {
+    regex: Regex,
+}
+
+impl Model for Built {
+    ghost use Rattle.std.specs.Prelude.{ℕ, List};
+
+    ghost Value = { List ℕ };
+
+    ghost use Rattle.regex.specs.Bytes.{regex_source};
+    ghost use Rattle.dg_match.specs.Regexes.{IsBuilt};
+
+    ghost view = { λ b. regex_source b.regex };
+
+    ghost invariant = { λ b. IsBuilt b.regex };
+}
+
+impl Built {
+    /// Builds the pattern that the text spells.
+    pub fn new(alloc: Global, text: &[u8]) -> Result<Built, PatternFault>
+        ensures text { IfOk result (λ b. b ≡ text.now) }
+        ensures read { OnOk result (IsPatternText text.now) }
+        ensures syntax { IsErrOf result PatternFault.Syntax → IsNoPatternText text.now }
+        ensures too_large { IsErrOf result PatternFault.TooLarge → IsPatternText text.now }
+    {
+        let Ok(source) = str::from_utf8(text) else {
+            return Err(PatternFault::Syntax);
+        };
+        match Regex::new(alloc, source) {
+            Ok(regex) => Ok(Built { regex }),
+            Err(regex::Error::Syntax(_)) => Err(PatternFault::Syntax),
+            Err(regex::Error::OutOfMemory) => Err(PatternFault::Memory),
+            Err(regex::Error::CompiledTooBig) => Err(PatternFault::TooLarge),
+            Err(regex::Error::Internal) => unreachable!(),
+        }
+    }
+
+    /// What `regex` made of the text.
+    pub(crate) fn regex(&self) -> &Regex
+        ensures text { regex_source result.now ≡ self.now }
+        ensures built { IsBuilt result.now }
+    {
+        &self.regex
+    }
+}

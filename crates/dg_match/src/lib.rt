@@ -1,0 +1,25 @@
+//! What a session's output is matched with: the buffer that it goes into, patterns, and the book of
+//! patterns.
+#![tactic(auto)]
+
+mod book;
+mod buffer;
+mod built;
+mod fault;
+mod found;
+mod hit;
+mod pattern;
+mod reading;
+mod search;
+mod starts;
+#[cfg(test)]
+mod tests;
+
+pub use crate::book::PatternBook;
+pub use crate::buffer::Buffer;
+pub use crate::built::Built;
+pub use crate::fault::PatternFault;
+pub use crate::hit::Hit;
+pub use crate::pattern::{Pattern, build};
+pub use crate::reading::Reading;
+pub use dg_glob::Span;

@@ -1,0 +1,178 @@
+//! Searches of the buffer that leave out the starts that are known to be passed.
+ghost use Rattle.std.specs.Prelude.{◌≡◌, ◌≤◌, ◌<◌, ◌*◌, ℕ, MatchOption, length};
+ghost use Rattle.memchr.specs.Find.{OccursAt};
+ghost use Rattle.dg_glob.specs.Glob.{IsFirstSpan, IsSpan};
+ghost use Rattle.dg_match.specs.Starts.{IsPassed};
+ghost use Rattle.dg_match.specs.Literals.{IsNowhere, IsFirstPlace, IsLeastPlace};
+ghost use Rattle.dg_match.specs.Fronts as word;
+
+use dg_glob::{Span, find_glob};
+use memchr::memmem;
+
+/// What a search came to.
+#[derive(Clone, Copy)]
+pub(crate) struct Search {
+    /// The match, if there is one.
+    pub(crate) found: Option<Span>,
+    /// How many places of the buffer are passed, whatever comes behind it.
+    pub(crate) passed: usize,
+    /// How many bytes were compared.
+    pub(crate) compared: usize,
+}
+
+/// The first place at which the text stands.
+fn first_place(bytes: &[u8], text: &[u8], passed: usize) -> Option<usize>
+    requires { IsPassed text.now bytes.now passed }
+    ensures { MatchOption result (IsNowhere text.now bytes.now) (λ k. IsLeastPlace text.now bytes.now k) }
+{
+    let from = passed.min(bytes.len());
+    let place = memmem::find(&bytes[from..], text)?;
+    Some(from + place)
+}
+
+/// How many places are passed where the text stands nowhere.
+fn passed_by(bytes: &[u8], text: &[u8]) -> usize
+    requires { IsNowhere text.now bytes.now }
+    ensures { IsPassed text.now bytes.now result }
+{
+    bytes.len().saturating_add(1).saturating_sub(text.len())
+}
+
+/// How many bytes a search for a text has to compare from a place on: none where it doesn't fit.
+fn compared_from(bytes: &[u8], text: &[u8], from: usize) -> usize
+    ensures { result ≤ length bytes.now }
+{
+    let left = bytes.len().saturating_sub(from);
+    if left < text.len() { 0 } else { left }
+}
+
+/// Searches the buffer for a text.
+pub(crate) fn search_text(bytes: &[u8], text: &[u8], passed: usize) -> Search
+    requires { IsPassed text.now bytes.now passed }
+    ensures found { MatchOption result.found (IsNowhere text.now bytes.now)
+        (λ s. IsFirstPlace text.now bytes.now s.start s.end) }
+    ensures passed { IsPassed text.now bytes.now result.passed }
+    ensures counted { result.compared ≤ 2 * length bytes.now }
+{
+    match first_place(bytes, text, passed) {
+        None => Search {
+            found: None,
+            passed: passed_by(bytes, text),
+            compared: compared_from(bytes, text, passed),
+        },
+        Some(start) => Search {
+            found: Some(Span {
+                start,
+                end: start + text.len(),
+            }),
+            passed: start,
+            compared: (start + text.len()).saturating_sub(passed),
+        },
+    }
+}
+
+/// Whether a byte of a glob stands for itself wherever it is but at the glob's start.
+fn stands_for_itself(byte: u8) -> bool
+    ensures { result ≡ word.stands_for_itself byte }
+{
+    !matches!(byte, b'*' | b'?' | b'[' | b'\\' | b'$')
+}
+
+/// The bytes at the front of a glob that stand for themselves.
+fn plain_run(glob: &[u8]) -> &[u8]
+    ensures { result.now ≡ word.plain_run glob.now }
+{
+    let mut count = 0;
+    for byte in glob {
+        if !stands_for_itself(*byte) {
+            break;
+        }
+        count += 1;
+    }
+    &glob[..count]
+}
+
+/// The glob behind the stars that it begins with.
+fn past_stars(glob: &[u8]) -> &[u8]
+    ensures { result.now ≡ word.past_stars glob.now }
+{
+    let mut rest = glob;
+    while let Some((&byte, after)) = rest.split_first() {
+        if byte != b'*' {
+            break;
+        }
+        rest = after;
+    }
+    rest
+}
+
+/// A text that stands in every match of a glob: its first bytes that stand for themselves, behind
+/// the stars that it begins with.
+pub(crate) fn front(glob: &[u8]) -> &[u8]
+    ensures { result.now ≡ word.front glob.now }
+{
+    if glob.first() == Some(&b'^') {
+        return &glob[..0];
+    }
+    plain_run(past_stars(glob))
+}
+
+/// Whether a glob begins with a star.
+fn begins_with_star(glob: &[u8]) -> bool
+    ensures { result ≡ word.begins_with_star glob.now }
+{
+    glob.first() == Some(&b'*')
+}
+
+/// Searches the buffer for a glob.
+pub(crate) fn search_glob(bytes: &[u8], glob: &[u8], passed: usize) -> Search
+    requires { IsPassed (word.front glob.now) bytes.now passed }
+    ensures found { MatchOption result.found ((s e : ℕ) → IsSpan glob.now bytes.now s e → ⊥)
+        (λ s. IsFirstSpan glob.now bytes.now s.start s.end) }
+    ensures passed { IsPassed (word.front glob.now) bytes.now result.passed }
+    ensures counted { result.compared ≤ 2 * length bytes.now }
+{
+    let front = front(glob);
+    match first_place(bytes, front, passed) {
+        None => Search {
+            found: None,
+            passed: passed_by(bytes, front),
+            compared: compared_from(bytes, front, passed),
+        },
+        Some(start) => Search {
+            found: glob_from(bytes, glob, start),
+            passed: start,
+            compared: (start + front.len())
+                .saturating_sub(passed)
+                .saturating_add(compared_behind(bytes, glob, start)),
+        },
+    }
+}
+
+/// How many bytes a search for a glob has to compare once its front was found at this place.
+fn compared_behind(bytes: &[u8], glob: &[u8], start: usize) -> usize
+    ensures { result ≤ length bytes.now }
+{
+    if begins_with_star(glob) {
+        bytes.len()
+    } else {
+        bytes.len().saturating_sub(start)
+    }
+}
+
+/// The first span of a glob whose front stands at this place first. Where no star leads, no span
+/// begins before it.
+fn glob_from(bytes: &[u8], glob: &[u8], start: usize) -> Option<Span>
+    requires { IsLeastPlace (word.front glob.now) bytes.now start }
+    ensures { MatchOption result ((s e : ℕ) → IsSpan glob.now bytes.now s e → ⊥)
+        (λ s. IsFirstSpan glob.now bytes.now s.start s.end) }
+{
+    if begins_with_star(glob) {
+        return find_glob(glob, bytes);
+    }
+    let span = find_glob(glob, &bytes[start..])?;
+    Some(Span {
+        start: start + span.start,
+        end: start + span.end,
+    })
+}
