@@ -3,3 +3,4 @@ pub mod MachineLemmas
 pub mod GatherLemmas
 pub mod ProcedureLemmas
 pub mod LoopLemmas
+pub mod ReadyLemmas

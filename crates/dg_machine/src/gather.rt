@@ -8,6 +8,7 @@ ghost use Rattle.dg_machine.specs.Meaning.{all_back, weight_of, making_on, makin
 
 use crate::frame::{Frame, Making, Pace};
 use crate::machine::{Machine, VALUE};
+use crate::variables::push_all;
 use dg_language::{Substitution, cannot_read, elements_in};
 use dg_words::Bytes;
 use std::alloc::{AllocError, Global};
@@ -169,6 +170,30 @@ impl Machine {
     {
         let word = mem::replace(&mut making.text, Bytes::new(alloc));
         making.made.push(word)?;
+        self.stack.push(Frame::Gathering { making, depth })?;
+        Ok(Pace::Moved)
+    }
+
+    /// A word ends whose elements become words.
+    #[tactic(auto, unfolding(crate::specs::Meaning::rest, crate::specs::Meaning::go, crate::specs::Meaning::weight, crate::specs::Meaning::stack_weight))]
+    fn end_list(
+        &mut self,
+        alloc: Global,
+        mut making: Making,
+        depth: u32,
+    ) -> Result<Pace, AllocError>
+        requires { self.old.control ≡ Control.Go }
+        ensures { IfOk result (λ p. Goes (with_elements (list_in making.text) self.old.state (all_back self.old.stack) (λ es. gather (evaluate depth) (making.made ++ es) making.outer [] making.left self.old.state (all_back self.old.stack))) self.old.state.known (weight_of self.old + 2 ^ 69 + 8 + 4 * length making.left) self.new p) }
+    {
+        let elements = match elements_in(alloc, making.text.as_slice())? {
+            Ok(elements) => elements,
+            Err(message) => {
+                let pace = self.fail(alloc, message)?;
+                return Ok(pace);
+            }
+        };
+        push_all(alloc, &mut making.made, elements.as_slice())?;
+        making.text = Bytes::new(alloc);
         self.stack.push(Frame::Gathering { making, depth })?;
         Ok(Pace::Moved)
     }

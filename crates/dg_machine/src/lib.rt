@@ -10,6 +10,7 @@ mod reading;
 mod results;
 mod rounds;
 mod script;
+mod variables;
 
 pub use crate::frame::{Control, Frame, Making, Pace, Rounds, Stack, Stop};
 pub use crate::machine::Machine;
