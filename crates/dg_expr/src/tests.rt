@@ -4,6 +4,7 @@ use dg_words::{Bytes, Part, Parts};
 use std::alloc::Global;
 use std::test::Fail;
 
+mod growth;
 mod rows;
 
 /// Expressions, each with its value or its fault.

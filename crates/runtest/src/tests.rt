@@ -1,4 +1,5 @@
 //! Lines, and readers and writers that fail in mid-stream.
+mod growth;
 mod requests;
 mod rows;
 mod sessions;
