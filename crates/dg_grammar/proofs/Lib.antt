@@ -5,6 +5,7 @@ pub mod ListSpelled
 pub mod Segments
 pub mod Pieces
 pub mod Between
+pub mod PartRead
 pub mod WordRead
 pub mod GoOn
 pub mod Rows
