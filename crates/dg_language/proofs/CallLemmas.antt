@@ -1,7 +1,6 @@
 -- Result calls, one after another.
 use Rattle.std.proofs.Common.{◌≡◌, ℕ, ◌+◌, ◌<◌, List, [], ◌∷◌, ◌++◌, map, take, get_or, length, ap, sym, ◌∙◌}
 use Rattle.std.proofs.lemmas.List.{map-append, take_more}
-use Rattle.dg_results.specs.Calls.{Call}
 use Rattle.dg_language.specs.declared.calls.ResultCall.{ResultCall}
 use Rattle.dg_language.specs.Calls.{call_of}
 

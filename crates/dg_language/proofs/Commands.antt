@@ -1,12 +1,11 @@
 -- The commands of a text, one after another.
-use Rattle.std.proofs.Common.{◌≡◌, ◌≢◌, ℕ, suc, zero, ◌+◌, ◌-◌, ◌<◌, ◌≤◌, List, [], ◌∷◌, length, refl, ap, sym, ◌∙◌, subst, arith}
+use Rattle.std.proofs.Common.{◌≡◌, ℕ, suc, zero, ◌-◌, ◌<◌, ◌≤◌, List, [], ◌∷◌, length, refl, ap, arith}
 use Rattle.std.specs.Prelude.{Result, Ok, Err}
 use Rattle.dg_words.specs.declared.word.Word.{Word}
 use Rattle.dg_words.specs.declared.fault.WordFault.{WordFault}
 use Rattle.dg_words.specs.Reading.{command_at}
 use Rattle.dg_words.proofs.Advance.{next_within, next_onward}
-use Rattle.dg_language.specs.declared.command.Command.{Command}
-use Rattle.dg_language.specs.declared.command.Command.TheVariants.{Words, Unreadable}
+use Rattle.dg_language.specs.declared.command.Command.TheVariants.{Words}
 use Rattle.dg_language.specs.Language.{first_commands, and_commands, commands_at}
 
 -- a bound above the bytes that are left is as good as any other

@@ -1,5 +1,5 @@
 -- Procedures: the fields of their parameters, and what their calls bind, one after another.
-use Rattle.std.proofs.Common.{◌≡◌, ℕ, ◌+◌, ◌*◌, ◌-◌, ◌^◌, ◌<◌, ◌≤◌, Bool, true, false, List, [], ◌∷◌, ◌++◌, ◌||◌, append_assoc, ◌≢◌, get_or, drop, length, ap, sym, refl, ◌∙◌, arith}
+use Rattle.std.proofs.Common.{◌≡◌, ℕ, ◌+◌, ◌<◌, ◌≤◌, Bool, true, false, List, [], ◌∷◌, ◌++◌, ◌||◌, append_assoc, ◌≢◌, get_or, drop, length, ap, sym, refl, ◌∙◌, arith}
 use Rattle.std.proofs.lemmas.List.{drop_more, drop_all, append-nil}
 use Rattle.std.proofs.lemmas.Bool.Decides.{nat_tests}
 use Rattle.std.specs.Prelude.{Option, Some, None, Result, Ok, Err, nat_lt, codes}
@@ -8,7 +8,7 @@ use Rattle.dg_words.specs.Canonical.{text_of_list}
 use Rattle.dg_language.specs.declared.procedure.Binding.{Binding}
 use Rattle.dg_language.specs.declared.procedure.Parameter.{Parameter}
 use Rattle.dg_records.specs.Play.{Play}
-use Rattle.dg_language.specs.State.{State, entered}
+use Rattle.dg_language.specs.State.{State}
 use Rattle.dg_language.specs.Evaluation.{Ending, cut, within, list_in}
 use Rattle.dg_language.specs.Procedures.{parameters, read_parameter, parameter_of, and_parameter, bindings, binding, bind_next, and_binding, value_for, collects, longest}
 

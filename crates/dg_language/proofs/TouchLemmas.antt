@@ -1,6 +1,6 @@
 -- What comes before the use of a variable.
-use Rattle.std.proofs.Common.{◌≡◌, ℕ, ◌<◌, ◌≤◌, Bool, true, false, List, length, ap, sym, ◌∙◌, refl, arith}
-use Rattle.std.specs.Prelude.{Option, Some, None, codes, nat_lt}
+use Rattle.std.proofs.Common.{◌≡◌, ℕ, ◌<◌, ◌≤◌, Bool, true, false, List, length, ap, sym, ◌∙◌, arith}
+use Rattle.std.specs.Prelude.{Some, None, codes, nat_lt}
 use Rattle.dg_scope.specs.Names.{global_name}
 use Rattle.dg_world.specs.declared.question.Question.{Question}
 use Rattle.dg_world.specs.declared.question.Question.TheVariants.{Variable}

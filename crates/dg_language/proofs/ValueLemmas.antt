@@ -1,10 +1,8 @@
 -- The steps in which words are made, part by part.
-use Rattle.std.proofs.Common.{◌≡◌, ℕ, ◌+◌, ◌<◌, List, ◌∷◌, ◌++◌, drop, get_or, length, map, ap, sym, ◌∙◌}
-use Rattle.std.proofs.lemmas.List.{drop_more, map-append}
+use Rattle.std.proofs.Common.{◌≡◌, ℕ, ◌+◌, ◌<◌, List, ◌++◌, drop, get_or, length, ap, sym, ◌∙◌}
+use Rattle.std.proofs.lemmas.List.{drop_more}
 use Rattle.dg_words.specs.Parts.{pieces_of, pieces_of_part}
 use Rattle.dg_words.specs.declared.word.Part.{Part}
-use Rattle.dg_words.specs.declared.word.Word.{Word}
-use Rattle.dg_language.specs.Language.{substitution_of, substitutions, ending_of}
 
 -- the pieces of the parts from one on
 pub pieces_of-drop : (ps : List Part) (i : ℕ) (p : Part) → i < length ps → p ≡ get_or ps i p → pieces_of (drop i ps) ≡ pieces_of_part p ++ pieces_of (drop (i + 1) ps)

@@ -1,13 +1,13 @@
 -- The commands on the course of a script: foreach(n), break(n), continue(n), return(n), error(n), catch(n).
-use Rattle.std.specs.Prelude.{◌≡◌, ℕ, suc, zero, ◌+◌, Bool, true, false, Option, Some, None, List, [], ◌∷◌, ◌++◌, length, codes, Result, Ok, Err}
+use Rattle.std.specs.Prelude.{ℕ, suc, zero, Option, Some, None, List, [], ◌∷◌, length, codes, Result, Ok, Err}
 use Rattle.dg_language.specs.declared.code.Code.{Code}
 use Rattle.dg_language.specs.declared.code.Code.TheVariants.{Done, Failed, Returned, Broken, Continued}
 use Rattle.dg_language.specs.declared.command.ControlCommand.{ControlCommand}
 use Rattle.dg_language.specs.declared.command.ControlCommand.TheVariants.{Proc, Foreach, Break, Continue, Return, Error, Catch}
 use Rattle.dg_records.specs.Play.{Play}
 use Rattle.dg_language.specs.State.{State, assigned}
-use Rattle.dg_language.specs.Evaluation.{Ending, Then, Nested, cut, tick, within, fail, if_done, loop_after, on, first_of, three_of, wrong_count, list_in}
-use Rattle.dg_language.specs.Variables.{touch, store}
+use Rattle.dg_language.specs.Evaluation.{Ending, Then, Nested, cut, tick, within, fail, loop_after, on, first_of, three_of, wrong_count, list_in}
+use Rattle.dg_language.specs.Variables.{touch}
 use Rattle.dg_language.specs.Procedures.{do_proc}
 
 abbrev pub digit_of : Code → List ℕ

@@ -1,5 +1,5 @@
 -- What every evaluation is made of: its ends, its questions, its steps and its limits.
-use Rattle.std.specs.Prelude.{◌≡◌, ℕ, ◌+◌, Bool, true, false, Option, Some, None, List, [], ◌∷◌, ◌++◌, length, nat_lt, codes, Result, Ok, Err}
+use Rattle.std.specs.Prelude.{ℕ, true, false, Option, Some, None, List, [], ◌∷◌, ◌++◌, length, nat_lt, codes, Result, Ok, Err}
 use Rattle.dg_words.specs.Elements.{elements_of}
 use Rattle.dg_words.specs.declared.fault.WordFault.{WordFault}
 use Rattle.dg_words.specs.declared.fault.WordFault.TheVariants.{MissingBrace, MissingBracket, MissingQuote, AfterBrace, AfterQuote, ListBrace, ListQuote, ListAfter, Memory, MissingParen, BadCodePoint}

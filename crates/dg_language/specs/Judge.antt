@@ -1,15 +1,12 @@
 -- What the judging of a test means.
-use Rattle.std.specs.Prelude.{◌≡◌, ℕ, Option, Some, None, List, [], ◌∷◌, ◌++◌, codes}
-use Rattle.dg_world.specs.declared.question.Question.{Question}
+use Rattle.std.specs.Prelude.{ℕ, Option, Some, None, List, ◌++◌, codes}
 use Rattle.dg_world.specs.declared.question.Question.TheVariants.{File}
 use Rattle.dg_world.specs.declared.question.Answer.{Answer}
 use Rattle.dg_world.specs.declared.question.Answer.TheVariants.{Absent, Content, Unset, Value}
-use Rattle.dg_world.specs.declared.question.Read.{Read}
 use Rattle.dg_world.specs.declared.test_id.TestId.{TestId}
 use Rattle.dg_results.specs.declared.verdict.Line.{Line}
-use Rattle.dg_language.specs.declared.code.Code.{Code}
 use Rattle.dg_language.specs.declared.code.Code.TheVariants.{Done, Failed, Returned, Broken, Continued}
-use Rattle.dg_records.specs.Play.{Play, Ends, Asks, Source, run, end_of, Gives}
+use Rattle.dg_records.specs.Play.{Play, Ends, Source, run, end_of}
 use Rattle.dg_language.specs.State.{State, fresh}
 use Rattle.dg_language.specs.Evaluation.{Ending, Then, ask, fail, ended, aborted, quoted, outside}
 use Rattle.dg_language.specs.Language.{evaluate}

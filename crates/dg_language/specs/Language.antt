@@ -1,5 +1,5 @@
 -- What the text of a script means.
-use Rattle.std.specs.Prelude.{◌≡◌, ℕ, suc, zero, ◌+◌, ◌-◌, Bool, true, false, Option, Some, None, List, [], ◌∷◌, ◌++◌, map, flat_map, length, nat_lt, nat_eq, codes, Result, Ok, Err}
+use Rattle.std.specs.Prelude.{ℕ, suc, zero, ◌+◌, ◌-◌, Bool, true, false, Option, Some, None, List, [], ◌∷◌, ◌++◌, map, length, nat_eq, codes, Result, Ok, Err}
 use Rattle.std.specs.Cmp.Lexicographic.{pointwise}
 use Rattle.std.specs.FinMap as names
 use Rattle.dg_words.specs.Piece.{Piece, Text, Variable as VariablePiece, Element, End, Command as ScriptPiece}

@@ -1,7 +1,6 @@
 -- Procedures, by proc(n): how their parameters are read, and how a call binds them.
-use Rattle.std.specs.Prelude.{◌≡◌, ℕ, ◌+◌, Bool, true, false, not, ◌&&◌, ◌||◌, Option, Some, None, List, [], ◌∷◌, ◌++◌, length, nat_lt, nat_eq, codes, Result, Ok, Err}
+use Rattle.std.specs.Prelude.{ℕ, Bool, true, false, ◌&&◌, ◌||◌, Option, Some, None, List, [], ◌∷◌, ◌++◌, length, nat_lt, nat_eq, codes, Result, Ok, Err}
 use Rattle.std.specs.Cmp.Lexicographic.{pointwise}
-use Rattle.std.specs.FinMap as map
 use Rattle.dg_words.specs.Canonical.{text_of_list}
 use Rattle.dg_scope.specs.Names.{has_index, base_of}
 use Rattle.dg_language.specs.declared.code.Code.TheVariants.{Done}

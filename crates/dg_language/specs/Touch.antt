@@ -1,5 +1,5 @@
 -- What comes before the use of a variable.
-use Rattle.std.specs.Prelude.{◌≡◌, ℕ, List, Option, Some, None, codes}
+use Rattle.std.specs.Prelude.{◌≡◌, ℕ, List, None, codes}
 use Rattle.dg_records.specs.Play.{Play, Asks, lookup}
 use Rattle.dg_language.specs.State.{State, learn}
 use Rattle.dg_language.specs.Evaluation.{Ending, cut}

@@ -1,11 +1,11 @@
 -- Ends, errors and limits.
-use Rattle.std.proofs.Common.{◌≡◌, ◌≢◌, ℕ, suc, zero, ◌+◌, ◌-◌, ◌*◌, ◌^◌, ◌<◌, ◌≤◌, Bool, true, false, List, [], ◌∷◌, ◌++◌, length, ap, sym, ◌∙◌, refl, arith}
+use Rattle.std.proofs.Common.{◌≡◌, ◌≢◌, ℕ, suc, zero, ◌+◌, ◌-◌, ◌^◌, ◌<◌, ◌≤◌, true, false, List, [], ◌∷◌, ◌++◌, length, ap, sym, ◌∙◌, refl, arith}
 use Rattle.std.proofs.lemmas.Bool.{lt-ltb}
 use Rattle.std.specs.Prelude.{nat_lt, codes}
 use Rattle.dg_results.specs.declared.verdict.Line.{Line}
 use Rattle.dg_results.specs.Lines.{lines_of, abort_lines}
 use Rattle.dg_language.specs.declared.code.Code.TheVariants.{Done, Failed}
-use Rattle.dg_records.specs.Play.{Play, Ends}
+use Rattle.dg_records.specs.Play.{Play}
 use Rattle.dg_language.specs.State.{State, stepped}
 use Rattle.dg_words.specs.declared.word.Word.{Word}
 use Rattle.dg_words.specs.declared.fault.WordFault.{WordFault}
@@ -15,13 +15,13 @@ use Rattle.dg_language.specs.declared.command.Command.TheVariants.{Words, Unread
 use Rattle.dg_language.specs.Evaluation.{Ending, Then, cut, aborted, fail, tick, if_done, fault_text}
 use Rattle.dg_language.specs.Language.{gather, substitutions, sequence, evaluate, commands_at}
 use Rattle.dg_machine.specs.declared.frame.Frame.{Frame}
-use Rattle.dg_machine.specs.declared.frame.Frame.TheVariants.{Opening, Sequence, Gathering}
+use Rattle.dg_machine.specs.declared.frame.Frame.TheVariants.{Sequence, Gathering}
 use Rattle.dg_machine.specs.declared.frame.Making.{Making}
-use Rattle.dg_machine.specs.declared.frame.Control.TheVariants.{Go, Ended}
+use Rattle.dg_machine.specs.declared.frame.Control.TheVariants.{Go}
 use Rattle.dg_machine.specs.declared.frame.Pace.{Pace}
 use Rattle.dg_machine.specs.declared.frame.Pace.TheVariants.{Moved, Stands, Over}
 use Rattle.dg_machine.specs.declared.machine.Machine.{Machine}
-use Rattle.dg_machine.specs.Meaning.{ends_with, Goes, Comes, rest, weight_of, weight, stack_weight, frame_weight, all_back, back, go}
+use Rattle.dg_machine.specs.Meaning.{ends_with, Goes, Comes, weight_of, weight, stack_weight, frame_weight, all_back, back}
 
 pub cut-ends : (why : List ℕ) (s : State) (v : List Line) → v ≡ lines_of s.calls ++ abort_lines s.test.script why → cut why s ≡ ends_with v s.steps
 unfolding cut aborted

@@ -1,11 +1,10 @@
 -- What is taken off the commands that are left.
-use Rattle.std.proofs.Common.{◌≡◌, ◌≢◌, ◌≤◌, ◌⊎◌, ◌==◌, ℕ, true, false, List, [], ◌∷◌, length, ap, sym, ◌∙◌, refl, Result, Ok, Err}
+use Rattle.std.proofs.Common.{◌≡◌, ◌≢◌, ◌≤◌, ◌==◌, ℕ, true, false, List, [], ◌∷◌, length, ap, ◌∙◌, refl, Ok, Err}
 use Rattle.std.proofs.lemmas.Bool.{eqb-true}
 use Rattle.std.proofs.lemmas.List.{nil_from_length}
 use Rattle.dg_words.specs.declared.word.Word.{Word}
 use Rattle.dg_words.specs.declared.fault.WordFault.{WordFault}
 use Rattle.dg_words.specs.Reading.{command_at}
-use Rattle.dg_language.specs.declared.command.Command.{Command}
 use Rattle.dg_language.specs.declared.command.Command.TheVariants.{Words, Unreadable}
 use Rattle.dg_language.specs.Language.{commands_at, and_commands}
 use Rattle.dg_language.proofs.Commands.{commands_at-step}

@@ -1,10 +1,9 @@
 -- What is left of an evaluation, as frames, and what a move does to it.
-use Rattle.std.specs.Prelude.{◌≡◌, ℕ, ◌+◌, ◌-◌, ◌*◌, ◌^◌, ◌<◌, List, [], ◌∷◌, ◌++◌, drop, length, Option, Some, None}
+use Rattle.std.specs.Prelude.{◌≡◌, ℕ, ◌+◌, ◌-◌, ◌*◌, ◌^◌, ◌<◌, List, [], ◌∷◌, drop, length, Option, Some, None}
 use Rattle.dg_world.specs.declared.question.Question.{Question}
 use Rattle.dg_world.specs.declared.question.Answer.{Answer}
 use Rattle.dg_world.specs.declared.question.Read.{Read}
-use Rattle.dg_language.specs.declared.code.Code.{Code}
-use Rattle.dg_language.specs.declared.code.Code.TheVariants.{Done, Failed}
+use Rattle.dg_language.specs.declared.code.Code.TheVariants.{Done}
 use Rattle.dg_results.specs.declared.verdict.Line.{Line}
 use Rattle.dg_records.specs.Play.{Play, Ends, Asks, lookup}
 use Rattle.dg_language.specs.State.{State, learn, departed}

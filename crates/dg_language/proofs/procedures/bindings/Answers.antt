@@ -1,4 +1,4 @@
-use Rattle.std.proofs.Common.{◌≡◌, ◌∙◌, sym, ap}
+use Rattle.std.proofs.Common.{◌∙◌, sym}
 use Rattle.dg_language.proofs.Choices.{empty-if, some-if}
 use Rattle.dg_language.proofs.ProcedureLemmas.{bindings-collected, bindings-without, bindings-next, bindings-done, bindings-over}
 use Rattle.dg_language.proofs.procedures.bindings.Goals as goal

@@ -1,4 +1,4 @@
-use Rattle.std.proofs.Common.{◌≡◌, ◌∙◌, sym, ap}
+use Rattle.std.proofs.Common.{◌∙◌, sym}
 use Rattle.dg_language.proofs.ProcedureLemmas.{parameters-unreadable, parameters-bad, parameters-next, parameters-past}
 use Rattle.dg_language.proofs.procedures.parameters.Goals as goal
 

@@ -1,6 +1,3 @@
-use Rattle.std.proofs.Common.{◌≡◌, ◌∙◌, ◌++◌, ◌∷◌, [], ap, sym, append_assoc, get_or, take}
-use Rattle.std.proofs.lemmas.List.{take_more, append-nil}
-use Rattle.std.proofs.lemmas.List.Folds.{concat-append}
 use Rattle.dg_machine.proofs.ReadyLemmas.{concat-more}
 use Rattle.dg_machine.proofs.variables.extend_all.Goals as goal
 

@@ -1,4 +1,4 @@
-use Rattle.std.proofs.Common.{◌≡◌, ◌∙◌, ap, sym, refl}
+use Rattle.std.proofs.Common.{◌∙◌, ap, sym}
 use Rattle.dg_language.specs.State.{bound}
 use Rattle.dg_language.proofs.StateLemmas.{bound-last}
 use Rattle.dg_language.proofs.state.State.enter.Goals as goal

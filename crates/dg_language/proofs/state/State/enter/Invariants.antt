@@ -1,6 +1,6 @@
 use Rattle.std.proofs.Common.{◌≡◌, length}
 use Rattle.dg_scope.specs.Scopes.{with_scope}
-use Rattle.dg_language.specs.State.{State, bound}
+use Rattle.dg_language.specs.State.{bound}
 use Rattle.dg_language.proofs.state.State.enter.Given as goal
 
 abbrev pub invariant-loop-name : goal.invariant-loop-name

@@ -1,4 +1,4 @@
-use Rattle.std.proofs.Common.{◌≡◌, ◌∙◌, ap, sym, refl}
+use Rattle.std.proofs.Common.{◌∙◌, sym}
 use Rattle.dg_language.proofs.StateLemmas.{linked-next, linked-past}
 use Rattle.dg_language.proofs.state.State.link_all.Goals as goal
 

@@ -1,4 +1,4 @@
-use Rattle.std.proofs.Common.{◌≡◌, ◌∙◌, sym, refl, subst, ◌<◌, ◌≤◌}
+use Rattle.std.proofs.Common.{◌∙◌, sym, refl, subst, ◌<◌, ◌≤◌}
 use Rattle.dg_language.specs.State.{began, began_with}
 use Rattle.dg_language.proofs.TouchLemmas.{touch-free, touch-asks, touch-begins, touch-begins-with, touch-too-long}
 use Rattle.dg_language.proofs.state.State.touch.Goals as goal

@@ -1,4 +1,4 @@
-use Rattle.std.proofs.Common.{◌≡◌, refl, arith}
+use Rattle.std.proofs.Common.{refl, arith}
 use Rattle.dg_machine.specs.Meaning.{back, all_back}
 use Rattle.dg_machine.proofs.MachineLemmas.{Goes-along, weight-cons}
 use Rattle.dg_machine.proofs.machine.Machine.begin_body.Goals as goal

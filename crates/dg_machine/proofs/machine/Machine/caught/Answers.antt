@@ -1,4 +1,4 @@
-use Rattle.std.proofs.Common.{◌≡◌, refl, sym}
+use Rattle.std.proofs.Common.{refl}
 use Rattle.dg_machine.specs.Meaning.{rest, all_back, back}
 use Rattle.dg_machine.proofs.LoopLemmas.{caught-asks}
 use Rattle.dg_machine.proofs.machine.Machine.caught.Goals as goal

@@ -1,4 +1,4 @@
-use Rattle.std.proofs.Common.{◌≡◌, ap, ◌∙◌, ◌++◌}
+use Rattle.std.proofs.Common.{ap, ◌∙◌, ◌++◌}
 use Rattle.dg_results.specs.Lines.{lines_of, abort_lines}
 use Rattle.dg_machine.proofs.MachineLemmas.{cut-ends}
 use Rattle.dg_machine.proofs.machine.Machine.cut.Goals as goal

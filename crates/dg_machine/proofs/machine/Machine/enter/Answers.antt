@@ -1,5 +1,5 @@
-use Rattle.std.proofs.Common.{◌≡◌, ◌+◌, ◌<◌, ◌∷◌, ◌∙◌, refl, sym, arith}
-use Rattle.dg_machine.specs.Meaning.{go, rest, weight_of}
+use Rattle.std.proofs.Common.{◌∙◌, refl, arith}
+use Rattle.dg_machine.specs.Meaning.{go, rest}
 use Rattle.dg_machine.proofs.MachineLemmas.{evaluate-none, evaluate-inside, weight-cons}
 use Rattle.dg_machine.proofs.machine.Machine.enter.Goals as goal
 

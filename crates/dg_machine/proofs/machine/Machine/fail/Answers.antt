@@ -1,5 +1,5 @@
-use Rattle.std.proofs.Common.{rules, ◌≡◌, ◌∙◌, ◌<◌, ◌≤◌, ap, sym, refl, subst, length, arith}
-use Rattle.dg_machine.specs.Meaning.{rest, weight, all_back, ends_with}
+use Rattle.std.proofs.Common.{◌∙◌, ◌<◌, ◌≤◌, sym, refl, subst, arith}
+use Rattle.dg_machine.specs.Meaning.{rest, weight}
 use Rattle.dg_machine.proofs.MachineLemmas.{fail-long, fail-short}
 use Rattle.dg_machine.proofs.machine.Machine.fail.Goals as goal
 

@@ -1,4 +1,4 @@
-use Rattle.std.proofs.Common.{◌≡◌, ◌∙◌, refl, sym, ap, arith}
+use Rattle.std.proofs.Common.{◌∙◌, refl, sym, ap, arith}
 use Rattle.std.specs.Prelude.{Ok}
 use Rattle.dg_machine.proofs.ScriptLemmas.{empty-if}
 use Rattle.dg_machine.proofs.MachineLemmas.{Goes-along}

@@ -1,4 +1,4 @@
-use Rattle.std.proofs.Common.{◌≡◌, ◌≤◌, ◌<◌, refl, sym, ap, length, arith}
+use Rattle.std.proofs.Common.{◌≤◌, ◌<◌, refl, ap, length, arith}
 use Rattle.dg_machine.specs.declared.machine.Machine.{Machine}
 use Rattle.dg_machine.specs.Meaning.{rest, go}
 use Rattle.dg_machine.proofs.MachineLemmas.{Goes-comes}

@@ -1,4 +1,4 @@
-use Rattle.std.proofs.Common.{◌≡◌, ◌<◌, ◌≤◌, ◌∙◌, refl, sym, ap, subst, length, arith}
+use Rattle.std.proofs.Common.{◌<◌, ◌≤◌, ◌∙◌, refl, sym, ap, subst, length, arith}
 use Rattle.dg_machine.specs.Meaning.{rest, go}
 use Rattle.dg_language.proofs.TouchLemmas.{within-short, within-long}
 use Rattle.dg_machine.proofs.LoopLemmas.{weight-assigned, known-assigned}

@@ -1,4 +1,4 @@
-use Rattle.std.proofs.Common.{◌≡◌, ◌<◌, ◌≤◌, ◌∙◌, refl, sym, subst, arith}
+use Rattle.std.proofs.Common.{◌<◌, ◌≤◌, ◌∙◌, refl, sym, subst, arith}
 use Rattle.dg_language.specs.State.{assigned}
 use Rattle.dg_machine.specs.Meaning.{rest, weight}
 use Rattle.dg_language.proofs.TouchLemmas.{within-short, within-long}

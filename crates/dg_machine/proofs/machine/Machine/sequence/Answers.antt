@@ -1,7 +1,5 @@
-use Rattle.std.proofs.Common.{◌≡◌, ◌+◌, ◌<◌, ◌≤◌, ◌∷◌, ◌∙◌, refl, sym, ap, subst, arith}
-use Rattle.dg_machine.specs.Script.{Takes}
-use Rattle.dg_machine.specs.declared.frame.Control.TheVariants.{Go}
-use Rattle.dg_machine.specs.Meaning.{go, rest, weight, weight_of, all_back}
+use Rattle.std.proofs.Common.{◌∙◌, refl, sym, arith}
+use Rattle.dg_machine.specs.Meaning.{go, rest, weight}
 use Rattle.dg_machine.proofs.MachineLemmas.{sequence-done, sequence-unreadable, sequence-next, sequence-cut, weight-begun, known-stepped, Goes-along}
 use Rattle.dg_machine.proofs.machine.Machine.sequence.Goals as goal
 

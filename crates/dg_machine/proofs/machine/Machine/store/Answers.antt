@@ -1,4 +1,4 @@
-use Rattle.std.proofs.Common.{◌≡◌, ◌∙◌, ap, sym, refl, subst, ◌<◌, ◌≤◌, arith, length}
+use Rattle.std.proofs.Common.{◌∙◌, sym, refl, subst, ◌<◌, ◌≤◌, arith}
 use Rattle.dg_language.specs.State.{assigned}
 use Rattle.dg_language.specs.Variables.{store}
 use Rattle.dg_machine.specs.Meaning.{rest, weight}

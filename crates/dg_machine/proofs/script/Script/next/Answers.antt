@@ -1,4 +1,4 @@
-use Rattle.std.proofs.Common.{rules, ◌≡◌, ◌≢◌, ◌⊎◌, ◌∷◌, [], ◌∙◌, sym, ap, subst, arith, inl, inr, true≢false, true, false, length}
+use Rattle.std.proofs.Common.{◌≡◌, ◌∙◌, sym, ap, subst, inl, inr, true≢false}
 use Rattle.std.specs.Prelude.{Ok, Err}
 use denote.Enum.Bare.{sameb}
 use Rattle.dg_words.specs.contracts.fault.WordFault.{the_type}
