@@ -36,6 +36,11 @@ Outermost level.Top = Unit {0}
 Outermost level.List = Unit {0}
 Outermost l = ⊥
 
+-- within brackets any reading may be
+abbrev pub OutermostIn : Level → List Outer → Type 0
+OutermostIn l [] = Outermost l
+OutermostIn l (o ∷ os) = Unit {0}
+
 -- where commands are read
 abbrev pub HasCommands : Level → Type 0
 HasCommands level.Top = Unit {0}
@@ -50,7 +55,7 @@ pub record WordEnds (l : Level) (inner : List Outer) (m : Mode) (e : Deed) (pair
   pub backslash : turn (level_in l inner) false m class.Backslash 92 ≡ goes pair
   pub newline : turn (level_in l inner) false pair class.Newline 10 ≡ does e (next.To mode.Gap)
 
-gap_backslash : (l : Level) (b : ℕ) → turn l false mode.Gap class.Backslash b ≡ goes mode.GapPair
+pub gap_backslash : (l : Level) (b : ℕ) → turn l false mode.Gap class.Backslash b ≡ goes mode.GapPair
 unfolding turn
 gap_backslash level.Top b = refl
 gap_backslash level.List b = refl
@@ -101,7 +106,7 @@ abbrev SameTurn : Level → List Outer → Mode → Deed → Class → Type 0
 SameTurn l inner m e c = (b : ℕ) (d : Draft) → ends_word (level_in l inner) c ≡ true →
     take_turn (turn (level_in l inner) false m c b) 0 inner d b ≡ take_turn (turn (level_in l inner) false mode.Gap c b) 0 inner (does_in inner e d) b
 
-bare_turns : (l : Level) (inner : List Outer) (c : Class) → Outermost l → SameTurn l inner (mode.In spot.Bare) deed.Word c
+bare_turns : (l : Level) (inner : List Outer) (c : Class) → OutermostIn l inner → SameTurn l inner (mode.In spot.Bare) deed.Word c
 unfolding turn
 bare_turns level.Top [] class.Blank o = λ b d h. refl
 bare_turns level.Top [] class.Newline o = λ b d h. refl
@@ -118,7 +123,7 @@ bare_turns l (p ∷ ps) class.Semicolon o = λ b d h. refl
 bare_turns l (p ∷ ps) class.RightBracket o = λ b d h. refl
 bare_turns l (p ∷ ps) c o = λ b d h. absurd cc
 
-star_turns : (l : Level) (inner : List Outer) (c : Class) → Outermost l → SameTurn l inner mode.BehindStar deed.Word c
+star_turns : (l : Level) (inner : List Outer) (c : Class) → OutermostIn l inner → SameTurn l inner mode.BehindStar deed.Word c
 unfolding turn
 star_turns level.Top [] class.Blank o = λ b d h. refl
 star_turns level.Top [] class.Newline o = λ b d h. refl
@@ -135,7 +140,7 @@ star_turns l (p ∷ ps) class.Semicolon o = λ b d h. refl
 star_turns l (p ∷ ps) class.RightBracket o = λ b d h. refl
 star_turns l (p ∷ ps) c o = λ b d h. absurd cc
 
-behind_turns : (k : Delimiter) (l : Level) (inner : List Outer) (c : Class) → Outermost l → SameTurn l inner (mode.Behind k) deed.Nothing c
+behind_turns : (k : Delimiter) (l : Level) (inner : List Outer) (c : Class) → OutermostIn l inner → SameTurn l inner (mode.Behind k) deed.Nothing c
 unfolding turn
 behind_turns k level.Top [] class.Blank o = λ b d h. refl
 behind_turns k level.Top [] class.Newline o = λ b d h. refl
@@ -152,10 +157,6 @@ behind_turns k l (p ∷ ps) class.Semicolon o = λ b d h. refl
 behind_turns k l (p ∷ ps) class.RightBracket o = λ b d h. refl
 behind_turns k l (p ∷ ps) c o = λ b d h. absurd cc
 
-abbrev outer_level : Level → List Outer → Type 0
-outer_level l [] = Outermost l
-outer_level l (o ∷ os) = Unit {0}
-
 star_backslash : (l : Level) → turn l false mode.BehindStar class.Backslash 92 ≡ goes mode.StarPair
 unfolding turn
 star_backslash level.Top = refl
@@ -163,7 +164,7 @@ star_backslash level.List = refl
 star_backslash level.Inside = refl
 star_backslash level.Alone = refl
 
-behind_backslash : (l : Level) (inner : List Outer) (k : Delimiter) → Outermost l → turn (level_in l inner) false (mode.Behind k) class.Backslash 92 ≡ goes (mode.BehindPair k)
+behind_backslash : (l : Level) (inner : List Outer) (k : Delimiter) → OutermostIn l inner → turn (level_in l inner) false (mode.Behind k) class.Backslash 92 ≡ goes (mode.BehindPair k)
 unfolding turn
 behind_backslash level.Top [] k o = refl
 behind_backslash level.List [] k o = refl
@@ -171,7 +172,7 @@ behind_backslash level.Inside [] k o = absurd o
 behind_backslash level.Alone [] k o = absurd o
 behind_backslash l (p ∷ ps) k o = refl
 
-pub bare_ends : (l : Level) (inner : List Outer) → Outermost l → WordEnds l inner (mode.In spot.Bare) deed.Word (mode.Pair spot.Bare)
+pub bare_ends : (l : Level) (inner : List Outer) → OutermostIn l inner → WordEnds l inner (mode.In spot.Bare) deed.Word (mode.Pair spot.Bare)
 unfolding turn
 bare_ends l inner o = record {
   stops = bare_stops inner;
@@ -180,11 +181,11 @@ bare_ends l inner o = record {
   newline = refl;
 }
 
-pub star_ends : (l : Level) (inner : List Outer) → Outermost l → WordEnds l inner mode.BehindStar deed.Word mode.StarPair
+pub star_ends : (l : Level) (inner : List Outer) → OutermostIn l inner → WordEnds l inner mode.BehindStar deed.Word mode.StarPair
 unfolding turn
 star_ends l inner o = record { stops = star_stops inner; turns = λ c. star_turns l inner c o; backslash = star_backslash (level_in l inner); newline = refl }
 
-pub behind_ends : (l : Level) (inner : List Outer) (k : Delimiter) → Outermost l → WordEnds l inner (mode.Behind k) deed.Nothing (mode.BehindPair k)
+pub behind_ends : (l : Level) (inner : List Outer) (k : Delimiter) → OutermostIn l inner → WordEnds l inner (mode.Behind k) deed.Nothing (mode.BehindPair k)
 unfolding turn
 behind_ends l inner k o = record { stops = behind_stops inner k; turns = λ c. behind_turns k l inner c o; backslash = behind_backslash l inner k o; newline = refl }
 
@@ -214,7 +215,7 @@ seg_gap l inner after t (words.Gap.joined_line {t = u} g) =
     seg_both l inner after mode.Gap mode.Gap mode.Gap 0 0 0 (92 ∷ 10 ∷ []) u same same (seg_gap_line l inner (u ++ after)) (seg_gap l inner after u g)
 
 -- before a command
-skip_turn : (l : Level) (c : Class) (b : ℕ) → HasCommands l → skipped c ≡ true → turn l false mode.Start c b ≡ goes mode.Start
+pub skip_turn : (l : Level) (c : Class) (b : ℕ) → HasCommands l → skipped c ≡ true → turn l false mode.Start c b ≡ goes mode.Start
 unfolding turn
 skip_turn level.Top class.Blank b o h = refl
 skip_turn level.Top class.Newline b o h = refl
@@ -227,25 +228,25 @@ skip_turn level.Inside c b o h = absurd cc
 skip_turn level.List c b o h = absurd o
 skip_turn level.Alone c b o h = absurd o
 
-start_backslash : (l : Level) (b : ℕ) → turn l false mode.Start class.Backslash b ≡ goes mode.StartPair
+pub start_backslash : (l : Level) (b : ℕ) → turn l false mode.Start class.Backslash b ≡ goes mode.StartPair
 unfolding turn
 start_backslash level.Top b = refl
 start_backslash level.List b = refl
 start_backslash level.Inside b = refl
 start_backslash level.Alone b = refl
 
-start_hash : (l : Level) (b : ℕ) → HasCommands l → turn l false mode.Start class.Hash b ≡ goes mode.Comment
+pub start_hash : (l : Level) (b : ℕ) → HasCommands l → turn l false mode.Start class.Hash b ≡ goes mode.Comment
 unfolding turn
 start_hash level.Top b o = refl
 start_hash level.List b o = absurd o
 start_hash level.Inside b o = refl
 start_hash level.Alone b o = absurd o
 
-hash_is : class_of 35 ≡ class.Hash
+pub hash_is : class_of 35 ≡ class.Hash
 unfolding class_of
 hash_is = refl
 
-comment_turn : (c : Class) → plain_comment c ≡ true → in_comment c ≡ goes mode.Comment
+pub comment_turn : (c : Class) → plain_comment c ≡ true → in_comment c ≡ goes mode.Comment
 comment_turn class.Newline h = absurd cc
 comment_turn class.Backslash h = absurd cc
 comment_turn c h = refl
@@ -324,17 +325,17 @@ plain_braced_turn deep class.Backslash b e = absurd cc
 plain_braced_turn true c b e = refl
 plain_braced_turn false c b e = refl
 
-braced_backslash : (deep : Bool) → in_braced deep class.Backslash 92 ≡ goes mode.BracedPair
-braced_backslash true = refl
-braced_backslash false = refl
+pub braced_backslash : (deep : Bool) (b : ℕ) → in_braced deep class.Backslash b ≡ goes mode.BracedPair
+braced_backslash true b = refl
+braced_backslash false b = refl
 
 braced_pair_turn : (c : Class) (b : ℕ) → c ≢ class.Newline → in_braced_pair c b ≡ behind_deed (deed.Byte 92) (puts b mode.Braced)
 braced_pair_turn class.Newline b n = absurd (n refl)
 braced_pair_turn c b n = refl
 
-braced_close : (deep : Bool) → deep ≡ true → in_braced deep class.Close 125 ≡ does (deed.Byte 125) next.Shallower
-braced_close true h = refl
-braced_close false h = absurd cc
+pub braced_close : (deep : Bool) (b : ℕ) → deep ≡ true → in_braced deep class.Close b ≡ does (deed.Byte b) next.Shallower
+braced_close true b h = refl
+braced_close false b h = absurd cc
 
 deeper : (inner : List Outer) (n : ℕ) (d : Draft) → take_turn (does (deed.Byte 123) next.Deeper) n inner d 123 ≡ Go (at inner mode.Braced (n + 1) (moved inner (123 ∷ []) (add (123 ∷ [])) d))
 deeper [] n d = refl
@@ -351,13 +352,13 @@ seg_open l inner after n = λ d. lead_one l after _ _ 123 (step_by l (at inner m
 seg_close : (l : Level) (inner : List Outer) (after : List ℕ) (n : ℕ) → Seg l inner after mode.Braced (n + 1) (125 ∷ []) (add (125 ∷ [])) mode.Braced n
 unfolding turn
 seg_close l inner after n = λ d. lead_one l after _ _ 125
-    (step_by l (at inner mode.Braced (n + 1) d) 125 class.Close (does (deed.Byte 125) next.Shallower) close_is (braced_close (nat_lt 0 (n + 1)) (lt-ltb 0 (n + 1) (omega arith))) ∙ shallower inner n d)
+    (step_by l (at inner mode.Braced (n + 1) d) 125 class.Close (does (deed.Byte 125) next.Shallower) close_is (braced_close (nat_lt 0 (n + 1)) 125 (lt-ltb 0 (n + 1) (omega arith))) ∙ shallower inner n d)
 
 no_space_both : (t u : List ℕ) → begins_with_space t ≡ false → begins_with_space u ≡ false → begins_with_space (t ++ u) ≡ false
 no_space_both [] u h e = e
 no_space_both (b ∷ bs) u h e = h
 
-join_read : (l : Level) (inner : List Outer) (after : List ℕ) (n : ℕ) (d : Draft) (p : ℕ) → begins_with_space after ≡ false → read l after (at inner mode.BracedJoin n d) p ≡ read l after (at inner mode.Braced n d) p
+pub join_read : (l : Level) (inner : List Outer) (after : List ℕ) (n : ℕ) (d : Draft) (p : ℕ) → begins_with_space after ≡ false → read l after (at inner mode.BracedJoin n d) p ≡ read l after (at inner mode.Braced n d) p
 unfolding turn stop ends
 join_read l inner [] n d p h = read_end l _ _ p refl
 join_read l inner (b ∷ bs) n d p h =
@@ -370,7 +371,7 @@ seg_braced_join l [] after n h = λ d. lead_same l after _ _ (λ p. join_read l 
 seg_braced_join l (o ∷ os) after n h = λ d.
     subst (λ x. Leads l after (at (o ∷ os) mode.BracedJoin n d) [] (at (o ∷ os) mode.Braced n x)) (sym (add_none d)) (lead_same l after _ _ (λ p. join_read l (o ∷ os) after n d p h))
 
-braced_space : (deep : Bool) (c : Class) (b : ℕ) → is_space b ≡ true → in_braced_join deep c b ≡ goes mode.BracedJoin
+pub braced_space : (deep : Bool) (c : Class) (b : ℕ) → is_space b ≡ true → in_braced_join deep c b ≡ goes mode.BracedJoin
 braced_space deep c b h = ap (λ x. cond x (goes mode.BracedJoin) (in_braced deep c b)) h
 
 seg_braced_spaces : (l : Level) (inner : List Outer) (after g : List ℕ) (n : ℕ) → each is_space g ≡ true → begins_with_space after ≡ false → Seg l inner after mode.BracedJoin n g same mode.Braced n
@@ -391,14 +392,14 @@ seg_braced l inner after n t v e (words.Braced.byte {t = u} {v = x} b h i) =
 seg_braced l inner after n t v e (words.Braced.pair {t = u} {v = x} b h i) =
     seg_as l inner after mode.Braced mode.Braced n n (92 ∷ b ∷ u) (λ d. add x (add (b ∷ []) (add (92 ∷ []) d))) (add (92 ∷ b ∷ x)) (λ d. ap (add x) (add_add (92 ∷ []) (b ∷ []) d) ∙ add_add (92 ∷ b ∷ []) x d)
     (seg_then l inner after mode.Braced mode.BracedPair mode.Braced n n n 92 (b ∷ u) same (λ d. add x (add (b ∷ []) (add (92 ∷ []) d)))
-    (seg_one l inner (b ∷ u ++ after) mode.Braced mode.BracedPair n 92 class.Backslash deed.Nothing deed.Nothing backslash_is (braced_backslash (nat_lt 0 n)))
+    (seg_one l inner (b ∷ u ++ after) mode.Braced mode.BracedPair n 92 class.Backslash deed.Nothing deed.Nothing backslash_is (braced_backslash (nat_lt 0 n) 92))
     (seg_then l inner after mode.BracedPair mode.Braced mode.Braced n n n b u (λ d. add (b ∷ []) (add (92 ∷ []) d)) (add x)
     (seg_one l inner (u ++ after) mode.BracedPair mode.Braced n b (class_of b) (deed.Byte 92) (deed.Byte b) refl (braced_pair_turn (class_of b) b (λ z. h (is_class b class.Newline z))))
     (seg_braced l inner after n u x e i)))
 seg_braced l inner after n t v e (words.Braced.joined_line {t = u} {v = x} g s i) =
     seg_as l inner after mode.Braced mode.Braced n n (92 ∷ 10 ∷ g ++ u) (λ d. add x (add (32 ∷ []) d)) (add (32 ∷ x)) (λ d. add_add (32 ∷ []) x d)
     (seg_then l inner after mode.Braced mode.BracedPair mode.Braced n n n 92 (10 ∷ g ++ u) same (λ d. add x (add (32 ∷ []) d))
-    (seg_one l inner (10 ∷ g ++ u ++ after) mode.Braced mode.BracedPair n 92 class.Backslash deed.Nothing deed.Nothing backslash_is (braced_backslash (nat_lt 0 n)))
+    (seg_one l inner (10 ∷ g ++ u ++ after) mode.Braced mode.BracedPair n 92 class.Backslash deed.Nothing deed.Nothing backslash_is (braced_backslash (nat_lt 0 n) 92))
     (seg_then l inner after mode.BracedPair mode.BracedJoin mode.Braced n n n 10 (g ++ u) (add (32 ∷ [])) (add x)
     (seg_one l inner (g ++ u ++ after) mode.BracedPair mode.BracedJoin n 10 class.Newline deed.Nothing (deed.Byte 32) newline_is refl)
     (seg_both l inner after mode.BracedJoin mode.Braced mode.Braced n n n g u same (add x)

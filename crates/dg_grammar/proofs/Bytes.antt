@@ -1,9 +1,11 @@
--- Which byte a class is.
-use Rattle.std.specs.Prelude.{◌≡◌, ℕ, Bool, true, false, cond}
-use Rattle.std.proofs.Common.{subst}
+-- Which byte a class is, and whether a text has a byte.
+use Rattle.std.specs.Prelude.{◌≡◌, ◌≢◌, ℕ, List, [], ◌∷◌, Bool, true, false, cond, ◌⊎◌}
+use Rattle.std.proofs.Common.{inl, inr, ap, subst}
+use Rattle.std.proofs.lemmas.Bool.Decides.{eqb_tells}
 use Rattle.dg_words.specs.declared.kinds.Class.{Class}
 use Rattle.dg_words.specs.declared.kinds.Class.TheVariants as class
 use Rattle.dg_words.specs.Classes.{class_of, is_name}
+use Rattle.dg_grammar.specs.Saying.{Has}
 use Rattle.dg_grammar.proofs.Numbers.{test}
 
 abbrev pub Is : ℕ → Class → Type 0
@@ -39,3 +41,18 @@ byte_is b =
 -- a byte of a class is that byte
 pub is_class : (b : ℕ) (c : Class) → class_of b ≡ c → Is b c
 is_class b c e = subst (Is b) e (byte_is b)
+
+-- a byte that a text has, or has not
+abbrev pub Without : ℕ → List ℕ → Type 0
+Without k [] = Unit {0}
+Without k (b ∷ bs) = (b ≢ k) × Without k bs
+
+pub has_or : (k : ℕ) (more : List ℕ) → Has k more ⊎ Without k more
+has_or k [] = inr tt
+has_or k (b ∷ bs) = elim (eqb_tells b k) [
+  | inl x ↦ inl (record { front = []; rest = bs; split = ap (λ y. y ∷ bs) x.1 })
+  | inr x ↦ elim (has_or k bs) [
+    | inl y ↦ inl (record { front = b ∷ y.front; rest = y.rest; split = ap (λ z. b ∷ z) y.split })
+    | inr y ↦ inr (x.1, y)
+  ]
+]

@@ -1,5 +1,5 @@
--- What stands before a fault can go on.
-use Rattle.std.specs.Prelude.{◌≡◌, ℕ, zero, suc, ◌+◌, ◌-◌, ◌*◌, ◌≤◌, ◌<◌, List, [], ◌∷◌, ◌++◌, length, refl, Ok, Err, Result, Bool, true, false, Option, None, Some, cond, nat_lt, nat_le, ◌==◌, ◌⊎◌}
+-- From each state that a reading comes to, some bytes end it well.
+use Rattle.std.specs.Prelude.{◌≡◌, ℕ, zero, suc, ◌+◌, ◌-◌, ◌*◌, ◌≤◌, ◌<◌, List, [], ◌∷◌, refl, Ok, Bool, true, false, Option, None, Some, cond, nat_lt, nat_le, ◌==◌, ◌⊎◌}
 use Rattle.std.proofs.Common.{inl, inr, ◌∙◌, ap, sym, arith, subst}
 use Rattle.std.proofs.lemmas.Bool.{lt-ltb, ltb-true, le-leb}
 use Rattle.std.proofs.lemmas.Bool.Decides.{leb_tells}
@@ -30,12 +30,11 @@ use Rattle.dg_words.specs.declared.kinds.Turn.{Turn}
 use Rattle.dg_words.specs.declared.word.Word.{Word}
 use Rattle.dg_words.specs.Classes.{class_of, heard}
 use Rattle.dg_words.specs.Turns.{behind, behind_deed, behind_number, behind_pair, behind_star, counted, digits_of, does, ends, escaped, goes, in_bare, in_brace_first, in_brace_star, in_braced, in_braced_pair, in_colon, in_comment, in_dollar, in_gap, in_gap_pair, in_name, in_name_brace, in_operand, in_pair, in_spot, in_star_pair, in_start, in_start_pair, is_space, letter_of, most_of, numbered, puts, turn, whole, with_digit, written}
-use Rattle.dg_words.specs.Machine.{Answer, Draft, Go, Fails, Over, Move, State, add, close, open_index, close_index, follow, follow_inside, fresh, has_room, leaves, leaves_index, level_in, onward, opens, perform, read, spot_of, step, stop, stopped, take_turn}
+use Rattle.dg_words.specs.Machine.{Draft, Go, Over, Move, State, add, close, open_index, close_index, follow, follow_inside, has_room, leaves, leaves_index, level_in, onward, opens, perform, read, spot_of, step, stop, stopped, take_turn}
 use Rattle.dg_grammar.specs.Escapes.{stands_for}
-use Rattle.dg_grammar.specs.Continuing.{CanGoOn}
 use Rattle.dg_grammar.proofs.Numbers.{Paired, paired, number, digit_some, digit_fits, octal_small}
 use Rattle.dg_grammar.proofs.ListRead.{newline_is, quote_is}
-use Rattle.dg_grammar.proofs.Segments.{at, Leads, lead_one, lead_none, lead_both, step_by, taken_to}
+use Rattle.dg_grammar.proofs.Segments.{at, step_by, taken_to}
 use Rattle.dg_grammar.proofs.Pieces.{close_is, right_bracket_is, right_paren_is}
 
 -- A number that digits or another byte can end.
@@ -51,14 +50,14 @@ abbrev Limited : Escape → ℕ → ℕ → Type 0
 Limited Short left v = v < short_limit left
 Limited e left v = Unit {0}
 
-abbrev Good : kinds.Digits → Type 0
+abbrev pub Good : kinds.Digits → Type 0
 Good n = (1 ≤ n.left) × (n.value ≤ most_of n.escape) × Limited n.escape n.left n.value
 
-abbrev Fine : Mode → Type 0
+abbrev pub Fine : Mode → Type 0
 Fine (mode.Number s n) = Good n
 Fine m = Unit {0}
 
-abbrev FineNext : Next → Type 0
+abbrev pub FineNext : Next → Type 0
 FineNext (next.To m) = Fine m
 FineNext n = Unit {0}
 
@@ -111,7 +110,7 @@ fine_paired s b v t (Paired.letter Short n h) = (omega arith, omega arith, omega
 fine_paired s b v t (Paired.letter Long n h) = (omega arith, omega arith, tt)
 fine_paired s b v t (Paired.eight h) = (omega arith, octal_small b h, tt)
 
-fine_escaped : (s : Spot) (b : ℕ) → FineNext (escaped s b).next
+pub fine_escaped : (s : Spot) (b : ℕ) → FineNext (escaped s b).next
 fine_escaped s b = fine_paired s b (stands_for b) (escaped s b) (paired s b)
 
 fine_pair : (s : Spot) (c : Class) (b : ℕ) → FineNext (in_pair s c b).next
@@ -145,7 +144,7 @@ fine_operand class.LeftBracket = tt
 fine_operand class.Dollar = tt
 fine_operand c = tt
 
-fine_if : (x : Bool) (t u : Turn) → FineNext t.next → FineNext u.next → FineNext (cond x t u).next
+pub fine_if : (x : Bool) (t u : Turn) → FineNext t.next → FineNext u.next → FineNext (cond x t u).next
 fine_if true t u h k = h
 fine_if false t u h k = k
 
@@ -169,7 +168,7 @@ fine_name_brace : (s : Spot) (c : Class) (b : ℕ) → FineNext (in_name_brace s
 fine_name_brace s class.Close b = tt
 fine_name_brace s c b = tt
 
-fine_behind_number : (r : Option Deed) (t : Turn) → FineNext t.next → FineNext (behind_number r t).next
+pub fine_behind_number : (r : Option Deed) (t : Turn) → FineNext t.next → FineNext (behind_number r t).next
 fine_behind_number (Some d) t h = h
 fine_behind_number None t h = tt
 
@@ -191,7 +190,7 @@ limited Short left v b w h k = short left k
     short (suc (suc zero)) k = omega (arith, told, digit)
     short (suc (suc (suc n))) k = absurd (omega arith)
 
-fine_counted : (s : Spot) (e : Escape) (left v b w : ℕ) → with_digit (number e left v) b ≡ Some w → Good (number e left v) → FineNext (counted s e left w).next
+pub fine_counted : (s : Spot) (e : Escape) (left v b w : ℕ) → with_digit (number e left v) b ≡ Some w → Good (number e left v) → FineNext (counted s e left w).next
 fine_counted s e zero v b w h g = tt
 fine_counted s e (suc zero) v b w h g = fine_behind_number (written e w) (goes (mode.In s)) tt
 fine_counted s e (suc (suc left)) v b w h g = (omega arith, (digit_some e (suc (suc left)) v b w h).2, limited e left v b w h g.2)
@@ -272,7 +271,7 @@ fine_turn l deep mode.BracedJoin c b h = fine_if (is_space b) (goes mode.BracedJ
 fine_turn l deep (mode.Behind k) c b h = fine_after l k (heard l c)
 fine_turn l deep (mode.BehindPair k) c b h = fine_after_pair k c
 
-abbrev FineMove : Move → Type 0
+abbrev pub FineMove : Move → Type 0
 FineMove (Go s) = Fine s.mode
 FineMove m = Unit {0}
 
@@ -315,129 +314,135 @@ fine_take : (t : Turn) (n : ℕ) (os : List Outer) (d : Draft) (b : ℕ) → Fin
 fine_take t n [] d b h = fine_follow t.next n (perform t.second (perform t.first d)) h
 fine_take t n (o ∷ os) d b h = fine_inside t.next n (o ∷ os) d b h
 
-fine_step : (l : Level) (s : State) (b : ℕ) → Fine s.mode → FineMove (step l s b)
+pub fine_step : (l : Level) (s : State) (b : ℕ) → Fine s.mode → FineMove (step l s b)
 unfolding step
 fine_step l s b h = fine_take (turn (level_in l s.inner) (nat_lt 0 s.depth) s.mode (class_of b) b) s.depth s.inner s.draft b (fine_turn (level_in l s.inner) (nat_lt 0 s.depth) s.mode (class_of b) b h)
 
 -- Bytes behind which a command is read.
-record Closing (s : State) : Type 0 where
-  bytes : List ℕ
-  words : List Word
-  closes : (p : ℕ) → (q : ℕ) × (read level.Top bytes s p ≡ Ok (words, q))
+pub record Closing (l : Level) (s : State) : Type 0 where
+  pub bytes : List ℕ
+  pub words : List Word
+  pub closes : (p : ℕ) → (q : ℕ) × (read l bytes s p ≡ Ok (words, q))
 
-by_step : (s n : State) (b : ℕ) → step level.Top s b ≡ Go n → Closing n → Closing s
+by_step : (l : Level) (s n : State) (b : ℕ) → step l s b ≡ Go n → Closing l n → Closing l s
 unfolding read
-by_step s n b e c = record {
+by_step l s n b e c = record {
   bytes = b ∷ c.bytes;
   words = c.words;
-  closes = λ p. let x = c.closes (p + 1) in (x.0, ap (λ m. onward m p (λ k. read level.Top c.bytes k (p + 1))) e ∙ x.1);
+  closes = λ p. let x = c.closes (p + 1) in (x.0, ap (λ m. onward m p (λ k. read l c.bytes k (p + 1))) e ∙ x.1);
 }
 
-by_over : (s : State) (b : ℕ) (ws : List Word) (k : ℕ) → step level.Top s b ≡ Over ws k → Closing s
+by_over : (l : Level) (s : State) (b : ℕ) (ws : List Word) (k : ℕ) → step l s b ≡ Over ws k → Closing l s
 unfolding read
-by_over s b ws k e = record { bytes = b ∷ []; words = ws; closes = λ p. (p + k, ap (λ m. onward m p (λ n. read level.Top [] n (p + 1))) e) }
+by_over l s b ws k e = record { bytes = b ∷ []; words = ws; closes = λ p. (p + k, ap (λ m. onward m p (λ n. read l [] n (p + 1))) e) }
 
-by_stop : (s : State) (ws : List Word) → stop s ≡ Ok ws → Closing s
+by_stop : (l : Level) (s : State) (ws : List Word) → stop s ≡ Ok ws → Closing l s
 unfolding read
-by_stop s ws e = record { bytes = []; words = ws; closes = λ p. (p, ap (λ r. stopped r p) e) }
+by_stop l s ws e = record { bytes = []; words = ws; closes = λ p. (p, ap (λ r. stopped r p) e) }
 
 -- outside brackets
-top_stops : (m : Mode) (n : ℕ) (d : Draft) → m ≡ mode.In spot.Bare → Closing (at [] m n d)
+top_stops : (l : Level) (m : Mode) (n : ℕ) (d : Draft) → m ≡ mode.In spot.Bare → Closing l (at [] m n d)
 unfolding stop ends
-top_stops m n d e = subst (λ x. Closing (at [] x n d)) (sym e) (by_stop (at [] (mode.In spot.Bare) n d) _ refl)
+top_stops l m n d e = subst (λ x. Closing l (at [] x n d)) (sym e) (by_stop l (at [] (mode.In spot.Bare) n d) _ refl)
 
-alone_stops : (n : ℕ) (d : Draft) → Closing (at [] (mode.In spot.Alone) n d)
+alone_stops : (l : Level) (n : ℕ) (d : Draft) → Closing l (at [] (mode.In spot.Alone) n d)
 unfolding stop ends
-alone_stops n d = by_stop (at [] (mode.In spot.Alone) n d) _ refl
+alone_stops l n d = by_stop l (at [] (mode.In spot.Alone) n d) _ refl
 
-behind_stops : (k : Delimiter) (n : ℕ) (d : Draft) → Closing (at [] (mode.Behind k) n d)
+behind_stops : (l : Level) (k : Delimiter) (n : ℕ) (d : Draft) → Closing l (at [] (mode.Behind k) n d)
 unfolding stop ends
-behind_stops k n d = by_stop (at [] (mode.Behind k) n d) _ refl
+behind_stops l k n d = by_stop l (at [] (mode.Behind k) n d) _ refl
 
-top_closing : (is : List Spot) (s : Spot) (n : ℕ) (d : Draft) → d.indices ≡ is → Closing (at [] (mode.In s) n d)
+top_closing : (l : Level) (is : List Spot) (s : Spot) (n : ℕ) (d : Draft) → d.indices ≡ is → Closing l (at [] (mode.In s) n d)
 unfolding turn
-top_closing is spot.Bare n d e = top_stops (mode.In spot.Bare) n d refl
-top_closing is spot.Alone n d e = alone_stops n d
-top_closing is spot.Quoted n d e =
-    by_step _ (at [] (mode.Behind delimiter.Quote) n (perform deed.Word d)) 34 (step_by level.Top (at [] (mode.In spot.Quoted) n d) 34 class.Quote (does deed.Word (next.To (mode.Behind delimiter.Quote))) quote_is refl) (behind_stops delimiter.Quote n _)
-top_closing [] spot.Index n d e =
-    by_step _ (at [] (mode.In spot.Bare) n d) 41 (step_by level.Top (at [] (mode.In spot.Index) n d) 41 class.RightParen (does deed.Nothing next.Leave) right_paren_is refl ∙ ap (λ x. leaves_index x n d) e) (top_stops (mode.In spot.Bare) n d refl)
-top_closing (k ∷ ks) spot.Index n d e =
-    by_step _ (at [] (mode.In k) n (close_index ks d)) 41 (step_by level.Top (at [] (mode.In spot.Index) n d) 41 class.RightParen (does deed.Nothing next.Leave) right_paren_is refl ∙ ap (λ x. leaves_index x n d) e)
-    (top_closing ks k n (close_index ks d) refl)
+top_closing l is spot.Bare n d e = top_stops l (mode.In spot.Bare) n d refl
+top_closing l is spot.Alone n d e = alone_stops l n d
+top_closing l is spot.Quoted n d e =
+    by_step l _ (at [] (mode.Behind delimiter.Quote) n (perform deed.Word d)) 34 (step_by l (at [] (mode.In spot.Quoted) n d) 34 class.Quote (does deed.Word (next.To (mode.Behind delimiter.Quote))) quote_is refl) (behind_stops l delimiter.Quote n _)
+top_closing l [] spot.Index n d e =
+    by_step l _ (at [] (mode.In spot.Bare) n d) 41 (step_by l (at [] (mode.In spot.Index) n d) 41 class.RightParen (does deed.Nothing next.Leave) right_paren_is refl ∙ ap (λ x. leaves_index x n d) e) (top_stops l (mode.In spot.Bare) n d refl)
+top_closing l (k ∷ ks) spot.Index n d e =
+    by_step l _ (at [] (mode.In k) n (close_index ks d)) 41 (step_by l (at [] (mode.In spot.Index) n d) 41 class.RightParen (does deed.Nothing next.Leave) right_paren_is refl ∙ ap (λ x. leaves_index x n d) e)
+    (top_closing l ks k n (close_index ks d) refl)
 
 -- the innermost bracket or index closes
-abbrev Ready : List Outer → Type 0
-Ready os = (s : Spot) (n : ℕ) (d : Draft) → Closing (at os (mode.In s) n d)
+abbrev Ready : Level → List Outer → Type 0
+Ready l os = (s : Spot) (n : ℕ) (d : Draft) → Closing l (at os (mode.In s) n d)
 
-leaves_closing : (o : Outer) (os : List Outer) (m : Mode) (n b : ℕ) (d : Draft) → Ready os → step level.Top (at (o ∷ os) m n d) b ≡ leaves (o ∷ os) n d b → Closing (at (o ∷ os) m n d)
-leaves_closing o [] m n b d r e = by_step _ _ b e (r (spot_of o) n _)
-leaves_closing o (p ∷ ps) m n b d r e = by_step _ _ b e (r (spot_of o) n _)
+leaves_closing : (l : Level) (o : Outer) (os : List Outer) (m : Mode) (n b : ℕ) (d : Draft) → Ready l os → step l (at (o ∷ os) m n d) b ≡ leaves (o ∷ os) n d b → Closing l (at (o ∷ os) m n d)
+leaves_closing l o [] m n b d r e = by_step l _ _ b e (r (spot_of o) n _)
+leaves_closing l o (p ∷ ps) m n b d r e = by_step l _ _ b e (r (spot_of o) n _)
 
-gap_leaves : (o : Outer) (os : List Outer) (n : ℕ) (d : Draft) → Ready os → Closing (at (o ∷ os) mode.Gap n d)
+gap_leaves : (l : Level) (o : Outer) (os : List Outer) (n : ℕ) (d : Draft) → Ready l os → Closing l (at (o ∷ os) mode.Gap n d)
 unfolding turn
-gap_leaves o os n d r = leaves_closing o os mode.Gap n 93 d r (step_by level.Top (at (o ∷ os) mode.Gap n d) 93 class.RightBracket (does deed.Nothing next.Leave) right_bracket_is refl)
+gap_leaves l o os n d r = leaves_closing l o os mode.Gap n 93 d r (step_by l (at (o ∷ os) mode.Gap n d) 93 class.RightBracket (does deed.Nothing next.Leave) right_bracket_is refl)
 
-start_leaves : (o : Outer) (os : List Outer) (n : ℕ) (d : Draft) → Ready os → Closing (at (o ∷ os) mode.Start n d)
+start_leaves : (l : Level) (o : Outer) (os : List Outer) (n : ℕ) (d : Draft) → Ready l os → Closing l (at (o ∷ os) mode.Start n d)
 unfolding turn
-start_leaves o os n d r = leaves_closing o os mode.Start n 93 d r (step_by level.Top (at (o ∷ os) mode.Start n d) 93 class.RightBracket (does deed.Nothing next.Leave) right_bracket_is refl)
+start_leaves l o os n d r = leaves_closing l o os mode.Start n 93 d r (step_by l (at (o ∷ os) mode.Start n d) 93 class.RightBracket (does deed.Nothing next.Leave) right_bracket_is refl)
 
-behind_leaves : (k : Delimiter) (o : Outer) (os : List Outer) (n : ℕ) (d : Draft) → Ready os → Closing (at (o ∷ os) (mode.Behind k) n d)
+behind_leaves : (l : Level) (k : Delimiter) (o : Outer) (os : List Outer) (n : ℕ) (d : Draft) → Ready l os → Closing l (at (o ∷ os) (mode.Behind k) n d)
 unfolding turn
-behind_leaves k o os n d r = leaves_closing o os (mode.Behind k) n 93 d r (step_by level.Top (at (o ∷ os) (mode.Behind k) n d) 93 class.RightBracket (does deed.Nothing next.Leave) right_bracket_is refl)
+behind_leaves l k o os n d r = leaves_closing l o os (mode.Behind k) n 93 d r (step_by l (at (o ∷ os) (mode.Behind k) n d) 93 class.RightBracket (does deed.Nothing next.Leave) right_bracket_is refl)
 
-dot_is : class_of 46 ≡ class.Plain
+pub dot_is : class_of 46 ≡ class.Plain
 unfolding class_of
 dot_is = refl
 
-inner_closing : (o : Outer) (os : List Outer) → Ready os → Ready (o ∷ os)
+inner_closing : (l : Level) (o : Outer) (os : List Outer) → Ready l os → Ready l (o ∷ os)
 unfolding turn
-inner_closing o os r spot.Bare n d = leaves_closing o os (mode.In spot.Bare) n 93 d r (step_by level.Top (at (o ∷ os) (mode.In spot.Bare) n d) 93 class.RightBracket (does deed.Nothing next.Leave) right_bracket_is refl)
-inner_closing o os r spot.Index n d = leaves_closing o os (mode.In spot.Index) n 41 d r (step_by level.Top (at (o ∷ os) (mode.In spot.Index) n d) 41 class.RightParen (does deed.Nothing next.Leave) right_paren_is refl)
-inner_closing o os r spot.Quoted n d =
-    by_step _ (at (o ∷ os) (mode.Behind delimiter.Quote) n (add (34 ∷ []) d)) 34 (step_by level.Top (at (o ∷ os) (mode.In spot.Quoted) n d) 34 class.Quote (does deed.Word (next.To (mode.Behind delimiter.Quote))) quote_is refl) (behind_leaves delimiter.Quote o os n _ r)
-inner_closing o os r spot.Alone n d =
-    by_step _ (at (o ∷ os) mode.Start n (add (46 ∷ []) d)) 46 (step_by level.Top (at (o ∷ os) (mode.In spot.Alone) n d) 46 class.Plain (does deed.Word next.Rest) dot_is refl) (start_leaves o os n _ r)
+inner_closing l o os r spot.Bare n d = leaves_closing l o os (mode.In spot.Bare) n 93 d r (step_by l (at (o ∷ os) (mode.In spot.Bare) n d) 93 class.RightBracket (does deed.Nothing next.Leave) right_bracket_is refl)
+inner_closing l o os r spot.Index n d = leaves_closing l o os (mode.In spot.Index) n 41 d r (step_by l (at (o ∷ os) (mode.In spot.Index) n d) 41 class.RightParen (does deed.Nothing next.Leave) right_paren_is refl)
+inner_closing l o os r spot.Quoted n d =
+    by_step l _ (at (o ∷ os) (mode.Behind delimiter.Quote) n (add (34 ∷ []) d)) 34 (step_by l (at (o ∷ os) (mode.In spot.Quoted) n d) 34 class.Quote (does deed.Word (next.To (mode.Behind delimiter.Quote))) quote_is refl) (behind_leaves l delimiter.Quote o os n _ r)
+inner_closing l o os r spot.Alone n d =
+    by_step l _ (at (o ∷ os) mode.Start n (add (46 ∷ []) d)) 46 (step_by l (at (o ∷ os) (mode.In spot.Alone) n d) 46 class.Plain (does deed.Word next.Rest) dot_is refl) (start_leaves l o os n _ r)
 
-in_closing : (os : List Outer) → Ready os
-in_closing [] = λ s n d. top_closing d.indices s n d refl
-in_closing (o ∷ os) = inner_closing o os (in_closing os)
+in_closing : (l : Level) (os : List Outer) → Ready l os
+in_closing l [] = λ s n d. top_closing l d.indices s n d refl
+in_closing l (o ∷ os) = inner_closing l o os (in_closing l os)
 
-gap_closing : (os : List Outer) (n : ℕ) (d : Draft) → Closing (at os mode.Gap n d)
+gap_closing : (l : Level) (os : List Outer) (n : ℕ) (d : Draft) → Closing l (at os mode.Gap n d)
 unfolding stop ends
-gap_closing [] n d = by_stop (at [] mode.Gap n d) _ refl
-gap_closing (o ∷ os) n d = gap_leaves o os n d (in_closing os)
+gap_closing l [] n d = by_stop l (at [] mode.Gap n d) _ refl
+gap_closing l (o ∷ os) n d = gap_leaves l o os n d (in_closing l os)
 
-start_closing : (os : List Outer) (n : ℕ) (d : Draft) → Closing (at os mode.Start n d)
+start_closing : (l : Level) (os : List Outer) (n : ℕ) (d : Draft) → Closing l (at os mode.Start n d)
 unfolding stop ends
-start_closing [] n d = by_stop (at [] mode.Start n d) _ refl
-start_closing (o ∷ os) n d = start_leaves o os n d (in_closing os)
+start_closing l [] n d = by_stop l (at [] mode.Start n d) _ refl
+start_closing l (o ∷ os) n d = start_leaves l o os n d (in_closing l os)
 
-behind_closing : (k : Delimiter) (os : List Outer) (n : ℕ) (d : Draft) → Closing (at os (mode.Behind k) n d)
-behind_closing k [] n d = behind_stops k n d
-behind_closing k (o ∷ os) n d = behind_leaves k o os n d (in_closing os)
+behind_closing : (l : Level) (k : Delimiter) (os : List Outer) (n : ℕ) (d : Draft) → Closing l (at os (mode.Behind k) n d)
+behind_closing l k [] n d = behind_stops l k n d
+behind_closing l k (o ∷ os) n d = behind_leaves l k o os n d (in_closing l os)
 
 -- a byte that goes to another mode
-to_closing : (os : List Outer) (m k : Mode) (n b : ℕ) (d : Draft) (c : Class) (f g : Deed) → class_of b ≡ c → turn (level_in level.Top os) (nat_lt 0 n) m c b ≡ record { first = f; second = g; next = next.To k } →
-    ((e : Draft) → Closing (at os k n e)) → Closing (at os m n d)
-to_closing os m k n b d c f g e h r = by_step _ _ b (step_by level.Top (at os m n d) b c _ e h ∙ taken_to f g k os n d b) (r _)
+to_closing : (l : Level) (os : List Outer) (m k : Mode) (n b : ℕ) (d : Draft) (c : Class) (f g : Deed) → class_of b ≡ c → turn (level_in l os) (nat_lt 0 n) m c b ≡ record { first = f; second = g; next = next.To k } →
+    ((e : Draft) → Closing l (at os k n e)) → Closing l (at os m n d)
+to_closing l os m k n b d c f g e h r = by_step l _ _ b (step_by l (at os m n d) b c _ e h ∙ taken_to f g k os n d b) (r _)
+
+plain_heard : (l : Level) → heard l class.Plain ≡ class.Plain
+plain_heard level.Top = refl
+plain_heard level.List = refl
+plain_heard level.Inside = refl
+plain_heard level.Alone = refl
 
 -- a dot goes on parts, behind any deed
-dot_top : (s : Spot) (m : Mode) (n : ℕ) (d : Draft) (f : Deed) → turn level.Top (nat_lt 0 n) m class.Plain 46 ≡ behind_deed f (in_spot level.Top s class.Plain 46) → Closing (at [] m n d)
-dot_top spot.Bare m n d f h = to_closing [] m (mode.In spot.Bare) n 46 d class.Plain f (deed.Byte 46) dot_is h (λ e. in_closing [] spot.Bare n e)
-dot_top spot.Quoted m n d f h = to_closing [] m (mode.In spot.Quoted) n 46 d class.Plain f (deed.Byte 46) dot_is h (λ e. in_closing [] spot.Quoted n e)
-dot_top spot.Index m n d f h = to_closing [] m (mode.In spot.Index) n 46 d class.Plain f (deed.Byte 46) dot_is h (λ e. in_closing [] spot.Index n e)
-dot_top spot.Alone m n d f h = by_over (at [] m n d) 46 (perform deed.Word (perform f d)).words 0 (step_by level.Top (at [] m n d) 46 class.Plain (behind_deed f (does deed.Word next.Rest)) dot_is h)
+dot_top : (l : Level) (s : Spot) (m : Mode) (n : ℕ) (d : Draft) (f : Deed) → turn l (nat_lt 0 n) m class.Plain 46 ≡ behind_deed f (in_spot l s class.Plain 46) → Closing l (at [] m n d)
+dot_top l spot.Bare m n d f h = to_closing l [] m (mode.In spot.Bare) n 46 d class.Plain f (deed.Byte 46) dot_is (h ∙ ap (λ c. behind_deed f (in_bare l c 46)) (plain_heard l)) (λ e. in_closing l [] spot.Bare n e)
+dot_top l spot.Quoted m n d f h = to_closing l [] m (mode.In spot.Quoted) n 46 d class.Plain f (deed.Byte 46) dot_is h (λ e. in_closing l [] spot.Quoted n e)
+dot_top l spot.Index m n d f h = to_closing l [] m (mode.In spot.Index) n 46 d class.Plain f (deed.Byte 46) dot_is h (λ e. in_closing l [] spot.Index n e)
+dot_top l spot.Alone m n d f h = by_over l (at [] m n d) 46 (perform deed.Word (perform f d)).words 0 (step_by l (at [] m n d) 46 class.Plain (behind_deed f (does deed.Word next.Rest)) dot_is h)
 
-dot_inside : (o : Outer) (os : List Outer) (s : Spot) (m : Mode) (n : ℕ) (d : Draft) (f : Deed) → turn level.Inside (nat_lt 0 n) m class.Plain 46 ≡ behind_deed f (in_spot level.Inside s class.Plain 46) → Closing (at (o ∷ os) m n d)
-dot_inside o os spot.Bare m n d f h = to_closing (o ∷ os) m (mode.In spot.Bare) n 46 d class.Plain f (deed.Byte 46) dot_is h (λ e. in_closing (o ∷ os) spot.Bare n e)
-dot_inside o os spot.Quoted m n d f h = to_closing (o ∷ os) m (mode.In spot.Quoted) n 46 d class.Plain f (deed.Byte 46) dot_is h (λ e. in_closing (o ∷ os) spot.Quoted n e)
-dot_inside o os spot.Index m n d f h = to_closing (o ∷ os) m (mode.In spot.Index) n 46 d class.Plain f (deed.Byte 46) dot_is h (λ e. in_closing (o ∷ os) spot.Index n e)
-dot_inside o os spot.Alone m n d f h = by_step _ (at (o ∷ os) mode.Start n (add (46 ∷ []) d)) 46 (step_by level.Top (at (o ∷ os) m n d) 46 class.Plain (behind_deed f (does deed.Word next.Rest)) dot_is h) (start_closing (o ∷ os) n _)
+dot_inside : (l : Level) (o : Outer) (os : List Outer) (s : Spot) (m : Mode) (n : ℕ) (d : Draft) (f : Deed) → turn level.Inside (nat_lt 0 n) m class.Plain 46 ≡ behind_deed f (in_spot level.Inside s class.Plain 46) → Closing l (at (o ∷ os) m n d)
+dot_inside l o os spot.Bare m n d f h = to_closing l (o ∷ os) m (mode.In spot.Bare) n 46 d class.Plain f (deed.Byte 46) dot_is h (λ e. in_closing l (o ∷ os) spot.Bare n e)
+dot_inside l o os spot.Quoted m n d f h = to_closing l (o ∷ os) m (mode.In spot.Quoted) n 46 d class.Plain f (deed.Byte 46) dot_is h (λ e. in_closing l (o ∷ os) spot.Quoted n e)
+dot_inside l o os spot.Index m n d f h = to_closing l (o ∷ os) m (mode.In spot.Index) n 46 d class.Plain f (deed.Byte 46) dot_is h (λ e. in_closing l (o ∷ os) spot.Index n e)
+dot_inside l o os spot.Alone m n d f h = by_step l _ (at (o ∷ os) mode.Start n (add (46 ∷ []) d)) 46 (step_by l (at (o ∷ os) m n d) 46 class.Plain (behind_deed f (does deed.Word next.Rest)) dot_is h) (start_closing l (o ∷ os) n _)
 
-dot_closing : (os : List Outer) (s : Spot) (m : Mode) (n : ℕ) (d : Draft) (f : Deed) → turn (level_in level.Top os) (nat_lt 0 n) m class.Plain 46 ≡ behind_deed f (in_spot (level_in level.Top os) s class.Plain 46) → Closing (at os m n d)
-dot_closing [] s m n d f h = dot_top s m n d f h
-dot_closing (o ∷ os) s m n d f h = dot_inside o os s m n d f h
+dot_closing : (l : Level) (os : List Outer) (s : Spot) (m : Mode) (n : ℕ) (d : Draft) (f : Deed) → turn (level_in l os) (nat_lt 0 n) m class.Plain 46 ≡ behind_deed f (in_spot (level_in l os) s class.Plain 46) → Closing l (at os m n d)
+dot_closing l [] s m n d f h = dot_top l s m n d f h
+dot_closing l (o ∷ os) s m n d f h = dot_inside l o os s m n d f h
 
 join_dot : (l : Level) (s : Spot) (deep : Bool) → turn l deep (mode.Join s) class.Plain 46 ≡ behind_deed deed.Nothing (in_spot l s class.Plain 46)
 unfolding turn
@@ -478,30 +483,30 @@ number_written Byte left v g = inl (deed.Byte v, rw (lt-ltb v 256 (omega (arith,
 number_written Short left v g = inl (deed.Code v, rw (low_scalar v (short_small left v g.0 g.2)) refl)
 number_written Long left v g = elim (long_written v g.1) [ inl x ↦ inl x | inr x ↦ inr (refl, x.0, x.1) ]
 
-number_whole : (e : Escape) (left v : ℕ) → Good (number e left v) → ((w : Deed) × (whole (number e left v) ≡ Some w)) ⊎ ((e ≡ Long) × (55296 ≤ v) × (v < 57344))
+pub number_whole : (e : Escape) (left v : ℕ) → Good (number e left v) → ((w : Deed) × (whole (number e left v) ≡ Some w)) ⊎ ((e ≡ Long) × (55296 ≤ v) × (v < 57344))
 number_whole e left v g = tested (left == digits_of e) refl
   where
     tested : (x : Bool) → (left == digits_of e) ≡ x → ((w : Deed) × (cond x (Some (deed.Byte (letter_of e))) (written e v) ≡ Some w)) ⊎ ((e ≡ Long) × (55296 ≤ v) × (v < 57344))
     tested true h = inl (deed.Byte (letter_of e), refl)
     tested false h = number_written e left v g
 
-number_dot : (os : List Outer) (s : Spot) (e : Escape) (left v n : ℕ) (d : Draft) (w : Deed) → whole (number e left v) ≡ Some w → Closing (at os (mode.Number s (number e left v)) n d)
-unfolding turn
-number_dot os s e left v n d w h =
-    dot_closing os s (mode.Number s (number e left v)) n d w
-    (ap (λ x. numbered (level_in level.Top os) s (number e left v) class.Plain 46 x) (no_dot e left v) ∙ ap (λ r. behind_number r (in_spot (level_in level.Top os) s class.Plain 46)) h)
-  where
-    no_dot : (e : Escape) (left v : ℕ) → with_digit (number e left v) 46 ≡ None
-    no_dot Octal left v = refl
-    no_dot Byte left v = refl
-    no_dot Short left v = refl
-    no_dot Long left v = refl
+pub no_dot : (e : Escape) (left v : ℕ) → with_digit (number e left v) 46 ≡ None
+no_dot Octal left v = refl
+no_dot Byte left v = refl
+no_dot Short left v = refl
+no_dot Long left v = refl
 
-zero_is : class_of 48 ≡ class.Name
+number_dot : (l : Level) (os : List Outer) (s : Spot) (e : Escape) (left v n : ℕ) (d : Draft) (w : Deed) → whole (number e left v) ≡ Some w → Closing l (at os (mode.Number s (number e left v)) n d)
+unfolding turn
+number_dot l os s e left v n d w h =
+    dot_closing l os s (mode.Number s (number e left v)) n d w
+    (ap (λ x. numbered (level_in l os) s (number e left v) class.Plain 46 x) (no_dot e left v) ∙ ap (λ r. behind_number r (in_spot (level_in l os) s class.Plain 46)) h)
+
+pub zero_is : class_of 48 ≡ class.Name
 unfolding class_of
 zero_is = refl
 
-sixteenfold : (v : ℕ) → 55296 ≤ v → v < 57344 → written Long (16 * v + 0) ≡ Some (deed.Code (16 * v + 0))
+pub sixteenfold : (v : ℕ) → 55296 ≤ v → v < 57344 → written Long (16 * v + 0) ≡ Some (deed.Code (16 * v + 0))
 sixteenfold v h k =
     let high : 57344 ≤ 16 * v + 0 = omega arith in
     let low : 55296 < suc (16 * v + 0) = omega arith in
@@ -510,163 +515,94 @@ sixteenfold v h k =
     below : (x : ℕ) → 55296 < suc x → nat_lt x 55296 ≡ false
     below x h = elim (leb_tells (suc x) 55296) [ inl y ↦ absurd (omega (arith, y.1)) | inr y ↦ y.0 ]
 
-long_closing : (os : List Outer) (s : Spot) (left v n : ℕ) (d : Draft) → 1 ≤ left → 55296 ≤ v → v < 57344 → Closing (at os (mode.Number s (number Long left v)) n d)
+long_closing : (l : Level) (os : List Outer) (s : Spot) (left v n : ℕ) (d : Draft) → 1 ≤ left → 55296 ≤ v → v < 57344 → Closing l (at os (mode.Number s (number Long left v)) n d)
 unfolding turn
-long_closing os s zero v n d g h k = absurd (omega arith)
-long_closing os s (suc zero) v n d g h k =
-    to_closing os (mode.Number s (number Long 1 v)) (mode.In s) n 48 d class.Name (deed.Code (16 * v + 0)) deed.Nothing zero_is
-    (ap (λ x. numbered (level_in level.Top os) s (number Long 1 v) class.Name 48 x) (digit_fits Long 1 v 48 refl (omega arith)) ∙ ap (λ r. behind_number r (goes (mode.In s))) (sixteenfold v h k))
-    (λ e. in_closing os s n e)
-long_closing os s (suc (suc left)) v n d g h k =
-    to_closing os (mode.Number s (number Long (suc (suc left)) v)) (mode.Number s (number Long (suc left) (16 * v + 0))) n 48 d class.Name deed.Nothing deed.Nothing zero_is
-    (ap (λ x. numbered (level_in level.Top os) s (number Long (suc (suc left)) v) class.Name 48 x) (digit_fits Long (suc (suc left)) v 48 refl (omega arith)))
+long_closing l os s zero v n d g h k = absurd (omega arith)
+long_closing l os s (suc zero) v n d g h k =
+    to_closing l os (mode.Number s (number Long 1 v)) (mode.In s) n 48 d class.Name (deed.Code (16 * v + 0)) deed.Nothing zero_is
+    (ap (λ x. numbered (level_in l os) s (number Long 1 v) class.Name 48 x) (digit_fits Long 1 v 48 refl (omega arith)) ∙ ap (λ r. behind_number r (goes (mode.In s))) (sixteenfold v h k))
+    (λ e. in_closing l os s n e)
+long_closing l os s (suc (suc left)) v n d g h k =
+    to_closing l os (mode.Number s (number Long (suc (suc left)) v)) (mode.Number s (number Long (suc left) (16 * v + 0))) n 48 d class.Name deed.Nothing deed.Nothing zero_is
+    (ap (λ x. numbered (level_in l os) s (number Long (suc (suc left)) v) class.Name 48 x) (digit_fits Long (suc (suc left)) v 48 refl (omega arith)))
     (λ e. tested (suc left == 8) refl e)
   where
-    tested : (x : Bool) → (suc left == 8) ≡ x → (e : Draft) → Closing (at os (mode.Number s (number Long (suc left) (16 * v + 0))) n e)
-    tested true y e = number_dot os s Long (suc left) (16 * v + 0) n e (deed.Byte 85) (rw y refl)
-    tested false y e = number_dot os s Long (suc left) (16 * v + 0) n e (deed.Code (16 * v + 0)) (rw y (sixteenfold v h k))
+    tested : (x : Bool) → (suc left == 8) ≡ x → (e : Draft) → Closing l (at os (mode.Number s (number Long (suc left) (16 * v + 0))) n e)
+    tested true y e = number_dot l os s Long (suc left) (16 * v + 0) n e (deed.Byte 85) (rw y refl)
+    tested false y e = number_dot l os s Long (suc left) (16 * v + 0) n e (deed.Code (16 * v + 0)) (rw y (sixteenfold v h k))
 
-number_closing : (os : List Outer) (s : Spot) (e : Escape) (left v n : ℕ) (d : Draft) → Good (number e left v) → Closing (at os (mode.Number s (number e left v)) n d)
-number_closing os s e left v n d g =
+number_closing : (l : Level) (os : List Outer) (s : Spot) (e : Escape) (left v n : ℕ) (d : Draft) → Good (number e left v) → Closing l (at os (mode.Number s (number e left v)) n d)
+number_closing l os s e left v n d g =
     elim (number_whole e left v g) [
-      | inl x ↦ number_dot os s e left v n d x.0 x.1
-      | inr x ↦ subst (λ y. Closing (at os (mode.Number s (number y left v)) n d)) (sym x.0) (long_closing os s left v n d g.0 x.1 x.2)
+      | inl x ↦ number_dot l os s e left v n d x.0 x.1
+      | inr x ↦ subst (λ y. Closing l (at os (mode.Number s (number y left v)) n d)) (sym x.0) (long_closing l os s left v n d g.0 x.1 x.2)
     ]
 
 -- braces
-brace_behind : (os : List Outer) (d : Draft) → Closing (at os mode.Braced 0 d)
+brace_behind : (l : Level) (os : List Outer) (d : Draft) → Closing l (at os mode.Braced 0 d)
 unfolding turn
-brace_behind os d = to_closing os mode.Braced (mode.Behind delimiter.Brace) 0 125 d class.Close deed.Nothing deed.Word close_is refl (λ e. behind_closing delimiter.Brace os 0 e)
+brace_behind l os d = to_closing l os mode.Braced (mode.Behind delimiter.Brace) 0 125 d class.Close deed.Nothing deed.Word close_is refl (λ e. behind_closing l delimiter.Brace os 0 e)
 
-shallower_to : (os : List Outer) (n : ℕ) (d : Draft) → ((e : Draft) → Closing (at os mode.Braced n e)) → Closing (at os mode.Braced (suc n) d)
+shallower_to : (l : Level) (os : List Outer) (n : ℕ) (d : Draft) → ((e : Draft) → Closing l (at os mode.Braced n e)) → Closing l (at os mode.Braced (suc n) d)
 unfolding turn
-shallower_to [] n d r =
+shallower_to l [] n d r =
     let less : suc n - 1 ≡ n = omega arith in
-    by_step _ (at [] mode.Braced n (add (125 ∷ []) d)) 125
-    (step_by level.Top (at [] mode.Braced (suc n) d) 125 class.Close (does (deed.Byte 125) next.Shallower) close_is (ap (λ x. in_braced x class.Close 125) (lt-ltb 0 (suc n) (omega arith)))
+    by_step l _ (at [] mode.Braced n (add (125 ∷ []) d)) 125
+    (step_by l (at [] mode.Braced (suc n) d) 125 class.Close (does (deed.Byte 125) next.Shallower) close_is (ap (λ x. in_braced x class.Close 125) (lt-ltb 0 (suc n) (omega arith)))
     ∙ ap (λ k. Go (at [] mode.Braced k (add (125 ∷ []) d))) less) (r _)
-shallower_to (o ∷ os) n d r =
+shallower_to l (o ∷ os) n d r =
     let less : suc n - 1 ≡ n = omega arith in
-    by_step _ (at (o ∷ os) mode.Braced n (add (125 ∷ []) d)) 125
-    (step_by level.Top (at (o ∷ os) mode.Braced (suc n) d) 125 class.Close (does (deed.Byte 125) next.Shallower) close_is (ap (λ x. in_braced x class.Close 125) (lt-ltb 0 (suc n) (omega arith)))
+    by_step l _ (at (o ∷ os) mode.Braced n (add (125 ∷ []) d)) 125
+    (step_by l (at (o ∷ os) mode.Braced (suc n) d) 125 class.Close (does (deed.Byte 125) next.Shallower) close_is (ap (λ x. in_braced x class.Close 125) (lt-ltb 0 (suc n) (omega arith)))
     ∙ ap (λ k. Go (at (o ∷ os) mode.Braced k (add (125 ∷ []) d))) less) (r _)
 
-braced_closing : (os : List Outer) (n : ℕ) (d : Draft) → Closing (at os mode.Braced n d)
-braced_closing os zero d = brace_behind os d
-braced_closing os (suc n) d = shallower_to os n d (λ e. braced_closing os n e)
+braced_closing : (l : Level) (os : List Outer) (n : ℕ) (d : Draft) → Closing l (at os mode.Braced n d)
+braced_closing l os zero d = brace_behind l os d
+braced_closing l os (suc n) d = shallower_to l os n d (λ e. braced_closing l os n e)
 
 dot_braced : (deep : Bool) → in_braced deep class.Plain 46 ≡ puts 46 mode.Braced
 dot_braced true = refl
 dot_braced false = refl
 
-operand_closing : (os : List Outer) (n : ℕ) (d : Draft) → Closing (at os mode.Operand n d)
+operand_closing : (l : Level) (os : List Outer) (n : ℕ) (d : Draft) → Closing l (at os mode.Operand n d)
 unfolding stop ends turn
-operand_closing [] n d = by_stop (at [] mode.Operand n d) _ refl
-operand_closing (o ∷ os) n d = by_step _ (at (o ∷ os) mode.Start n (add (46 ∷ []) d)) 46 (step_by level.Top (at (o ∷ os) mode.Operand n d) 46 class.Plain (does deed.Word next.Rest) dot_is refl) (start_closing (o ∷ os) n _)
+operand_closing l [] n d = by_stop l (at [] mode.Operand n d) _ refl
+operand_closing l (o ∷ os) n d = by_step l _ (at (o ∷ os) mode.Start n (add (46 ∷ []) d)) 46 (step_by l (at (o ∷ os) mode.Operand n d) 46 class.Plain (does deed.Word next.Rest) dot_is refl) (start_closing l (o ∷ os) n _)
 
-letter_is : class_of 97 ≡ class.Name
+pub letter_is : class_of 97 ≡ class.Name
 unfolding class_of
 letter_is = refl
 
 star_dot : (l : Level) (b : ℕ) → behind_star l class.Plain b ≡ behind_deed deed.Expand (puts b (mode.In spot.Bare))
 star_dot l b = refl
 
-plain_heard : (l : Level) → heard l class.Plain ≡ class.Plain
-plain_heard level.Top = refl
-plain_heard level.List = refl
-plain_heard level.Inside = refl
-plain_heard level.Alone = refl
-
-closing : (os : List Outer) (m : Mode) (n : ℕ) (d : Draft) → Fine m → Closing (at os m n d)
+pub closing : (l : Level) (os : List Outer) (m : Mode) (n : ℕ) (d : Draft) → Fine m → Closing l (at os m n d)
 unfolding turn
-closing os mode.Start n d h = start_closing os n d
-closing os mode.StartPair n d h = to_closing os mode.StartPair mode.Start n 10 d class.Newline deed.Nothing deed.Nothing newline_is refl (λ e. start_closing os n e)
-closing os mode.Comment n d h = to_closing os mode.Comment mode.Start n 10 d class.Newline deed.Nothing deed.Nothing newline_is refl (λ e. start_closing os n e)
-closing os mode.CommentPair n d h =
-    to_closing os mode.CommentPair mode.Comment n 10 d class.Newline deed.Nothing deed.Nothing newline_is refl
-    (λ e. to_closing os mode.Comment mode.Start n 10 e class.Newline deed.Nothing deed.Nothing newline_is refl (λ f. start_closing os n f))
-closing os mode.Gap n d h = gap_closing os n d
-closing os mode.GapPair n d h = to_closing os mode.GapPair mode.Gap n 10 d class.Newline deed.Nothing deed.Nothing newline_is refl (λ e. gap_closing os n e)
-closing os mode.Operand n d h = operand_closing os n d
-closing os (mode.In s) n d h = in_closing os s n d
-closing os (mode.Pair s) n d h = to_closing os (mode.Pair s) (mode.In s) n 97 d class.Name deed.Nothing (deed.Byte 7) letter_is refl (λ e. in_closing os s n e)
-closing os (mode.Join s) n d h = dot_closing os s (mode.Join s) n d deed.Nothing (join_dot (level_in level.Top os) s (nat_lt 0 n))
-closing os (mode.Dollar s) n d h = dot_closing os s (mode.Dollar s) n d deed.Dollar refl
-closing os (mode.Colon s) n d h = dot_closing os s (mode.Colon s) n d deed.DollarColon refl
-closing os (mode.Name s) n d h = dot_closing os s (mode.Name s) n d deed.Value refl
-closing os (mode.NameBrace s) n d h = to_closing os (mode.NameBrace s) (mode.In s) n 125 d class.Close deed.Nothing deed.Value close_is refl (λ e. in_closing os s n e)
-closing os (mode.Number s x) n d h = number_closing os s x.escape x.left x.value n d h
-closing os mode.BraceFirst n d h = to_closing os mode.BraceFirst mode.Braced n 46 d class.Plain deed.Nothing (deed.Byte 46) dot_is refl (λ e. braced_closing os n e)
-closing os mode.BraceStar n d h = to_closing os mode.BraceStar mode.Braced n 46 d class.Plain deed.Nothing (deed.Byte 46) dot_is refl (λ e. braced_closing os n e)
-closing os mode.BehindStar n d h =
-    to_closing os mode.BehindStar (mode.In spot.Bare) n 46 d class.Plain deed.Expand (deed.Byte 46) dot_is (ap (λ c. behind_star (level_in level.Top os) c 46) (plain_heard (level_in level.Top os)) ∙ star_dot (level_in level.Top os) 46)
-    (λ e. in_closing os spot.Bare n e)
-closing os mode.StarPair n d h = to_closing os mode.StarPair mode.Gap n 10 d class.Newline deed.Nothing deed.Word newline_is refl (λ e. gap_closing os n e)
-closing os mode.Braced n d h = braced_closing os n d
-closing os mode.BracedPair n d h = to_closing os mode.BracedPair mode.Braced n 46 d class.Plain (deed.Byte 92) (deed.Byte 46) dot_is refl (λ e. braced_closing os n e)
-closing os mode.BracedJoin n d h = to_closing os mode.BracedJoin mode.Braced n 46 d class.Plain deed.Nothing (deed.Byte 46) dot_is (dot_braced (nat_lt 0 n)) (λ e. braced_closing os n e)
-closing os (mode.Behind k) n d h = behind_closing k os n d
-closing os (mode.BehindPair k) n d h = to_closing os (mode.BehindPair k) mode.Gap n 10 d class.Newline deed.Nothing deed.Nothing newline_is refl (λ e. gap_closing os n e)
-
--- what was read before a fault
-record Before (s : State) (text : List ℕ) (p q : ℕ) : Type 0 where
-  front : List ℕ
-  rest : List ℕ
-  state : State
-  split : text ≡ front ++ rest
-  place_is : q ≡ p + length front
-  leads : (after : List ℕ) → Leads level.Top after s front state
-  fine : Fine state.mode
-
-place_of : ℕ → Answer → ℕ
-place_of n (Ok x) = n
-place_of n (Err e) = e.1
-
-same_place : {f g : WordFault} {p q : ℕ} → ◌≡◌ {A = Answer} (Err (f, p)) (Err (g, q)) → p ≡ q
-unfolding place_of
-same_place {p = p} e = ap (place_of p) e
-
-here : (s : State) (text : List ℕ) (p q : ℕ) → p ≡ q → Fine s.mode → Before s text p q
-here s text p q e h = record { front = []; rest = text; state = s; split = refl; place_is = omega (arith, e); leads = λ after. lead_none level.Top after s; fine = h }
-
-before_turn : (s : State) (b : ℕ) (bs : List ℕ) (f : WordFault) (p q : ℕ) (m : Move) → step level.Top s b ≡ m → Fine s.mode → FineMove m → ((n : State) → Fine n.mode → read level.Top bs n (p + 1) ≡ Err (f, q) → Before n bs (p + 1) q) →
-    onward m p (λ n. read level.Top bs n (p + 1)) ≡ Err (f, q) → Before s (b ∷ bs) p q
-before_turn s b bs f p q (Go n) e h k rec r =
-    let x = rec n k r in
-    record {
-      front = b ∷ x.front;
-      rest = x.rest;
-      state = x.state;
-      split = ap (λ y. b ∷ y) x.split;
-      place_is = omega (arith, x.place_is);
-      leads = λ after. lead_both level.Top after _ _ _ (b ∷ []) x.front (lead_one level.Top (x.front ++ after) s n b e) (x.leads after);
-      fine = x.fine;
-    }
-before_turn s b bs f p q (Over ws n) e h k rec r = absurd cc
-before_turn s b bs f p q (Fails g) e h k rec r = here s (b ∷ bs) p q (same_place r) h
-
-before_end : (s : State) (f : WordFault) (p q : ℕ) (r : Result (List Word) WordFault) → Fine s.mode → stopped r p ≡ Err (f, q) → Before s [] p q
-before_end s f p q (Ok ws) h e = absurd cc
-before_end s f p q (Err g) h e = here s [] p q (same_place e) h
-
-before : (text : List ℕ) (s : State) (f : WordFault) (p q : ℕ) → Fine s.mode → read level.Top text s p ≡ Err (f, q) → Before s text p q
-unfolding read
-before [] s f p q h e = before_end s f p q (stop s) h e
-before (b ∷ bs) s f p q h e = before_turn s b bs f p q (step level.Top s b) refl h (fine_step level.Top s b h) (λ n k r. before bs n f (p + 1) q k r) e
-
-pub fault_can_go_on : (text : List ℕ) (fault : WordFault) (place : ℕ) → read level.Top text (fresh mode.Start) 0 ≡ Err (fault, place) → CanGoOn text place
-fault_can_go_on text fault place e =
-    let x = before text (fresh mode.Start) fault 0 place tt e in
-    let y = x.state in
-    let c = closing y.inner y.mode y.depth y.draft x.fine in
-    let z = c.closes (0 + length x.front) in
-    record {
-      front = x.front;
-      rest = x.rest;
-      split = x.split;
-      place_is = omega (arith, x.place_is);
-      closing = c.bytes;
-      words = c.words;
-      next = z.0;
-      is_read = (x.leads c.bytes).on 0 ∙ z.1;
-    }
+closing l os mode.Start n d h = start_closing l os n d
+closing l os mode.StartPair n d h = to_closing l os mode.StartPair mode.Start n 10 d class.Newline deed.Nothing deed.Nothing newline_is refl (λ e. start_closing l os n e)
+closing l os mode.Comment n d h = to_closing l os mode.Comment mode.Start n 10 d class.Newline deed.Nothing deed.Nothing newline_is refl (λ e. start_closing l os n e)
+closing l os mode.CommentPair n d h =
+    to_closing l os mode.CommentPair mode.Comment n 10 d class.Newline deed.Nothing deed.Nothing newline_is refl
+    (λ e. to_closing l os mode.Comment mode.Start n 10 e class.Newline deed.Nothing deed.Nothing newline_is refl (λ f. start_closing l os n f))
+closing l os mode.Gap n d h = gap_closing l os n d
+closing l os mode.GapPair n d h = to_closing l os mode.GapPair mode.Gap n 10 d class.Newline deed.Nothing deed.Nothing newline_is refl (λ e. gap_closing l os n e)
+closing l os mode.Operand n d h = operand_closing l os n d
+closing l os (mode.In s) n d h = in_closing l os s n d
+closing l os (mode.Pair s) n d h = to_closing l os (mode.Pair s) (mode.In s) n 97 d class.Name deed.Nothing (deed.Byte 7) letter_is refl (λ e. in_closing l os s n e)
+closing l os (mode.Join s) n d h = dot_closing l os s (mode.Join s) n d deed.Nothing (join_dot (level_in l os) s (nat_lt 0 n))
+closing l os (mode.Dollar s) n d h = dot_closing l os s (mode.Dollar s) n d deed.Dollar refl
+closing l os (mode.Colon s) n d h = dot_closing l os s (mode.Colon s) n d deed.DollarColon refl
+closing l os (mode.Name s) n d h = dot_closing l os s (mode.Name s) n d deed.Value refl
+closing l os (mode.NameBrace s) n d h = to_closing l os (mode.NameBrace s) (mode.In s) n 125 d class.Close deed.Nothing deed.Value close_is refl (λ e. in_closing l os s n e)
+closing l os (mode.Number s x) n d h = number_closing l os s x.escape x.left x.value n d h
+closing l os mode.BraceFirst n d h = to_closing l os mode.BraceFirst mode.Braced n 46 d class.Plain deed.Nothing (deed.Byte 46) dot_is refl (λ e. braced_closing l os n e)
+closing l os mode.BraceStar n d h = to_closing l os mode.BraceStar mode.Braced n 46 d class.Plain deed.Nothing (deed.Byte 46) dot_is refl (λ e. braced_closing l os n e)
+closing l os mode.BehindStar n d h =
+    to_closing l os mode.BehindStar (mode.In spot.Bare) n 46 d class.Plain deed.Expand (deed.Byte 46) dot_is (ap (λ c. behind_star (level_in l os) c 46) (plain_heard (level_in l os)) ∙ star_dot (level_in l os) 46)
+    (λ e. in_closing l os spot.Bare n e)
+closing l os mode.StarPair n d h = to_closing l os mode.StarPair mode.Gap n 10 d class.Newline deed.Nothing deed.Word newline_is refl (λ e. gap_closing l os n e)
+closing l os mode.Braced n d h = braced_closing l os n d
+closing l os mode.BracedPair n d h = to_closing l os mode.BracedPair mode.Braced n 46 d class.Plain (deed.Byte 92) (deed.Byte 46) dot_is refl (λ e. braced_closing l os n e)
+closing l os mode.BracedJoin n d h = to_closing l os mode.BracedJoin mode.Braced n 46 d class.Plain deed.Nothing (deed.Byte 46) dot_is (dot_braced (nat_lt 0 n)) (λ e. braced_closing l os n e)
+closing l os (mode.Behind k) n d h = behind_closing l k os n d
+closing l os (mode.BehindPair k) n d h = to_closing l os (mode.BehindPair k) mode.Gap n 10 d class.Newline deed.Nothing deed.Nothing newline_is refl (λ e. gap_closing l os n e)

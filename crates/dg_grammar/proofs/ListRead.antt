@@ -35,11 +35,11 @@ pub record Leads (after : List ℕ) (s : Listing) (t : List ℕ) (n : Listing) :
 pub lead_none : (after : List ℕ) (s : Listing) → Leads after s [] s
 lead_none after s = record { on = λ p. (p, refl) }
 
-lead_one : (after : List ℕ) (s n : Listing) (b : ℕ) → list_step s b ≡ Ok n → Leads after s (b ∷ []) n
+pub lead_one : (after : List ℕ) (s n : Listing) (b : ℕ) → list_step s b ≡ Ok n → Leads after s (b ∷ []) n
 unfolding list_read
 lead_one after s n b e = record { on = λ p. (p + 1, ap (λ r. list_onward r p (λ m. list_read after m (p + 1))) e) }
 
-lead_both : (after : List ℕ) (s n m : Listing) (t u : List ℕ) → Leads (u ++ after) s t n → Leads after n u m → Leads after s (t ++ u) m
+pub lead_both : (after : List ℕ) (s n m : Listing) (t u : List ℕ) → Leads (u ++ after) s t n → Leads after n u m → Leads after s (t ++ u) m
 lead_both after s n m t u f g = record {
   on = λ p.
       let a = f.on p in

@@ -221,7 +221,7 @@ newline_case q b bs xs ys w p e rec h =
     (rests_joined q ys w bs xs (rec_join q bs xs ys (w ++ 32 ∷ []) (p + 1) rec
     (read_next _ _ 10 bs p xs (joined_step ys q w) (subst (λ x. list_read (x ∷ bs) (at ys (Pair (spot q)) 0 w) p ≡ Ok xs) e h))))
 
-letter_writes : (e : Escape) (ds : List ℕ) (d : Deed) → whole (number e (left (digits_of e) ds) (value_from (base_of e) 0 ds)) ≡ Some d → NumberWrites e ds (bytes_of d)
+pub letter_writes : (e : Escape) (ds : List ℕ) (d : Deed) → whole (number e (left (digits_of e) ds) (value_from (base_of e) 0 ds)) ≡ Some d → NumberWrites e ds (bytes_of d)
 letter_writes e [] d h = ap bytes_of (some_deed (sym h ∙ letter_whole e))
 letter_writes e (b ∷ ds) d h = (was_written e _ d (sym (whole_behind e (left (digits_of e) (b ∷ ds)) _ (left_less (digits_of e) b ds (some_digits e))) ∙ h)).1
 

@@ -159,7 +159,7 @@ pends_join l inner after s h = record {
   stops = refl;
 }
 
-space_turn : (l : Level) (s : Spot) (c : Class) (b : ℕ) → is_space b ≡ true → in_join l s c b ≡ goes (mode.Join s)
+pub space_turn : (l : Level) (s : Spot) (c : Class) (b : ℕ) → is_space b ≡ true → in_join l s c b ≡ goes (mode.Join s)
 space_turn l s c b h = ap (λ x. cond x (goes (mode.Join s)) (in_spot l s c b)) h
 
 pub seg_spaces : (l : Level) (inner : List Outer) (after g : List ℕ) (s : Spot) → each is_space g ≡ true → begins_with_space after ≡ false → Seg l inner after (mode.Join s) 0 g same (mode.In s) 0
@@ -170,7 +170,7 @@ seg_spaces l inner after (b ∷ bs) s h e =
     (seg_one l inner (bs ++ after) (mode.Join s) (mode.Join s) 0 b (class_of b) deed.Nothing deed.Nothing refl (space_turn (level_in l inner) s (class_of b) b (and_left _ _ h)))
     (seg_spaces l inner after bs s (and_right _ _ h) e)
 
-joined_turn : (s : Spot) → s ≢ spot.Bare → turns.joined s ≡ puts 32 (mode.Join s)
+pub joined_turn : (s : Spot) → s ≢ spot.Bare → turns.joined s ≡ puts 32 (mode.Join s)
 joined_turn spot.Bare n = absurd (n refl)
 joined_turn spot.Quoted n = refl
 joined_turn spot.Index n = refl
@@ -275,7 +275,7 @@ seg_last l inner s n =
     seg_then l inner [] (mode.In s) (mode.Pair s) (mode.In s) 0 0 0 92 [] same (add (92 ∷ [])) (seg_backslash l inner [] s n) (seg_pend l inner [] (mode.Pair s) s (deed.Byte 92) (pends_last l inner s))
 
 -- a dollar sign that begins no variable
-plain_colon : (l : Level) (s : Spot) → s ≢ spot.Alone → plain l s class.Colon ≡ true
+pub plain_colon : (l : Level) (s : Spot) → s ≢ spot.Alone → plain l s class.Colon ≡ true
 plain_colon level.Top spot.Bare n = refl
 plain_colon level.List spot.Bare n = refl
 plain_colon level.Inside spot.Bare n = refl
@@ -381,7 +381,7 @@ seg_name l inner after s (b ∷ bs) h =
     (seg_one l inner (bs ++ after) (mode.Name s) (mode.Name s) 0 b class.Name deed.Nothing (deed.Byte b) (name_class (class_of b) (and_left _ _ h)) refl)
     (seg_name l inner after s bs (and_right _ _ h)))
 
-seg_begun : (l : Level) (inner : List Outer) (after : List ℕ) (s : Spot) (name : List ℕ) → Named name → name ≢ [] → Seg l inner after (mode.Dollar s) 0 name (begun name) (mode.Name s) 0
+pub seg_begun : (l : Level) (inner : List Outer) (after : List ℕ) (s : Spot) (name : List ℕ) → Named name → name ≢ [] → Seg l inner after (mode.Dollar s) 0 name (begun name) (mode.Name s) 0
 unfolding turn
 seg_begun l inner after s name (words.Named.local {t = []} h) n = absurd (n refl)
 seg_begun l inner after s name (words.Named.local {t = b ∷ bs} h) n =
@@ -419,11 +419,11 @@ seg_variable l inner after s name na h n e =
     (seg_both l inner after (mode.In s) (mode.Name s) (mode.In s) 0 0 0 (36 ∷ name) [] (begun name) (perform deed.Value)
     (seg_named l inner after s name na h n) (seg_pend l inner after (mode.Name s) s deed.Value (pends_name l inner after s e)))
 
-brace_name_turn : (s : Spot) (c : Class) (b : ℕ) → no_close c ≡ true → turns.in_name_brace s c b ≡ puts b (mode.NameBrace s)
+pub brace_name_turn : (s : Spot) (c : Class) (b : ℕ) → no_close c ≡ true → turns.in_name_brace s c b ≡ puts b (mode.NameBrace s)
 brace_name_turn s class.Close b h = absurd cc
 brace_name_turn s c b h = refl
 
-seg_brace_name : (l : Level) (inner : List Outer) (after : List ℕ) (s : Spot) (t : List ℕ) → each brace_name_byte t ≡ true → Seg l inner after (mode.NameBrace s) 0 (t ++ 125 ∷ []) (λ d. perform deed.Value (add t d)) (mode.In s) 0
+pub seg_brace_name : (l : Level) (inner : List Outer) (after : List ℕ) (s : Spot) (t : List ℕ) → each brace_name_byte t ≡ true → Seg l inner after (mode.NameBrace s) 0 (t ++ 125 ∷ []) (λ d. perform deed.Value (add t d)) (mode.In s) 0
 unfolding turn
 seg_brace_name l inner after s [] h =
     seg_as l inner after (mode.NameBrace s) (mode.In s) 0 0 (125 ∷ []) (perform deed.Value) (λ d. perform deed.Value (add [] d)) (λ d. ap (perform deed.Value) (sym (add_none d)))

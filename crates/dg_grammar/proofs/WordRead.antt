@@ -32,11 +32,11 @@ use Rattle.dg_grammar.proofs.Pieces.{close_is, open_is, same}
 use Rattle.dg_words.specs.Reading.{command_at, words_of, kind_of, words_only}
 use Rattle.dg_grammar.proofs.Pieces.{right_bracket_is, seg_byte, seg_braced_variable, seg_escape, seg_joined, seg_last, seg_lone_dollar, seg_variable, varied}
 use Rattle.dg_words.specs.declared.kinds.Outer.TheVariants as outer
-use Rattle.dg_grammar.proofs.Between.{Outermost, HasCommands, part_read, bare_ends, star_ends, behind_ends, seg_gap, seg_skipped, seg_braced}
+use Rattle.dg_grammar.proofs.Between.{OutermostIn, HasCommands, part_read, bare_ends, star_ends, behind_ends, seg_gap, seg_skipped, seg_braced}
 use Rattle.dg_grammar.proofs.PartRead.{Behind, Entry, Leading, NoHash, Room, at_gap, at_star, at_start, atom_indices, atom_then, bare_begins, behind_none, bracket_closes, bracket_opens, bracketed, bracketed_room, by_seg, closed_is, command_atom, element_atom, element_opens, entered, entered_level, entered_room, entry_deed, entry_mode, index_closes, indexed, lead_from, lead_to, no_hash, room_as, text_atom, unbracketed, unindexed, variable_atom}
 
 -- between words nothing of the next is read
-abbrev base : Bool → List Word → Draft
+abbrev pub base : Bool → List Word → Draft
 base e ws = record { words = ws; expand = e; indices = []; parts = []; text = [] }
 
 abbrev finished : List Outer → List ℕ → List Word → Bool → List Piece → Draft → Draft
@@ -54,7 +54,7 @@ fresh_room (o ∷ os) x e ws n d h = h
 abbrev word_draft : List Word → Bool → List Piece → List Spot → Draft
 word_draft ws x ps i = record { words = ws ++ record { expand = x; parts = ps } ∷ []; expand = false; indices = i; parts = []; text = [] }
 
-end_is : (e : Draft) (ws : List Word) (x : Bool) (ps : List Piece) → e.indices ≡ [] → e.words ≡ ws → e.expand ≡ x → closed e.parts e.text ≡ ps → perform deed.Word e ≡ base false (ws ++ record { expand = x; parts = ps } ∷ [])
+pub end_is : (e : Draft) (ws : List Word) (x : Bool) (ps : List Piece) → e.indices ≡ [] → e.words ≡ ws → e.expand ≡ x → closed e.parts e.text ≡ ps → perform deed.Word e ≡ base false (ws ++ record { expand = x; parts = ps } ∷ [])
 end_is e ws x ps hi hw hx hp =
     ap (λ i. end_word i e) hi ∙ ap (λ w. word_draft w e.expand (closed e.parts e.text) e.indices) hw ∙ ap (λ y. word_draft ws y (closed e.parts e.text) e.indices) hx
     ∙ ap (λ y. word_draft ws x y e.indices) hp ∙ ap (λ y. word_draft ws x ps y) hi
@@ -69,7 +69,7 @@ bare_finished [] x e ws n d f t ps h b = top_finished (perform (entry_deed x) d)
 bare_finished (o ∷ os) x e ws n d f t ps h b = b
 
 -- quotes
-entry_quote : (l : Level) (x : Entry) → turn l false (entry_mode x) class.Quote 34 ≡ does (entry_deed x) (next.To (mode.In spot.Quoted))
+pub entry_quote : (l : Level) (x : Entry) → turn l false (entry_mode x) class.Quote 34 ≡ does (entry_deed x) (next.To (mode.In spot.Quoted))
 unfolding turn
 entry_quote level.Top at_gap = refl
 entry_quote level.Top at_start = refl
@@ -87,7 +87,7 @@ entry_quote level.Alone at_star = refl
 seg_quote : (l : Level) (inner : List Outer) (after : List ℕ) (x : Entry) → Seg l inner after (entry_mode x) 0 (34 ∷ []) (perform (entry_deed x)) (mode.In spot.Quoted) 0
 seg_quote l inner after x = seg_one l inner after (entry_mode x) (mode.In spot.Quoted) 0 34 class.Quote deed.Nothing (entry_deed x) quote_is (entry_quote (level_in l inner) x)
 
-seg_unquote : (l : Level) (inner : List Outer) (after : List ℕ) → Seg l inner after (mode.In spot.Quoted) 0 (34 ∷ []) (perform deed.Word) (mode.Behind delimiter.Quote) 0
+pub seg_unquote : (l : Level) (inner : List Outer) (after : List ℕ) → Seg l inner after (mode.In spot.Quoted) 0 (34 ∷ []) (perform deed.Word) (mode.Behind delimiter.Quote) 0
 unfolding turn
 seg_unquote l inner after = seg_one l inner after (mode.In spot.Quoted) (mode.Behind delimiter.Quote) 0 34 class.Quote deed.Nothing deed.Word quote_is refl
 
@@ -106,7 +106,7 @@ entry_brace at_gap = mode.BraceFirst
 entry_brace at_start = mode.BraceFirst
 entry_brace at_star = mode.Braced
 
-entry_open : (l : Level) (x : Entry) → turn l false (entry_mode x) class.Open 123 ≡ does (entry_deed x) (next.To (entry_brace x))
+pub entry_open : (l : Level) (x : Entry) → turn l false (entry_mode x) class.Open 123 ≡ does (entry_deed x) (next.To (entry_brace x))
 unfolding turn
 entry_open level.Top at_gap = refl
 entry_open level.Top at_start = refl
@@ -124,11 +124,11 @@ entry_open level.Alone at_star = refl
 seg_brace : (l : Level) (inner : List Outer) (after : List ℕ) (x : Entry) → Seg l inner after (entry_mode x) 0 (123 ∷ []) (perform (entry_deed x)) (entry_brace x) 0
 seg_brace l inner after x = seg_one l inner after (entry_mode x) (entry_brace x) 0 123 class.Open deed.Nothing (entry_deed x) open_is (entry_open (level_in l inner) x)
 
-seg_unbrace : (l : Level) (inner : List Outer) (after : List ℕ) → Seg l inner after mode.Braced 0 (125 ∷ []) (perform deed.Word) (mode.Behind delimiter.Brace) 0
+pub seg_unbrace : (l : Level) (inner : List Outer) (after : List ℕ) → Seg l inner after mode.Braced 0 (125 ∷ []) (perform deed.Word) (mode.Behind delimiter.Brace) 0
 unfolding turn
 seg_unbrace l inner after = seg_one l inner after mode.Braced (mode.Behind delimiter.Brace) 0 125 class.Close deed.Nothing deed.Word close_is refl
 
-star_is : class_of 42 ≡ class.Star
+pub star_is : class_of 42 ≡ class.Star
 unfolding class_of
 star_is = refl
 
@@ -147,8 +147,8 @@ nothing_done [] d = refl
 nothing_done (o ∷ os) d = refl
 
 -- within braces that are no prefix
-whole_braced : (l : Level) → Outermost l → (inner : List Outer) (after t v : List ℕ) (d : Draft) → Braced t v → Parted (level_in l inner) after → Leads l after (at inner mode.Braced 0 d) (t ++ 125 ∷ []) (at inner mode.Gap 0 (braced_draft inner t v d))
-whole_braced l o inner after t v d i q =
+whole_braced : (l : Level) (inner : List Outer) → OutermostIn l inner → (after t v : List ℕ) (d : Draft) → Braced t v → Parted (level_in l inner) after → Leads l after (at inner mode.Braced 0 d) (t ++ 125 ∷ []) (at inner mode.Gap 0 (braced_draft inner t v d))
+whole_braced l inner o after t v d i q =
     lead_to l after _ _ _ (t ++ 125 ∷ [])
     (seg_both l inner after mode.Braced mode.Braced (mode.Behind delimiter.Brace) 0 0 0 t (125 ∷ []) (add v) (perform deed.Word) (seg_braced l inner (125 ∷ after) 0 t v refl i) (seg_unbrace l inner after) d)
     (λ p. part_read l inner (mode.Behind delimiter.Brace) deed.Nothing (mode.BehindPair delimiter.Brace) after (braced_draft inner t v d) (behind_ends l inner delimiter.Brace o) q p
@@ -162,19 +162,19 @@ star_turn : (c : Class) (b : ℕ) → c ≢ class.Close → in_brace_star c b �
 star_turn class.Close b n = absurd (n refl)
 star_turn c b n = refl
 
-first_read : (l : Level) (inner : List Outer) (b : ℕ) (bs : List ℕ) (d : Draft) (p : ℕ) → class_of b ≢ class.Star → read l (b ∷ bs) (at inner mode.BraceFirst 0 d) p ≡ read l (b ∷ bs) (at inner mode.Braced 0 d) p
+pub first_read : (l : Level) (inner : List Outer) (b : ℕ) (bs : List ℕ) (d : Draft) (p : ℕ) → class_of b ≢ class.Star → read l (b ∷ bs) (at inner mode.BraceFirst 0 d) p ≡ read l (b ∷ bs) (at inner mode.Braced 0 d) p
 unfolding turn
 first_read l inner b bs d p n =
     read_step l _ _ b bs p (step_by l (at inner mode.BraceFirst 0 d) b (class_of b) (in_braced false (class_of b) b) refl (first_turn (class_of b) b n)
     ∙ sym (step_by l (at inner mode.Braced 0 d) b (class_of b) (in_braced false (class_of b) b) refl refl))
 
-star_read : (l : Level) (inner : List Outer) (b : ℕ) (bs : List ℕ) (d : Draft) (p : ℕ) → class_of b ≢ class.Close → read l (b ∷ bs) (at inner mode.BraceStar 0 d) p ≡ read l (b ∷ bs) (at inner mode.Braced 0 d) p
+pub star_read : (l : Level) (inner : List Outer) (b : ℕ) (bs : List ℕ) (d : Draft) (p : ℕ) → class_of b ≢ class.Close → read l (b ∷ bs) (at inner mode.BraceStar 0 d) p ≡ read l (b ∷ bs) (at inner mode.Braced 0 d) p
 unfolding turn
 star_read l inner b bs d p n =
     read_step l _ _ b bs p (step_by l (at inner mode.BraceStar 0 d) b (class_of b) (in_braced false (class_of b) b) refl (star_turn (class_of b) b n)
     ∙ sym (step_by l (at inner mode.Braced 0 d) b (class_of b) (in_braced false (class_of b) b) refl refl))
 
-not_class : (b : ℕ) (c k : Class) → class_of b ≡ c → c ≢ k → class_of b ≢ k
+pub not_class : (b : ℕ) (c k : Class) → class_of b ≡ c → c ≢ k → class_of b ≢ k
 not_class b c k e n h = n (sym e ∙ h)
 
 not_close : (c : Class) → plain_braced c ≡ true → c ≢ class.Close
@@ -193,8 +193,8 @@ star_drafts : (inner : List Outer) (d : Draft) → does_in inner deed.Word (move
 star_drafts [] d = refl
 star_drafts (o ∷ os) d = refl
 
-star_word : (l : Level) → Outermost l → (inner : List Outer) (after : List ℕ) (d : Draft) → Parted (level_in l inner) after → Leads l after (at inner mode.BraceFirst 0 d) (42 ∷ 125 ∷ []) (at inner mode.Gap 0 (braced_draft inner (42 ∷ []) (42 ∷ []) d))
-star_word l o inner after d q =
+star_word : (l : Level) (inner : List Outer) → OutermostIn l inner → (after : List ℕ) (d : Draft) → Parted (level_in l inner) after → Leads l after (at inner mode.BraceFirst 0 d) (42 ∷ 125 ∷ []) (at inner mode.Gap 0 (braced_draft inner (42 ∷ []) (42 ∷ []) d))
+star_word l inner o after d q =
     lead_to l after _ _ _ (42 ∷ 125 ∷ []) (seg_star l inner after d)
     (λ p. part_read l inner mode.BehindStar deed.Word mode.StarPair after (moved inner (42 ∷ 125 ∷ []) (add (42 ∷ [])) d) (star_ends l inner o) q p
     ∙ ap (λ y. read l after (at inner mode.Gap 0 y) p) (star_drafts inner d))
@@ -203,24 +203,24 @@ more_drafts : (inner : List Outer) (u x : List ℕ) (d : Draft) → braced_draft
 more_drafts [] u x d = ap (perform deed.Word) (add_add (42 ∷ []) x d)
 more_drafts (o ∷ os) u x d = add_add (42 ∷ []) (u ++ 125 ∷ []) d
 
-star_more : (l : Level) → Outermost l → (inner : List Outer) (after u x : List ℕ) (d : Draft) → Braced u x → Parted (level_in l inner) after → u ≢ [] →
+star_more : (l : Level) (inner : List Outer) → OutermostIn l inner → (after u x : List ℕ) (d : Draft) → Braced u x → Parted (level_in l inner) after → u ≢ [] →
     Leads l after (at inner mode.BraceFirst 0 d) (42 ∷ u ++ 125 ∷ []) (at inner mode.Gap 0 (braced_draft inner (42 ∷ u) (42 ∷ x) d))
 unfolding turn
-star_more l o inner after u x d i q n =
+star_more l inner o after u x d i q n =
     let d1 = moved inner (42 ∷ []) (add (42 ∷ [])) d in
     subst (λ y. Leads l after (at inner mode.BraceFirst 0 d) (42 ∷ u ++ 125 ∷ []) (at inner mode.Gap 0 y)) (more_drafts inner u x d)
     (lead_both l after _ _ _ (42 ∷ []) (u ++ 125 ∷ []) (seg_one l inner (u ++ 125 ∷ [] ++ after) mode.BraceFirst mode.BraceStar 0 42 class.Star deed.Nothing (deed.Byte 42) star_is refl d)
     (lead_from l after _ (at inner mode.Braced 0 d1) _ (u ++ 125 ∷ [])
     (λ p. subst (λ y. read l y (at inner mode.BraceStar 0 d1) p ≡ read l y (at inner mode.Braced 0 d1) p) (sym (append_assoc u (125 ∷ []) after)) (star_goes_on l inner u x (125 ∷ after) d1 p i n))
-    (whole_braced l o inner after u x d1 i q)))
+    (whole_braced l inner o after u x d1 i q)))
 
-star_begins : (l : Level) → Outermost l → (inner : List Outer) (after u x : List ℕ) (d : Draft) → Braced u x → Parted (level_in l inner) after →
+star_begins : (l : Level) (inner : List Outer) → OutermostIn l inner → (after u x : List ℕ) (d : Draft) → Braced u x → Parted (level_in l inner) after →
     Leads l after (at inner mode.BraceFirst 0 d) (42 ∷ u ++ 125 ∷ []) (at inner mode.Gap 0 (braced_draft inner (42 ∷ u) (42 ∷ x) d))
-star_begins l o inner after u x d words.Braced.nothing q = star_word l o inner after d q
-star_begins l o inner after u x d (words.Braced.byte b h i) q = star_more l o inner after u x d (words.Braced.byte b h i) q (λ e. absurd cc)
-star_begins l o inner after u x d (words.Braced.pair b h i) q = star_more l o inner after u x d (words.Braced.pair b h i) q (λ e. absurd cc)
-star_begins l o inner after u x d (words.Braced.joined_line g h i) q = star_more l o inner after u x d (words.Braced.joined_line g h i) q (λ e. absurd cc)
-star_begins l o inner after u x d (words.Braced.braces i j) q = star_more l o inner after u x d (words.Braced.braces i j) q (λ e. absurd cc)
+star_begins l inner o after u x d words.Braced.nothing q = star_word l inner o after d q
+star_begins l inner o after u x d (words.Braced.byte b h i) q = star_more l inner o after u x d (words.Braced.byte b h i) q (λ e. absurd cc)
+star_begins l inner o after u x d (words.Braced.pair b h i) q = star_more l inner o after u x d (words.Braced.pair b h i) q (λ e. absurd cc)
+star_begins l inner o after u x d (words.Braced.joined_line g h i) q = star_more l inner o after u x d (words.Braced.joined_line g h i) q (λ e. absurd cc)
+star_begins l inner o after u x d (words.Braced.braces i j) q = star_more l inner o after u x d (words.Braced.braces i j) q (λ e. absurd cc)
 
 star_case : (c : Class) → (c ≡ class.Star → ⊥) ⊎ (c ≡ class.Star)
 star_case class.Star = inr refl
@@ -230,28 +230,28 @@ star_case c = inl (λ e. absurd cc)
 abbrev FirstBraced : Level → List Outer → List ℕ → List ℕ → List ℕ → Draft → Type 0
 FirstBraced l inner after t v d = Leads l after (at inner mode.BraceFirst 0 d) (t ++ 125 ∷ []) (at inner mode.Gap 0 (braced_draft inner t v d))
 
-first_as : (l : Level) → Outermost l → (inner : List Outer) (after v : List ℕ) (b : ℕ) (bs t : List ℕ) (d : Draft) → class_of b ≢ class.Star → t ++ 125 ∷ [] ++ after ≡ b ∷ bs → Braced t v → Parted (level_in l inner) after → FirstBraced l inner after t v d
-first_as l o inner after v b bs t d n e i q =
+first_as : (l : Level) (inner : List Outer) → OutermostIn l inner → (after v : List ℕ) (b : ℕ) (bs t : List ℕ) (d : Draft) → class_of b ≢ class.Star → t ++ 125 ∷ [] ++ after ≡ b ∷ bs → Braced t v → Parted (level_in l inner) after → FirstBraced l inner after t v d
+first_as l inner o after v b bs t d n e i q =
     lead_from l after _ (at inner mode.Braced 0 d) _ (t ++ 125 ∷ []) (λ p. subst (λ y. read l y (at inner mode.BraceFirst 0 d) p ≡ read l y (at inner mode.Braced 0 d) p) (sym e) (first_read l inner b bs d p n))
-    (whole_braced l o inner after t v d i q)
+    (whole_braced l inner o after t v d i q)
 
-first_byte : (l : Level) → Outermost l → (inner : List Outer) (after u x : List ℕ) (b : ℕ) (d : Draft) → plain_braced (class_of b) ≡ true → Braced u x → Parted (level_in l inner) after →
+first_byte : (l : Level) (inner : List Outer) → OutermostIn l inner → (after u x : List ℕ) (b : ℕ) (d : Draft) → plain_braced (class_of b) ≡ true → Braced u x → Parted (level_in l inner) after →
     (class_of b ≡ class.Star → ⊥) ⊎ (class_of b ≡ class.Star) → FirstBraced l inner after (b ∷ u) (b ∷ x) d
-first_byte l o inner after u x b d h i q (inl n) = first_as l o inner after (b ∷ x) b (u ++ 125 ∷ [] ++ after) (b ∷ u) d n refl (words.Braced.byte b h i) q
-first_byte l o inner after u x b d h i q (inr e) = subst (λ y. FirstBraced l inner after (y ∷ u) (y ∷ x) d) (sym (is_class b class.Star e)) (star_begins l o inner after u x d i q)
+first_byte l inner o after u x b d h i q (inl n) = first_as l inner o after (b ∷ x) b (u ++ 125 ∷ [] ++ after) (b ∷ u) d n refl (words.Braced.byte b h i) q
+first_byte l inner o after u x b d h i q (inr e) = subst (λ y. FirstBraced l inner after (y ∷ u) (y ∷ x) d) (sym (is_class b class.Star e)) (star_begins l inner o after u x d i q)
 
-first_braced : (l : Level) → Outermost l → (inner : List Outer) (after t v : List ℕ) (d : Draft) → Braced t v → Parted (level_in l inner) after → FirstBraced l inner after t v d
-first_braced l o inner after t v d words.Braced.nothing q = first_as l o inner after [] 125 after [] d (not_class 125 class.Close class.Star close_is (λ e. absurd cc)) refl words.Braced.nothing q
-first_braced l o inner after t v d (words.Braced.byte {t = u} {v = x} b h i) q = first_byte l o inner after u x b d h i q (star_case (class_of b))
-first_braced l o inner after t v d (words.Braced.pair b h i) q = first_as l o inner after v 92 _ t d (not_class 92 class.Backslash class.Star backslash_is (λ e. absurd cc)) refl (words.Braced.pair b h i) q
-first_braced l o inner after t v d (words.Braced.joined_line g h i) q = first_as l o inner after v 92 _ t d (not_class 92 class.Backslash class.Star backslash_is (λ e. absurd cc)) refl (words.Braced.joined_line g h i) q
-first_braced l o inner after t v d (words.Braced.braces i j) q = first_as l o inner after v 123 _ t d (not_class 123 class.Open class.Star open_is (λ e. absurd cc)) refl (words.Braced.braces i j) q
+first_braced : (l : Level) (inner : List Outer) → OutermostIn l inner → (after t v : List ℕ) (d : Draft) → Braced t v → Parted (level_in l inner) after → FirstBraced l inner after t v d
+first_braced l inner o after t v d words.Braced.nothing q = first_as l inner o after [] 125 after [] d (not_class 125 class.Close class.Star close_is (λ e. absurd cc)) refl words.Braced.nothing q
+first_braced l inner o after t v d (words.Braced.byte {t = u} {v = x} b h i) q = first_byte l inner o after u x b d h i q (star_case (class_of b))
+first_braced l inner o after t v d (words.Braced.pair b h i) q = first_as l inner o after v 92 _ t d (not_class 92 class.Backslash class.Star backslash_is (λ e. absurd cc)) refl (words.Braced.pair b h i) q
+first_braced l inner o after t v d (words.Braced.joined_line g h i) q = first_as l inner o after v 92 _ t d (not_class 92 class.Backslash class.Star backslash_is (λ e. absurd cc)) refl (words.Braced.joined_line g h i) q
+first_braced l inner o after t v d (words.Braced.braces i j) q = first_as l inner o after v 123 _ t d (not_class 123 class.Open class.Star open_is (λ e. absurd cc)) refl (words.Braced.braces i j) q
 
-brace_goes_on : (l : Level) → Outermost l → (inner : List Outer) (after t v : List ℕ) (x : Entry) (d : Draft) → Braced t v → Parted (level_in l inner) after →
+brace_goes_on : (l : Level) (inner : List Outer) → OutermostIn l inner → (after t v : List ℕ) (x : Entry) (d : Draft) → Braced t v → Parted (level_in l inner) after →
     Leads l after (at inner (entry_brace x) 0 d) (t ++ 125 ∷ []) (at inner mode.Gap 0 (braced_draft inner t v d))
-brace_goes_on l o inner after t v at_gap d i q = first_braced l o inner after t v d i q
-brace_goes_on l o inner after t v at_start d i q = first_braced l o inner after t v d i q
-brace_goes_on l o inner after t v at_star d i q = whole_braced l o inner after t v d i q
+brace_goes_on l inner o after t v at_gap d i q = first_braced l inner o after t v d i q
+brace_goes_on l inner o after t v at_start d i q = first_braced l inner o after t v d i q
+brace_goes_on l inner o after t v at_star d i q = whole_braced l inner o after t v d i q
 
 braced_finished : (inner : List Outer) (x : Entry) (e : Bool) (ws : List Word) (n : ℕ) (d : Draft) (t v : List ℕ) → Fresh inner x e ws n d →
     braced_draft inner t v (moved inner (123 ∷ []) (perform (entry_deed x)) d) ≡ finished inner (123 ∷ t ++ 125 ∷ []) ws e (with_text v []) d
@@ -345,56 +345,56 @@ star_text [] = tt
 star_text (b ∷ bs) = refl
 
 mutual
-  parts_lead : (l : Level) → Outermost l → (L : Level) (n : ℕ) (s : Spot) (after t : List ℕ) (ps : List Piece) → Parts L n s after t ps → (inner : List Outer) (d : Draft) → L ≡ level_in l inner → s ≢ spot.Alone → Room n inner d →
+  pub parts_lead : (l L : Level) (n : ℕ) (s : Spot) (after t : List ℕ) (ps : List Piece) → Parts L n s after t ps → (inner : List Outer) (d : Draft) → L ≡ level_in l inner → s ≢ spot.Alone → Room n inner d →
       Leading l inner after s d t ps
-  parts_lead l o L n s after t ps words.Parts.nothing inner d e na rm = record { draft = d; leads = lead_none l after _; behind = behind_none inner d }
-  parts_lead l o L n s after t ps (words.Parts.byte {t = u} {ps = qs} b h r) inner d e na rm =
+  parts_lead l L n s after t ps words.Parts.nothing inner d e na rm = record { draft = d; leads = lead_none l after _; behind = behind_none inner d }
+  parts_lead l L n s after t ps (words.Parts.byte {t = u} {ps = qs} b h r) inner d e na rm =
       let d1 = moved inner (b ∷ []) (add (b ∷ [])) d in
       let a = text_atom inner d (b ∷ []) (b ∷ []) in
       by_seg l inner after s d (b ∷ []) u (add (b ∷ [])) (with_text (b ∷ [])) qs (seg_byte l inner (u ++ after) s b (subst (λ x. plain x s (class_of b) ≡ true) e h)) a
-      (parts_lead l o L n s after u qs r inner d1 e na (room_as n inner d d1 (atom_indices inner d d1 (b ∷ []) (with_text (b ∷ [])) a) rm))
-  parts_lead l o L n s after t ps (words.Parts.escape {t = u} {ps = qs} y w h r) inner d e na rm =
+      (parts_lead l L n s after u qs r inner d1 e na (room_as n inner d d1 (atom_indices inner d d1 (b ∷ []) (with_text (b ∷ [])) a) rm))
+  parts_lead l L n s after t ps (words.Parts.escape {t = u} {ps = qs} y w h r) inner d e na rm =
       let d1 = moved inner (92 ∷ y) (add w) d in
       let a = text_atom inner d (92 ∷ y) w in
       by_seg l inner after s d (92 ∷ y) u (add w) (with_text w) qs (seg_escape l inner (u ++ after) s y w na h) a
-      (parts_lead l o L n s after u qs r inner d1 e na (room_as n inner d d1 (atom_indices inner d d1 (92 ∷ y) (with_text w) a) rm))
-  parts_lead l o L n s after t ps (words.Parts.joined_line {t = u} {ps = qs} g nb h r) inner d e na rm =
+      (parts_lead l L n s after u qs r inner d1 e na (room_as n inner d d1 (atom_indices inner d d1 (92 ∷ y) (with_text w) a) rm))
+  parts_lead l L n s after t ps (words.Parts.joined_line {t = u} {ps = qs} g nb h r) inner d e na rm =
       let d1 = moved inner (92 ∷ 10 ∷ g) (add (32 ∷ [])) d in
       let a = text_atom inner d (92 ∷ 10 ∷ g) (32 ∷ []) in
       by_seg l inner after s d (92 ∷ 10 ∷ g) u (add (32 ∷ [])) (with_text (32 ∷ [])) qs (seg_joined l inner (u ++ after) g s na nb h) a
-      (parts_lead l o L n s after u qs r inner d1 e na (room_as n inner d d1 (atom_indices inner d d1 (92 ∷ 10 ∷ g) (with_text (32 ∷ [])) a) rm))
-  parts_lead l o L n s after t ps (words.Parts.last_backslash h) inner d e na rm =
+      (parts_lead l L n s after u qs r inner d1 e na (room_as n inner d d1 (atom_indices inner d d1 (92 ∷ 10 ∷ g) (with_text (32 ∷ [])) a) rm))
+  parts_lead l L n s after t ps (words.Parts.last_backslash h) inner d e na rm =
       let d1 = moved inner (92 ∷ []) (add (92 ∷ [])) d in
       record {
         draft = d1;
         leads = subst (λ y. Leads l y (at inner (mode.In s) 0 d) (92 ∷ []) (at inner (mode.In s) 0 d1)) (sym h) (seg_last l inner s na d);
         behind = atom_then inner d d1 d1 (92 ∷ []) [] (with_text (92 ∷ [])) [] (text_atom inner d (92 ∷ []) (92 ∷ [])) (behind_none inner d1);
       }
-  parts_lead l o L n s after t ps (words.Parts.dollar {t = u} {ps = qs} h r) inner d e na rm =
+  parts_lead l L n s after t ps (words.Parts.dollar {t = u} {ps = qs} h r) inner d e na rm =
       let d1 = moved inner (36 ∷ []) (add (36 ∷ [])) d in
       let a = text_atom inner d (36 ∷ []) (36 ∷ []) in
       by_seg l inner after s d (36 ∷ []) u (add (36 ∷ [])) (with_text (36 ∷ [])) qs (seg_lone_dollar l inner (u ++ after) s na h) a
-      (parts_lead l o L n s after u qs r inner d1 e na (room_as n inner d d1 (atom_indices inner d d1 (36 ∷ []) (with_text (36 ∷ [])) a) rm))
-  parts_lead l o L n s after t ps (words.Parts.variable {t = u} {ps = qs} name nm ne h r) inner d e na rm =
+      (parts_lead l L n s after u qs r inner d1 e na (room_as n inner d d1 (atom_indices inner d d1 (36 ∷ []) (with_text (36 ∷ [])) a) rm))
+  parts_lead l L n s after t ps (words.Parts.variable {t = u} {ps = qs} name nm ne h r) inner d e na rm =
       let d1 = moved inner (36 ∷ name) (varied name) d in
       let a = variable_atom inner d (36 ∷ name) name in
       by_seg l inner after s d (36 ∷ name) u (varied name) (λ x. Variable name ∷ x) qs (seg_variable l inner (u ++ after) s name na nm ne h) a
-      (parts_lead l o L n s after u qs r inner d1 e na (room_as n inner d d1 (atom_indices inner d d1 (36 ∷ name) (λ x. Variable name ∷ x) a) rm))
-  parts_lead l o L n s after t ps (words.Parts.braced_variable {t = u} {ps = qs} name h r) inner d e na rm =
+      (parts_lead l L n s after u qs r inner d1 e na (room_as n inner d d1 (atom_indices inner d d1 (36 ∷ name) (λ x. Variable name ∷ x) a) rm))
+  parts_lead l L n s after t ps (words.Parts.braced_variable {t = u} {ps = qs} name h r) inner d e na rm =
       let whole = 36 ∷ 123 ∷ name ++ 125 ∷ [] in
       let d1 = moved inner whole (varied name) d in
       let a = variable_atom inner d whole name in
       subst (λ x. Leading l inner after s d x (Variable name ∷ qs)) (append_assoc (36 ∷ 123 ∷ name) (125 ∷ []) u)
       (by_seg l inner after s d whole u (varied name) (λ x. Variable name ∷ x) qs (seg_braced_variable l inner (u ++ after) s name na h) a
-      (parts_lead l o L n s after u qs r inner d1 e na (room_as n inner d d1 (atom_indices inner d d1 whole (λ x. Variable name ∷ x) a) rm)))
-  parts_lead l o L n s after t ps (words.Parts.element {n = k} {t = u} {i = i} {ps = qs} {is = is} name nm j r) inner d e na rm =
+      (parts_lead l L n s after u qs r inner d1 e na (room_as n inner d d1 (atom_indices inner d d1 whole (λ x. Variable name ∷ x) a) rm)))
+  parts_lead l L n s after t ps (words.Parts.element {n = k} {t = u} {i = i} {ps = qs} {is = is} name nm j r) inner d e na rm =
       let front = 36 ∷ name ++ 40 ∷ [] in
       let d1 = indexed s inner front name d in
-      let x = parts_lead l o L k spot.Index (41 ∷ u ++ after) i is j (entered s inner) d1 (e ∙ sym (entered_level l s inner)) (λ y. absurd cc) (entered_room k s inner front name d rm) in
+      let x = parts_lead l L k spot.Index (41 ∷ u ++ after) i is j (entered s inner) d1 (e ∙ sym (entered_level l s inner)) (λ y. absurd cc) (entered_room k s inner front name d rm) in
       let d3 = unindexed s inner d.indices x.draft in
       let a = element_atom inner s d x.draft front name i is x.behind in
       let q = λ (y : List Piece). Element name ∷ is ++ End ∷ y in
-      let z = parts_lead l o L (suc k) s after u qs r inner d3 e na (room_as (suc k) inner d d3 (atom_indices inner d d3 (front ++ i ++ 41 ∷ []) q a) rm) in
+      let z = parts_lead l L (suc k) s after u qs r inner d3 e na (room_as (suc k) inner d d3 (atom_indices inner d d3 (front ++ i ++ 41 ∷ []) q a) rm) in
       subst (λ y. Leading l inner after s d y (Element name ∷ is ++ End ∷ qs)) (append_assoc (front ++ i) (41 ∷ []) u ∙ ap (λ y. y ++ 41 ∷ u) (append_assoc (36 ∷ name) (40 ∷ []) i))
       (record {
         draft = z.draft;
@@ -405,13 +405,13 @@ mutual
             z.leads;
         behind = atom_then inner d d3 z.draft (front ++ i ++ 41 ∷ []) u q qs a z.behind;
       })
-  parts_lead l o L n s after t ps (words.Parts.substitution {n = k} {t = u} {c = c} {ps = qs} sc r) inner d e na rm =
+  parts_lead l L n s after t ps (words.Parts.substitution {n = k} {t = u} {c = c} {ps = qs} sc r) inner d e na rm =
       let d1 = bracketed inner d in
       let d3 = unbracketed inner (add c d1) in
       let a = command_atom inner d c in
       let q = λ (y : List Piece). Command c ∷ y in
-      let x = script_lead l o k (93 ∷ u ++ after) c sc (u ++ after) refl (outer.Bracket s) inner d1 (bracketed_room k s inner d rm) in
-      let z = parts_lead l o L (suc k) s after u qs r inner d3 e na (room_as (suc k) inner d d3 (atom_indices inner d d3 (91 ∷ c ++ 93 ∷ []) q a) rm) in
+      let x = script_lead l k (93 ∷ u ++ after) c sc (u ++ after) refl (outer.Bracket s) inner d1 (bracketed_room k s inner d rm) in
+      let z = parts_lead l L (suc k) s after u qs r inner d3 e na (room_as (suc k) inner d d3 (atom_indices inner d d3 (91 ∷ c ++ 93 ∷ []) q a) rm) in
       subst (λ y. Leading l inner after s d y (Command c ∷ qs)) (append_assoc (91 ∷ c) (93 ∷ []) u)
       (record {
         draft = z.draft;
@@ -423,72 +423,72 @@ mutual
         behind = atom_then inner d d3 z.draft (91 ∷ c ++ 93 ∷ []) u q qs a z.behind;
       })
 
-  plain_lead : (l : Level) → Outermost l → (L : Level) (n : ℕ) (after t : List ℕ) (ps : List Piece) → Plain L n after t ps → (inner : List Outer) (x : Entry) (v : Bool) (ws : List Word) (d : Draft) → L ≡ level_in l inner →
+  plain_lead : (l L : Level) (n : ℕ) (after t : List ℕ) (ps : List Piece) → Plain L n after t ps → (inner : List Outer) → OutermostIn l inner → (x : Entry) (v : Bool) (ws : List Word) (d : Draft) → L ≡ level_in l inner →
       Fresh inner x v ws n d → Parted (level_in l inner) after → NoHash x t → Leads l after (at inner (entry_mode x) 0 d) t (at inner mode.Gap 0 (finished inner t ws v ps d))
-  plain_lead l o L n after t ps (words.Plain.bare b r) inner x v ws d e fr q nh =
-      let y = parts_lead l o L n spot.Bare after t ps r inner (does_in inner (entry_deed x) d) e (λ z. absurd cc) (fresh_room inner x v ws n d fr) in
+  plain_lead l L n after t ps (words.Plain.bare b r) inner o x v ws d e fr q nh =
+      let y = parts_lead l L n spot.Bare after t ps r inner (does_in inner (entry_deed x) d) e (λ z. absurd cc) (fresh_room inner x v ws n d fr) in
       lead_from l after _ _ _ t (bare_begins x l L n spot.Bare after t ps r inner d refl e b nh)
       (lead_to l after _ _ _ t y.leads
       (λ p. part_read l inner (mode.In spot.Bare) deed.Word (mode.Pair spot.Bare) after y.draft (bare_ends l inner o) q p
       ∙ ap (λ z. read l after (at inner mode.Gap 0 z) p) (bare_finished inner x v ws n d y.draft t ps fr y.behind)))
-  plain_lead l o L n after t ps (words.Plain.quoted {t = u} r) inner x v ws d e fr q nh =
+  plain_lead l L n after t ps (words.Plain.quoted {t = u} r) inner o x v ws d e fr q nh =
       let d0 = moved inner (34 ∷ []) (perform (entry_deed x)) d in
-      let y = parts_lead l o L n spot.Quoted (34 ∷ after) u ps r inner d0 e (λ z. absurd cc) (quoted_room inner x v ws n d fr) in
+      let y = parts_lead l L n spot.Quoted (34 ∷ after) u ps r inner d0 e (λ z. absurd cc) (quoted_room inner x v ws n d fr) in
       lead_both l after _ _ _ (34 ∷ u) (34 ∷ [])
       (lead_both l (34 ∷ after) _ _ _ (34 ∷ []) u (seg_quote l inner (u ++ 34 ∷ after) x d) y.leads)
       (lead_to l after _ _ _ (34 ∷ []) (seg_unquote l inner after y.draft)
       (λ p. part_read l inner (mode.Behind delimiter.Quote) deed.Nothing (mode.BehindPair delimiter.Quote) after (moved inner (34 ∷ []) (perform deed.Word) y.draft) (behind_ends l inner delimiter.Quote o) q p
       ∙ ap (λ z. read l after (at inner mode.Gap 0 z) p) (quoted_finished inner x v ws n d y.draft u ps fr y.behind)))
-  plain_lead l o L n after t ps (words.Plain.braced {t = u} {v = w} i) inner x v ws d e fr q nh =
+  plain_lead l L n after t ps (words.Plain.braced {t = u} {v = w} i) inner o x v ws d e fr q nh =
       subst (λ z. Leads l after (at inner (entry_mode x) 0 d) (123 ∷ u ++ 125 ∷ []) (at inner mode.Gap 0 z)) (braced_finished inner x v ws n d u w fr)
-      (lead_both l after _ _ _ (123 ∷ []) (u ++ 125 ∷ []) (seg_brace l inner (u ++ 125 ∷ [] ++ after) x d) (brace_goes_on l o inner after u w x (moved inner (123 ∷ []) (perform (entry_deed x)) d) i q))
+      (lead_both l after _ _ _ (123 ∷ []) (u ++ 125 ∷ []) (seg_brace l inner (u ++ 125 ∷ [] ++ after) x d) (brace_goes_on l inner o after u w x (moved inner (123 ∷ []) (perform (entry_deed x)) d) i q))
 
-  one_lead : (l : Level) → Outermost l → (L : Level) (n : ℕ) (after t : List ℕ) (w : Word) → OneWord L n after t w → (inner : List Outer) (x : Entry) (ws : List Word) (d : Draft) → L ≡ level_in l inner → entry_brace x ≡ mode.BraceFirst →
+  one_lead : (l L : Level) (n : ℕ) (after t : List ℕ) (w : Word) → OneWord L n after t w → (inner : List Outer) → OutermostIn l inner → (x : Entry) (ws : List Word) (d : Draft) → L ≡ level_in l inner → entry_brace x ≡ mode.BraceFirst →
       Fresh inner x false ws n d → Parted (level_in l inner) after → NoHash x t → Leads l after (at inner (entry_mode x) 0 d) t (at inner mode.Gap 0 (worded inner t ws (w ∷ []) d))
-  one_lead l o L n after t w (words.OneWord.alone {ps = ps} r) inner x ws d e k fr q nh =
-      subst (λ z. Leads l after (at inner (entry_mode x) 0 d) t (at inner mode.Gap 0 z)) (alone_finished inner ws t ps d) (plain_lead l o L n after t ps r inner x false ws d e fr q nh)
-  one_lead l o L n after t w (words.OneWord.expanded {t = u} {ps = ps} r) inner x ws d e k fr q nh =
+  one_lead l L n after t w (words.OneWord.alone {ps = ps} r) inner o x ws d e k fr q nh =
+      subst (λ z. Leads l after (at inner (entry_mode x) 0 d) t (at inner mode.Gap 0 z)) (alone_finished inner ws t ps d) (plain_lead l L n after t ps r inner o x false ws d e fr q nh)
+  one_lead l L n after t w (words.OneWord.expanded {t = u} {ps = ps} r) inner o x ws d e k fr q nh =
       let f = λ (y : Draft). add (42 ∷ []) (perform (entry_deed x) y) in
       let d1 = moved inner (123 ∷ 42 ∷ 125 ∷ []) f d in
       subst (λ z. Leads l after (at inner (entry_mode x) 0 d) (123 ∷ 42 ∷ 125 ∷ u) (at inner mode.Gap 0 z)) (prefix_finished inner ws u ps d f)
-      (lead_both l after _ _ _ (123 ∷ 42 ∷ 125 ∷ []) u (seg_prefix l inner (u ++ after) x k d) (plain_lead l o L n after u ps r inner at_star true ws d1 e (prefixed inner x ws n d fr) q (star_text u)))
+      (lead_both l after _ _ _ (123 ∷ 42 ∷ 125 ∷ []) u (seg_prefix l inner (u ++ after) x k d) (plain_lead l L n after u ps r inner o at_star true ws d1 e (prefixed inner x ws n d fr) q (star_text u)))
 
-  words_lead : (l : Level) → Outermost l → (L : Level) (n : ℕ) (after t : List ℕ) (vs : List Word) → Words L n after t vs → (inner : List Outer) (ws : List Word) (d : Draft) → L ≡ level_in l inner →
+  words_lead : (l L : Level) (n : ℕ) (after t : List ℕ) (vs : List Word) → Words L n after t vs → (inner : List Outer) → OutermostIn l inner → (ws : List Word) (d : Draft) → L ≡ level_in l inner →
       Fresh inner at_gap false ws n d → Leads l after (at inner mode.Gap 0 d) t (at inner mode.Gap 0 (worded inner t ws vs d))
-  words_lead l o L n after t vs (words.Words.no_words g) inner ws d e fr =
+  words_lead l L n after t vs (words.Words.no_words g) inner o ws d e fr =
       subst (λ z. Leads l after (at inner mode.Gap 0 d) t (at inner mode.Gap 0 z)) (no_words inner ws n t d fr) (seg_gap l inner after t (subst (λ x. Gap x t) e g) d)
-  words_lead l o L n after t vs (words.Words.word {g = g} {u = u} {t = r} {w = w} {ws = us} gap one q more) inner ws d e fr =
+  words_lead l L n after t vs (words.Words.word {g = g} {u = u} {t = r} {w = w} {ws = us} gap one q more) inner o ws d e fr =
       let d1 = moved inner g same d in
       let d2 = worded inner u ws (w ∷ []) d1 in
       let fr1 = gap_fresh inner at_gap at_gap ws n g d refl refl fr in
       subst (λ z. Leads l after (at inner mode.Gap 0 d) (g ++ u ++ r) (at inner mode.Gap 0 z)) (worded_both inner g u r ws (w ∷ []) us d)
       (lead_both l after _ _ _ (g ++ u) r
       (lead_both l (r ++ after) _ _ _ g u (seg_gap l inner (u ++ (r ++ after)) g (subst (λ x. Gap x g) e gap) d)
-      (one_lead l o L n (r ++ after) u w one inner at_gap ws d1 e refl fr1 (subst (λ x. Parted x (r ++ after)) e q) (gap_text u)))
-      (words_lead l o L n after r us more inner (ws ++ w ∷ []) d2 e (word_fresh inner ws (w ∷ []) n u at_gap d1 fr1)))
+      (one_lead l L n (r ++ after) u w one inner o at_gap ws d1 e refl fr1 (subst (λ x. Parted x (r ++ after)) e q) (gap_text u)))
+      (words_lead l L n after r us more inner o (ws ++ w ∷ []) d2 e (word_fresh inner ws (w ∷ []) n u at_gap d1 fr1)))
 
-  command_lead : (l : Level) → Outermost l → (L : Level) (n : ℕ) (after t : List ℕ) (vs : List Word) → OneCommand L n after t vs → (inner : List Outer) (ws : List Word) (d : Draft) → L ≡ level_in l inner → HasCommands (level_in l inner) →
+  command_lead : (l L : Level) (n : ℕ) (after t : List ℕ) (vs : List Word) → OneCommand L n after t vs → (inner : List Outer) → OutermostIn l inner → (ws : List Word) (d : Draft) → L ≡ level_in l inner → HasCommands (level_in l inner) →
       Fresh inner at_gap false ws n d → Leads l after (at inner mode.Start 0 d) t (at inner (mode_of vs) 0 (commanded inner t ws vs d))
-  command_lead l o L n after t vs (words.OneCommand.no_command sk) inner ws d e hc fr = seg_skipped l inner after t hc sk d
-  command_lead l o L n after t vs (words.OneCommand.command {s = s} {u = u} {t = r} {w = w} {ws = us} sk nh one q more) inner ws d e hc fr =
+  command_lead l L n after t vs (words.OneCommand.no_command sk) inner o ws d e hc fr = seg_skipped l inner after t hc sk d
+  command_lead l L n after t vs (words.OneCommand.command {s = s} {u = u} {t = r} {w = w} {ws = us} sk nh one q more) inner o ws d e hc fr =
       let d1 = moved inner s same d in
       let d2 = worded inner u ws (w ∷ []) d1 in
       let fr1 = gap_fresh inner at_gap at_start ws n s d refl refl fr in
       subst (λ z. Leads l after (at inner mode.Start 0 d) (s ++ u ++ r) (at inner mode.Gap 0 z)) (worded_both inner s u r ws (w ∷ []) us d)
       (lead_both l after _ _ _ (s ++ u) r
       (lead_both l (r ++ after) _ _ _ s u (seg_skipped l inner (u ++ (r ++ after)) s hc (subst (λ x. Skipped x s) (append_assoc u r after) sk) d)
-      (one_lead l o L n (r ++ after) u w one inner at_start ws d1 e refl fr1 (subst (λ x. Parted x (r ++ after)) e q) (start_text u nh)))
-      (words_lead l o L n after r us more inner (ws ++ w ∷ []) d2 e (word_fresh inner ws (w ∷ []) n u at_start d1 fr1)))
+      (one_lead l L n (r ++ after) u w one inner o at_start ws d1 e refl fr1 (subst (λ x. Parted x (r ++ after)) e q) (start_text u nh)))
+      (words_lead l L n after r us more inner o (ws ++ w ∷ []) d2 e (word_fresh inner ws (w ∷ []) n u at_start d1 fr1)))
 
-  script_lead : (l : Level) → Outermost l → (n : ℕ) (after t : List ℕ) → Script n after t → (r : List ℕ) → after ≡ 93 ∷ r → (b : Outer) (os : List Outer) (d : Draft) → Room n (b ∷ os) d →
+  pub script_lead : (l : Level) (n : ℕ) (after t : List ℕ) → Script n after t → (r : List ℕ) → after ≡ 93 ∷ r → (b : Outer) (os : List Outer) (d : Draft) → Room n (b ∷ os) d →
       Leads l after (at (b ∷ os) mode.Start 0 d) t (at (b ∷ os) mode.Gap 0 (add t d))
-  script_lead l o n after t (words.Script.last {ws = vs} c) r e b os d rm =
-      lead_to l after _ _ _ t (command_lead l o level.Inside n after t vs c (b ∷ os) [] d refl tt rm) (λ p. mode_closes l b os t r after vs d p e)
-  script_lead l o n after t (words.Script.more {u = u} {t = v} {ws = vs} k h c sc) r e b os d rm =
+  script_lead l n after t (words.Script.last {ws = vs} c) r e b os d rm =
+      lead_to l after _ _ _ t (command_lead l level.Inside n after t vs c (b ∷ os) tt [] d refl tt rm) (λ p. mode_closes l b os t r after vs d p e)
+  script_lead l n after t (words.Script.more {u = u} {t = v} {ws = vs} k h c sc) r e b os d rm =
       let d2 = add (k ∷ []) (add u d) in
       subst (λ z. Leads l after (at (b ∷ os) mode.Start 0 d) (u ++ k ∷ v) (at (b ∷ os) mode.Gap 0 z)) (ap (add v) (add_add u (k ∷ []) d) ∙ add_add (u ++ k ∷ []) v d ∙ ap (λ x. add x d) (append_assoc u (k ∷ []) v))
-      (lead_both l after _ _ _ u (k ∷ v) (command_lead l o level.Inside n (k ∷ v ++ after) u vs c (b ∷ os) [] d refl tt rm)
-      (lead_both l after _ _ _ (k ∷ []) v (ender_lead l b os (v ++ after) u vs d k (class_of k) refl h) (script_lead l o n after v sc r e b os d2 rm)))
+      (lead_both l after _ _ _ u (k ∷ v) (command_lead l level.Inside n (k ∷ v ++ after) u vs c (b ∷ os) tt [] d refl tt rm)
+      (lead_both l after _ _ _ (k ∷ []) v (ender_lead l b os (v ++ after) u vs d k (class_of k) refl h) (script_lead l n after v sc r e b os d2 rm)))
 
 -- the whole
 list_stops : (ws : List Word) (p : ℕ) → read level.List [] (at [] mode.Gap 0 (base false ws)) p ≡ Ok (ws, p)
@@ -516,10 +516,10 @@ gap_ends b rest ws p h = ap (λ m. onward m p (λ k. read level.Top rest k (p + 
 
 begun_read : (text : List ℕ) (ws : List Word) (n p : ℕ) → Begun text ws n → read level.Top text (fresh mode.Start) p ≡ Ok (ws, p + n)
 begun_read text ws n p (words.Begun.whole c) =
-    let x = (command_lead level.Top tt level.Top 100 [] text ws c [] [] (base false []) refl tt (refl, refl)).on p in
+    let x = (command_lead level.Top level.Top 100 [] text ws c [] tt [] (base false []) refl tt (refl, refl)).on p in
     ap (λ t. read level.Top t (fresh mode.Start) p) (sym (append-nil text)) ∙ x ∙ command_stops text ws (p + length text)
 begun_read text ws n p (words.Begun.ended {t = t} {rest = rest} {w = w} {ws = vs} b h c) =
-    (command_lead level.Top tt level.Top 100 (b ∷ rest) t (w ∷ vs) c [] [] (base false []) refl tt (refl, refl)).on p
+    (command_lead level.Top level.Top 100 (b ∷ rest) t (w ∷ vs) c [] tt [] (base false []) refl tt (refl, refl)).on p
     ∙ gap_ends b rest (w ∷ vs) (p + length t) h ∙ ap (λ q. Ok (w ∷ vs, q)) (omega arith)
 
 pub spelled_command_is_read : (text : List ℕ) (at n : ℕ) (ws : List Word) → Begun (drop at text) ws n → command_at text at ≡ Ok (ws, at + n)
@@ -529,5 +529,5 @@ spelled_command_is_read text at n ws h = ap kind_of (begun_read (drop at text) w
 pub spelled_words_are_read : (text : List ℕ) (ws : List Word) → WordsOf text ws → words_of text ≡ Ok ws
 unfolding words_of
 spelled_words_are_read text ws h =
-    let x = (words_lead level.List tt level.List 100 [] text ws h [] [] (base false []) refl (refl, refl)).on 0 in
+    let x = (words_lead level.List level.List 100 [] text ws h [] tt [] (base false []) refl (refl, refl)).on 0 in
     ap words_only (ap (λ t. read level.List t (fresh mode.Gap) 0) (sym (append-nil text)) ∙ x ∙ list_stops ws (0 + length text))

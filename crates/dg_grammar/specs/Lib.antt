@@ -1,4 +1,6 @@
 pub mod Escapes
 pub mod Lists
 pub mod Words
+pub mod Operands
 pub mod Continuing
+pub mod Saying

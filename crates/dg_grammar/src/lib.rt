@@ -3,7 +3,18 @@
 #![tactic(auto)]
 
 mod lists;
+mod operands;
 mod words;
 
-pub use crate::lists::{read_list_is_spelled, spelled_list_is_read};
-pub use crate::words::{fault_can_go_on, spelled_command_is_read, spelled_words_are_read};
+pub use crate::lists::{
+    list_fault_can_go_on, list_fault_has_its_place, list_fault_is_first,
+    list_fault_says_what_is_wrong, read_list_is_spelled, spelled_list_is_read,
+};
+pub use crate::operands::{
+    operand_fault_has_its_place, read_operand_is_spelled, spelled_operand_is_read,
+};
+pub use crate::words::{
+    command_fault_has_its_place, fault_can_go_on, read_command_is_spelled, read_words_are_spelled,
+    spelled_command_is_read, spelled_words_are_read, words_fault_can_go_on,
+    words_fault_has_its_place, words_fault_is_first,
+};

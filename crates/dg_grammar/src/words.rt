@@ -2,11 +2,12 @@
 ghost use Rattle.std.specs.Prelude.{◌≡◌, ◌+◌, ℕ, List, Ok, Err, drop};
 ghost use Rattle.dg_words.specs.declared.word.Word.{Word};
 ghost use Rattle.dg_words.specs.declared.fault.WordFault.{WordFault};
-ghost use Rattle.dg_words.specs.declared.kinds.Level.TheVariants.{Top};
-ghost use Rattle.dg_words.specs.declared.kinds.Mode.TheVariants.{Start};
+ghost use Rattle.dg_words.specs.declared.kinds.Level.TheVariants.{List as Listed, Top};
+ghost use Rattle.dg_words.specs.declared.kinds.Mode.TheVariants.{Gap, Start};
 ghost use Rattle.dg_words.specs.Machine.{fresh, read};
 ghost use Rattle.dg_words.specs.Reading.{command_at, words_of};
-ghost use Rattle.dg_grammar.specs.Continuing.{CanGoOn};
+ghost use Rattle.dg_grammar.specs.Continuing.{CanGoOn, GoesOn, HasCommand, HasNoCommand, IsNoWords, IsWords, StopsAt};
+ghost use Rattle.dg_grammar.specs.Saying.{Lacks};
 ghost use Rattle.dg_grammar.specs.Words.{Begun, WordsOf};
 
 /// A law: where a text begins with a command, that command is read, up to the place behind its end; so it
@@ -20,8 +21,42 @@ pub fn spelled_words_are_read()
     ensures { (text : List ℕ) (ws : List Word) → WordsOf text ws → words_of text ≡ Ok ws }
 {}
 
+/// A law: where a command is read, the text begins with that command, up to the place behind its end; so where
+/// there is a fault it begins with none.
+pub fn read_command_is_spelled()
+    ensures { (text : List ℕ) (at next : ℕ) (ws : List Word) → command_at text at ≡ Ok (ws, next) → (n : ℕ) × (next ≡ at + n) × Begun (drop at text) ws n }
+{}
+
+/// A law: a text that is read as words spells them; so a text with a fault spells none.
+pub fn read_words_are_spelled()
+    ensures { (text : List ℕ) (ws : List Word) → words_of text ≡ Ok ws → WordsOf text ws }
+{}
+
 /// A law: the text before the place of a command's fault can go on, so that a command is read. (That nothing
 /// which begins with the byte at that place too is read, `dg_words` says.)
 pub fn fault_can_go_on()
     ensures { (text : List ℕ) (fault : WordFault) (place : ℕ) → read Top text (fresh Start) 0 ≡ Err (fault, place) → CanGoOn text place }
+{}
+
+/// A law: each fault of a command has a place, before which the text can go on to a command, and up to which no text
+/// begins with one; and its kind says what is missing.
+pub fn command_fault_has_its_place()
+    ensures { (text : List ℕ) (at : ℕ) (fault : WordFault) → command_at text at ≡ Err fault → (place : ℕ) × GoesOn HasCommand (drop at text) place × StopsAt (HasNoCommand fault) (drop at text) place × Lacks HasCommand fault (drop at text) place }
+{}
+
+/// A law: the text before the place of the fault of words can go on, so that words are read.
+pub fn words_fault_can_go_on()
+    ensures { (text : List ℕ) (fault : WordFault) (place : ℕ) → read Listed text (fresh Gap) 0 ≡ Err (fault, place) → GoesOn IsWords text place }
+{}
+
+/// A law: no text that begins with the bytes up to the one where the fault of words stands spells words, and each
+/// has this fault; where the fault stands at the end of the text, the text itself spells none.
+pub fn words_fault_is_first()
+    ensures { (text : List ℕ) (fault : WordFault) (place : ℕ) → read Listed text (fresh Gap) 0 ≡ Err (fault, place) → StopsAt (IsNoWords fault) text place }
+{}
+
+/// A law: each fault of words has a place, before which the text can go on to words, and up to which no text spells
+/// any; and its kind says what is missing.
+pub fn words_fault_has_its_place()
+    ensures { (text : List ℕ) (fault : WordFault) → words_of text ≡ Err fault → (place : ℕ) × GoesOn IsWords text place × StopsAt (IsNoWords fault) text place × Lacks IsWords fault text place }
 {}

@@ -15,9 +15,14 @@ use std::hash::{Hash, Hasher};
 use std::marker::Model;
 
 /// Bytes that it owns. A contract sees the list of them, each below 256.
-#[derive(Drop)]
 pub struct Bytes {
     inner: Vec<u8>,
+}
+
+impl Drop for Bytes {
+    fn drop(self) {
+        let Bytes { inner: _ } = self;
+    }
 }
 
 impl Model for Bytes {

@@ -9,9 +9,14 @@ use std::hash::{Hash, Hasher};
 use std::marker::Model;
 
 /// Values in order. A contract sees the list of them.
-#[derive(Drop)]
 pub struct Seq<T> {
     inner: Vec<T>,
+}
+
+impl<T: Drop> Drop for Seq<T> {
+    fn drop(self) {
+        let Seq { inner: _ } = self;
+    }
 }
 
 impl<T> Model for Seq<T> {

@@ -1,4 +1,4 @@
-use Rattle.dg_grammar.proofs.GoOn.{fault_can_go_on}
+use Rattle.dg_grammar.proofs.Faults.{fault_can_go_on}
 use Rattle.dg_grammar.proofs.words.fault_can_go_on.Goals as goal
 
 pub returns : goal.returns

@@ -1,0 +1,27 @@
+//! The laws of operands.
+ghost use Rattle.std.specs.Prelude.{◌≡◌, ◌+◌, ◌∷◌, [], ℕ, List, Ok, Err, drop, false};
+ghost use Rattle.dg_words.specs.Piece.{Piece};
+ghost use Rattle.dg_words.specs.declared.fault.WordFault.{WordFault};
+ghost use Rattle.dg_words.specs.declared.word.Word.{Word};
+ghost use Rattle.dg_words.specs.Reading.{operand_at};
+ghost use Rattle.dg_grammar.specs.Continuing.{GoesOn, HasNoOperand, HasOperand, StopsAt};
+ghost use Rattle.dg_grammar.specs.Operands.{Begun};
+ghost use Rattle.dg_grammar.specs.Saying.{Lacks};
+
+/// A law: where a text begins with an operand, that operand is read, as one word, up to the place behind it; so it
+/// begins with no other.
+pub fn spelled_operand_is_read()
+    ensures { (text : List ℕ) (at n : ℕ) (ps : List Piece) → Begun (drop at text) ps n → operand_at text at ≡ Ok (record { expand = false; parts = ps } ∷ [], at + n) }
+{}
+
+/// A law: where an operand is read, it is one word, and the text begins with that operand, up to the place behind it;
+/// so where there is a fault it begins with none.
+pub fn read_operand_is_spelled()
+    ensures { (text : List ℕ) (at next : ℕ) (ws : List Word) → operand_at text at ≡ Ok (ws, next) → (ps : List Piece) × (n : ℕ) × (ws ≡ record { expand = false; parts = ps } ∷ []) × (next ≡ at + n) × Begun (drop at text) ps n }
+{}
+
+/// A law: each fault of an operand has a place, before which the text can go on to an operand, and up to which no
+/// text begins with one; and its kind says what is missing.
+pub fn operand_fault_has_its_place()
+    ensures { (text : List ℕ) (at : ℕ) (fault : WordFault) → operand_at text at ≡ Err fault → (place : ℕ) × GoesOn HasOperand (drop at text) place × StopsAt (HasNoOperand fault) (drop at text) place × Lacks HasOperand fault (drop at text) place }
+{}
