@@ -112,7 +112,7 @@ fn add_code(alloc: Global, tree: Tree, code: &mut Seq<Instruction>) -> Result<()
             let mut second = Seq::new(alloc);
             add_code(alloc, b, &mut second)?;
             add_code(alloc, condition, code)?;
-            code.push(Instruction::Unless(first.len() + 1))?;
+            code.push(Instruction::Unless(first.as_slice().len() + 1))?;
             append(code, first)?;
             code.push(Instruction::Skip(second.len()))?;
             append(code, second)?;

@@ -1,9 +1,12 @@
 pub mod OccursLemmas
+pub mod SearchLemmas
 pub mod StartLemmas
+pub mod TryLemmas
 pub mod SpanLemmas
 pub mod BufferLemmas
 pub mod RegexLemmas
 pub mod GroupLemmas
 pub mod BookLemmas
 pub mod AnswerLemmas
+pub mod WithinLemmas
 mod Examples

@@ -1,7 +1,8 @@
 -- The hit of a list of patterns in bytes, as expect(1) finds it.
-use Rattle.std.specs.Prelude.{◌≡◌, ℕ, ◌<◌, List, [], length, Option, Some, None, MatchOption}
+use Rattle.std.specs.Prelude.{◌≡◌, ℕ, ◌<◌, ◌≤◌, List, [], length, Option, Some, None, IfSome, MatchOption}
 use Rattle.std.specs.List.{All, HoldsAt, AllWithin}
 use Rattle.dg_glob.specs.Glob.{IsSpan, IsFirstSpan}
+use Rattle.dg_glob.specs.declared.glob.Span.{Span}
 use Rattle.dg_match.specs.Literals.{IsNowhere, IsFirstPlace}
 use Rattle.dg_match.specs.Groups.{regex_match}
 use Rattle.dg_match.specs.declared.found.Found.{Found}
@@ -35,3 +36,13 @@ IsTried patterns bytes result = MatchOption result (All (λ p. HasNoMatch p byte
 -- the same for one pattern
 abbrev pub IsAnswer : Pattern → List ℕ → Option Found → Type 0
 IsAnswer p bytes answer = MatchOption answer (HasNoMatch p bytes) (IsMatch p bytes)
+
+-- the span goes forward, from the one place on and no further than the other
+abbrev pub LiesBetween : ℕ → ℕ → Span → Type 0
+LiesBetween low high s = (low ≤ s.start) × (s.start ≤ s.end) × (s.end ≤ high)
+
+-- The hit is a part of the bytes, and each of its groups that took part is a part of the hit.
+pub record LiesIn (bytes : List ℕ) (hit : Hit) : Type 0 where
+  pub ordered : hit.start ≤ hit.end
+  pub within : hit.end ≤ length bytes
+  pub groups : All (λ g. IfSome g (LiesBetween hit.start hit.end)) hit.groups

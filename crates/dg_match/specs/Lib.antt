@@ -6,3 +6,5 @@ pub mod Regexes
 pub mod Groups
 pub mod Book
 pub mod Hits
+pub mod Searches
+pub mod Tries

@@ -1,5 +1,5 @@
 //! The book of `-re` patterns.
-ghost use Rattle.std.specs.Prelude.{◌≡◌, ◌++◌, ◌∷◌, [], IfOk, OnErr, OnOk, IsNone, IsSome, IfSome, Some};
+ghost use Rattle.std.specs.Prelude.{◌≡◌, ◌++◌, ◌∷◌, [], IfOk, OnErr, OnOk, IsNone, IfSome, Ok, Some};
 ghost use Rattle.std.specs.Option.{option_copied};
 ghost use Rattle.dg_match.specs.Book.{Fits, AllFit, reading_of};
 
@@ -62,9 +62,9 @@ impl PatternBook {
     }
 
     /// The answer for a text: the first one, which the book keeps, or where the text is new how it is
-    /// read. Where a growth is refused nothing is changed.
+    /// read. Where a growth is refused nothing is changed; a known text takes no memory.
     pub fn ask(&mut self, alloc: Global, text: &Bytes) -> Result<Reading, AllocError>
-        ensures known { IsSome (reading_of self.old text.now) → self.new ≡ self.old }
+        ensures known { IfSome (reading_of self.old text.now) (λ r. (result ≡ Ok r) × (self.new ≡ self.old)) }
         ensures first { IsNone (reading_of self.old text.now) →
             IfOk result (λ r. self.new ≡ self.old ++ (text.now, r) ∷ []) }
         ensures fits { IfOk result (λ r. Fits text.now r) }

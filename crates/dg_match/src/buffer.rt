@@ -1,8 +1,9 @@
 //! The buffer that a session's output goes into.
-ghost use Rattle.std.specs.Prelude.{◌≡◌, ◌≤◌, ◌+◌, ◌*◌, ◌++◌, [], length, drop, take, OnOk, OnErr, IfOk, option_map, MatchOption};
-ghost use Rattle.dg_match.specs.Held.{last, without_nulls};
-ghost use Rattle.dg_match.specs.Hits.{IsTried, IsAnswer, HasNoMatch};
+ghost use Rattle.std.specs.Prelude.{◌≡◌, ◌≤◌, ◌+◌, ◌*◌, ◌++◌, ℕ, List, [], drop, length, take, OnOk, OnErr, IfOk, IfSome, option_map, MatchOption};
+ghost use Rattle.dg_match.specs.Held.{with_last, without_first, without_nulls};
+ghost use Rattle.dg_match.specs.Hits.{IsTried, IsAnswer, HasNoMatch, LiesIn};
 ghost use Rattle.dg_match.specs.Starts.{IsPassed};
+ghost use Rattle.dg_match.specs.Tries.{AreTried, HasCompared, all_tried, counted, known_passed, once_tried, remembered, up_to};
 ghost use Rattle.dg_match.specs.Literals.{IsNowhere, IsFirstPlace};
 ghost use Rattle.dg_glob.specs.Glob.{IsFirstSpan};
 
@@ -18,7 +19,8 @@ use std::marker::Model;
 
 /// The output of a session that was read and not yet taken: its last bytes, as many as it keeps at
 /// most, without nulls (expect(1), `match_max` and `remove_nulls`). A contract sees the bytes, how
-/// many are kept at most, and the count that [`Buffer::compared`] gives.
+/// many are kept at most, the count that [`Buffer::compared`] gives, and what is remembered of the
+/// patterns tried last.
 #[derive(Drop)]
 pub struct Buffer {
     /// The bytes, behind a front that was cut off.
@@ -30,17 +32,15 @@ pub struct Buffer {
 }
 
 impl Model for Buffer {
-    ghost use Rattle.std.specs.Prelude.{◌≤◌, ℕ, List, length, drop, refl};
-    ghost use Rattle.std.specs.Coded.{code_by, coded×, coded_list, coded_ℕ};
-    ghost use Rattle.dg_match.specs.Held.{Held};
+    ghost use Rattle.std.specs.Prelude.{◌≤◌, length, drop};
+    ghost use Rattle.dg_match.specs.Held.{Held, held_code};
     ghost use Rattle.dg_match.specs.Starts.{AllPassed};
 
     ghost Value = { Held };
 
-    ghost coded = { code_by ((List ℕ × ℕ) × ℕ) (coded× (coded× (coded_list coded_ℕ) coded_ℕ) coded_ℕ)
-        (λ h. ((h.bytes, h.max), h.compared)) (λ p. record { bytes = p.0.0; max = p.0.1; compared = p.1 }) (λ _. refl) };
+    ghost coded = { held_code };
 
-    ghost view = { λ b. record { bytes = drop b.front b.bytes.items; max = b.max; compared = b.compared } };
+    ghost view = { λ b. record { bytes = drop b.front b.bytes.items; max = b.max; compared = b.compared; starts = b.starts } };
 
     ghost invariant = { λ b. (b.front ≤ length b.bytes.items) × AllPassed (drop b.front b.bytes.items) b.starts };
 }
@@ -85,7 +85,7 @@ fn without_groups(alloc: Global, search: Search) -> Option<Found>
 impl Buffer {
     /// An empty buffer that keeps at most so many bytes.
     pub fn new(alloc: Global, max: usize) -> Buffer
-        ensures { result ≡ record { bytes = []; max = max; compared = 0 } }
+        ensures { result ≡ record { bytes = []; max = max; compared = 0; starts = [] } }
     {
         Buffer {
             bytes: Vec::new(alloc),
@@ -114,7 +114,7 @@ impl Buffer {
     /// Lets the first bytes go.
     fn cut(&mut self, count: usize)
         requires { count ≤ length self.old.bytes }
-        ensures { self.new ≡ record self.old { bytes = drop count self.old.bytes } }
+        ensures { self.new ≡ without_first count self.old }
     {
         self.front += count;
         self.starts.cut(count);
@@ -122,7 +122,7 @@ impl Buffer {
 
     /// Keeps the last bytes.
     fn keep_last(&mut self, count: usize)
-        ensures { self.new ≡ record self.old { bytes = last count self.old.bytes } }
+        ensures { self.new ≡ with_last count self.old }
     {
         self.cut(self.as_slice().len().saturating_sub(count));
     }
@@ -131,7 +131,7 @@ impl Buffer {
     /// kept at most. Where a growth is refused nothing is changed.
     pub fn add(&mut self, alloc: Global, chunk: &[u8]) -> Result<(), AllocError>
         ensures ok { OnOk result (self.new ≡
-            record self.old { bytes = last self.old.max (self.old.bytes ++ without_nulls chunk.now) }) }
+            with_last self.old.max (record self.old { bytes = self.old.bytes ++ without_nulls chunk.now })) }
         ensures err { OnErr result (self.new ≡ self.old) }
     {
         self.close_up();
@@ -162,14 +162,19 @@ impl Buffer {
 
     /// The first of the patterns that has a match, with its match: of a glob the least start and of
     /// those the greatest end, of a literal the least start, of a `-re` pattern its first match
-    /// (expect(1)). The buffer is left as it is. Where a growth is refused, `compared` may have risen.
+    /// (expect(1)). A hit lies in the bytes, and its groups in the hit; the bytes are left as they
+    /// are. Literals and globs compare only what they have to, by what is remembered. Where a growth
+    /// is refused, only some of the patterns may have been tried.
     pub fn try_patterns(
         &mut self,
         alloc: Global,
         patterns: &[Pattern],
     ) -> Result<Option<Hit>, AllocError>
         ensures hit { IfOk result (λ hit. IsTried patterns.now self.old.bytes hit) }
-        ensures same { self.new ≡ record self.old { compared = self.new.compared } }
+        ensures within { IfOk result (λ hit. IfSome hit (LiesIn self.old.bytes)) }
+        ensures tried { IfOk result (λ hit. self.new ≡ all_tried 0 (up_to hit patterns.now) self.old) }
+        ensures part { AreTried patterns.now self.old self.new }
+        ensures same { self.new ≡ record self.old { compared = self.new.compared; starts = self.new.starts } }
         ensures counted { self.old.compared ≤ self.new.compared }
         ensures at_most { self.new.compared ≤
             self.old.compared + length patterns.now * (2 * length self.old.bytes) }
@@ -194,10 +199,11 @@ impl Buffer {
         index: usize,
         pattern: &Pattern,
     ) -> Result<Option<Found>, AllocError>
+        requires { index ≤ length self.old.starts }
         ensures answer { IfOk result (λ answer. IsAnswer pattern.now self.old.bytes answer) }
-        ensures same { self.new ≡ record self.old { compared = self.new.compared } }
-        ensures counted { self.old.compared ≤ self.new.compared }
-        ensures at_most { self.new.compared ≤ self.old.compared + 2 * length self.old.bytes }
+        ensures tried { OnOk result (self.new ≡ once_tried index pattern.now self.old) }
+        ensures err { OnErr result (self.new ≡ self.old) }
+        ensures only { HasCompared (2 * length self.old.bytes) self.old self.new }
     {
         match pattern {
             Pattern::Glob(glob) => {
@@ -209,19 +215,22 @@ impl Buffer {
                 Ok(without_groups(alloc, search))
             }
             Pattern::Regex(built) => {
+                let found = first_match(alloc, built, self.as_slice())?;
                 self.skip(alloc, index)?;
-                first_match(alloc, built, self.as_slice())
+                Ok(found)
             }
         }
     }
 
     /// Tries the glob of an index.
+    #[tactic(auto, unfolding(crate::specs::Tries::once_tried))]
     fn try_glob(&mut self, alloc: Global, index: usize, glob: &[u8]) -> Result<Search, AllocError>
+        requires { index ≤ length self.old.starts }
         ensures found { IfOk result (λ r. MatchOption r.found (HasNoMatch (Pattern.Glob glob.now) self.old.bytes)
             (λ s. IsFirstSpan glob.now self.old.bytes s.start s.end)) }
-        ensures same { self.new ≡ record self.old { compared = self.new.compared } }
-        ensures counted { self.old.compared ≤ self.new.compared }
-        ensures at_most { self.new.compared ≤ self.old.compared + 2 * length self.old.bytes }
+        ensures tried { OnOk result (self.new ≡ once_tried index (Pattern.Glob glob.now) self.old) }
+        ensures err { OnErr result (self.new ≡ self.old) }
+        ensures only { HasCompared (2 * length self.old.bytes) self.old self.new }
     {
         let front = front(glob);
         let search = search_glob(self.as_slice(), glob, self.passed(index, front));
@@ -230,12 +239,14 @@ impl Buffer {
     }
 
     /// Tries the literal of an index.
+    #[tactic(auto, unfolding(crate::specs::Tries::once_tried))]
     fn try_text(&mut self, alloc: Global, index: usize, text: &[u8]) -> Result<Search, AllocError>
+        requires { index ≤ length self.old.starts }
         ensures found { IfOk result (λ r. MatchOption r.found (IsNowhere text.now self.old.bytes)
             (λ s. IsFirstPlace text.now self.old.bytes s.start s.end)) }
-        ensures same { self.new ≡ record self.old { compared = self.new.compared } }
-        ensures counted { self.old.compared ≤ self.new.compared }
-        ensures at_most { self.new.compared ≤ self.old.compared + 2 * length self.old.bytes }
+        ensures tried { OnOk result (self.new ≡ once_tried index (Pattern.Exact text.now) self.old) }
+        ensures err { OnErr result (self.new ≡ self.old) }
+        ensures only { HasCompared (2 * length self.old.bytes) self.old self.new }
     {
         let search = search_text(self.as_slice(), text, self.passed(index, text));
         self.note(alloc, index, text, search)?;
@@ -245,7 +256,8 @@ impl Buffer {
     /// How many places a text that stands in every match of the pattern of this index is known
     /// to have passed.
     fn passed(&self, index: usize, text: &[u8]) -> usize
-        ensures { IsPassed text.now self.now.bytes result }
+        ensures passed { IsPassed text.now self.now.bytes result }
+        ensures known { result ≡ known_passed index text.now self.now.starts }
     {
         self.starts.passed(index, text)
     }
@@ -258,20 +270,29 @@ impl Buffer {
         text: &[u8],
         search: Search,
     ) -> Result<(), AllocError>
-        requires { IsPassed text.now self.old.bytes search.passed }
-        ensures same { self.new ≡ record self.old { compared = self.new.compared } }
-        ensures counted { self.old.compared ≤ self.new.compared }
-        ensures at_most { self.new.compared ≤ self.old.compared + search.compared }
+        requires within { index ≤ length self.old.starts }
+        requires passed { IsPassed text.now self.old.bytes search.passed }
+        ensures ok { OnOk result (self.new ≡ record self.old {
+          compared = counted (self.old.compared + search.compared);
+          starts = remembered index (record { text = text.now; passed = search.passed }) self.old.starts;
+        }) }
+        ensures err { OnErr result (self.new ≡ self.old) }
+        ensures only { HasCompared search.compared self.old self.new }
     {
+        self.starts.pass(alloc, index, text, search.passed)?;
         self.compared = self.compared.saturating_add(search.compared as u64);
-        self.starts.pass(alloc, index, text, search.passed)
+        Ok(())
     }
 
     /// Remembers nothing of a pattern of which the whole buffer is searched.
+    #[tactic(auto, unfolding(crate::specs::Tries::once_tried))]
     fn skip(&mut self, alloc: Global, index: usize) -> Result<(), AllocError>
-        ensures { self.new ≡ self.old }
+        requires { index ≤ length self.old.starts }
+        ensures ok { OnOk result ((text : List ℕ) → self.new ≡ once_tried index (Pattern.Regex text) self.old) }
+        ensures err { OnErr result (self.new ≡ self.old) }
+        ensures only { HasCompared 0 self.old self.new }
     {
-        self.starts.pass(alloc, index, b"", 0)
+        self.note(alloc, index, b"", Search::of_nothing())
     }
 
     /// Takes the bytes up to the end of a hit out of the buffer and gives them. Where a growth is
@@ -280,7 +301,7 @@ impl Buffer {
         requires { hit.now.end ≤ length self.old.bytes }
         ensures taken { IfOk result (λ bytes. bytes ≡ take hit.now.end self.old.bytes) }
         ensures left { OnOk result (self.new ≡
-            record self.old { bytes = drop hit.now.end self.old.bytes }) }
+            without_first hit.now.end self.old) }
         ensures err { OnErr result (self.new ≡ self.old) }
     {
         let taken = Bytes::from_slice(alloc, &self.as_slice()[..hit.end])?;
@@ -293,7 +314,7 @@ impl Buffer {
         requires some { 1 ≤ max }
         requires most { max ≤ 65536 }
         ensures { self.new ≡
-            record self.old { bytes = last max self.old.bytes; max = max } }
+            with_last max (record self.old { max = max }) }
     {
         self.max = max;
         self.keep_last(max);

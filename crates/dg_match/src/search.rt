@@ -1,10 +1,11 @@
 //! Searches of the buffer that leave out the starts that are known to be passed.
-ghost use Rattle.std.specs.Prelude.{◌≡◌, ◌≤◌, ◌<◌, ◌*◌, ℕ, MatchOption, length};
+ghost use Rattle.std.specs.Prelude.{◌≡◌, ◌≤◌, ◌<◌, ◌*◌, ℕ, MatchOption, None, Some, length};
 ghost use Rattle.memchr.specs.Find.{OccursAt};
 ghost use Rattle.dg_glob.specs.Glob.{IsFirstSpan, IsSpan};
 ghost use Rattle.dg_match.specs.Starts.{IsPassed};
 ghost use Rattle.dg_match.specs.Literals.{IsNowhere, IsFirstPlace, IsLeastPlace};
 ghost use Rattle.dg_match.specs.Fronts as word;
+ghost use Rattle.dg_match.specs.Searches.{bytes_behind, bytes_compared, glob_compared, least_place, places_passed};
 
 use dg_glob::{Span, find_glob};
 use memchr::memmem;
@@ -20,10 +21,24 @@ pub(crate) struct Search {
     pub(crate) compared: usize,
 }
 
+impl Search {
+    /// What the search for no text comes to.
+    pub(crate) fn of_nothing() -> Search
+        ensures { result ≡ record { found = None; passed = 0; compared = 0 } }
+    {
+        Search {
+            found: None,
+            passed: 0,
+            compared: 0,
+        }
+    }
+}
+
 /// The first place at which the text stands.
 fn first_place(bytes: &[u8], text: &[u8], passed: usize) -> Option<usize>
     requires { IsPassed text.now bytes.now passed }
-    ensures { MatchOption result (IsNowhere text.now bytes.now) (λ k. IsLeastPlace text.now bytes.now k) }
+    ensures found { MatchOption result (IsNowhere text.now bytes.now) (λ k. IsLeastPlace text.now bytes.now k) }
+    ensures least { result ≡ least_place text.now bytes.now }
 {
     let from = passed.min(bytes.len());
     let place = memmem::find(&bytes[from..], text)?;
@@ -33,14 +48,16 @@ fn first_place(bytes: &[u8], text: &[u8], passed: usize) -> Option<usize>
 /// How many places are passed where the text stands nowhere.
 fn passed_by(bytes: &[u8], text: &[u8]) -> usize
     requires { IsNowhere text.now bytes.now }
-    ensures { IsPassed text.now bytes.now result }
+    ensures passed { IsPassed text.now bytes.now result }
+    ensures value { result ≡ places_passed text.now bytes.now None }
 {
     bytes.len().saturating_add(1).saturating_sub(text.len())
 }
 
 /// How many bytes a search for a text has to compare from a place on: none where it doesn't fit.
 fn compared_from(bytes: &[u8], text: &[u8], from: usize) -> usize
-    ensures { result ≤ length bytes.now }
+    ensures bound { result ≤ length bytes.now }
+    ensures value { result ≡ bytes_compared from text.now bytes.now None }
 {
     let left = bytes.len().saturating_sub(from);
     if left < text.len() { 0 } else { left }
@@ -52,7 +69,9 @@ pub(crate) fn search_text(bytes: &[u8], text: &[u8], passed: usize) -> Search
     ensures found { MatchOption result.found (IsNowhere text.now bytes.now)
         (λ s. IsFirstPlace text.now bytes.now s.start s.end) }
     ensures passed { IsPassed text.now bytes.now result.passed }
-    ensures counted { result.compared ≤ 2 * length bytes.now }
+    ensures places { result.passed ≡ places_passed text.now bytes.now (least_place text.now bytes.now) }
+    ensures at_most { result.compared ≤ 2 * length bytes.now }
+    ensures counted { result.compared ≡ bytes_compared passed text.now bytes.now (least_place text.now bytes.now) }
 {
     match first_place(bytes, text, passed) {
         None => Search {
@@ -130,7 +149,10 @@ pub(crate) fn search_glob(bytes: &[u8], glob: &[u8], passed: usize) -> Search
     ensures found { MatchOption result.found ((s e : ℕ) → IsSpan glob.now bytes.now s e → ⊥)
         (λ s. IsFirstSpan glob.now bytes.now s.start s.end) }
     ensures passed { IsPassed (word.front glob.now) bytes.now result.passed }
-    ensures counted { result.compared ≤ 2 * length bytes.now }
+    ensures places { result.passed ≡
+        places_passed (word.front glob.now) bytes.now (least_place (word.front glob.now) bytes.now) }
+    ensures at_most { result.compared ≤ 2 * length bytes.now }
+    ensures counted { result.compared ≡ glob_compared passed glob.now bytes.now }
 {
     let front = front(glob);
     match first_place(bytes, front, passed) {
@@ -151,7 +173,8 @@ pub(crate) fn search_glob(bytes: &[u8], glob: &[u8], passed: usize) -> Search
 
 /// How many bytes a search for a glob has to compare once its front was found at this place.
 fn compared_behind(bytes: &[u8], glob: &[u8], start: usize) -> usize
-    ensures { result ≤ length bytes.now }
+    ensures bound { result ≤ length bytes.now }
+    ensures value { result ≡ bytes_behind glob.now bytes.now (Some start) }
 {
     if begins_with_star(glob) {
         bytes.len()

@@ -1,6 +1,8 @@
 //! What is remembered of the last patterns: starts at which they can't match any more.
-ghost use Rattle.std.specs.Prelude.{◌≡◌, ◌⊎◌, List, ℕ, ◌++◌, [], ◌≤◌, length, drop};
+ghost use Rattle.std.specs.Prelude.{◌≡◌, List, ℕ, [], ◌≤◌, OnErr, OnOk, length, drop, map};
+ghost use Rattle.dg_match.specs.Held.{later};
 ghost use Rattle.dg_match.specs.Starts.{IsPassed, AllPassed};
+ghost use Rattle.dg_match.specs.Tries.{known_passed, remembered};
 
 use dg_words::Bytes;
 use std::alloc::{AllocError, Global};
@@ -16,7 +18,8 @@ struct Start {
 impl Start {
     /// Puts so many places for this text, or changes nothing.
     fn pass(&mut self, alloc: Global, text: &[u8], passed: usize) -> Result<(), AllocError>
-        ensures { (self.new ≡ self.old) ⊎ (self.new ≡ record { text = text.now; passed = passed }) }
+        ensures ok { OnOk result (self.new ≡ record { text = text.now; passed = passed }) }
+        ensures err { OnErr result (self.new ≡ self.old) }
     {
         if !self.text.is(text) {
             self.text = Bytes::from_slice(alloc, text)?;
@@ -53,17 +56,17 @@ impl Starts {
 
     /// How many places are passed for the pattern of this index, if it was this text then.
     pub(crate) fn passed(&self, index: usize, text: &[u8]) -> usize
-        ensures { (bytes : List ℕ) → AllPassed bytes self.now → IsPassed text.now bytes result }
+        ensures known { result ≡ known_passed index text.now self.now }
+        ensures passed { (bytes : List ℕ) → AllPassed bytes self.now → IsPassed text.now bytes result }
     {
         match self.entries.get(index) {
-            Some(start) if start.text.is(text) => start.passed,
+            Some(start) if start.text.as_slice() == text => start.passed,
             _ => 0,
         }
     }
 
     /// Remembers how many places are passed for the pattern of this index, in place of what was
-    /// remembered for another pattern of this index. A place for an index is there only once the
-    /// indices before it have theirs.
+    /// remembered for it. Where a growth is refused nothing is changed.
     pub(crate) fn pass(
         &mut self,
         alloc: Global,
@@ -71,22 +74,23 @@ impl Starts {
         text: &[u8],
         passed: usize,
     ) -> Result<(), AllocError>
-        ensures { (bytes : List ℕ) → AllPassed bytes self.old → IsPassed text.now bytes passed →
-            AllPassed bytes self.new }
+        requires { index ≤ length self.old }
+        ensures ok { OnOk result (self.new ≡
+            remembered index (record { text = text.now; passed = passed }) self.old) }
+        ensures err { OnErr result (self.new ≡ self.old) }
     {
         if let Some(start) = self.entries.get_mut(index) {
             return start.pass(alloc, text, passed);
         }
         let text = Bytes::from_slice(alloc, text)?;
-        if index == self.entries.len() {
-            self.entries.push(Start { text, passed })?;
-        }
+        self.entries.push(Start { text, passed })?;
         Ok(())
     }
 
     /// Counts the places anew where so many bytes were cut from the buffer's front.
     pub(crate) fn cut(&mut self, count: usize)
-        ensures { (bytes : List ℕ) → count ≤ length bytes → AllPassed bytes self.old →
+        ensures value { self.new ≡ map (later count) self.old }
+        ensures passed { (bytes : List ℕ) → count ≤ length bytes → AllPassed bytes self.old →
             AllPassed (drop count bytes) self.new }
     {
         for start in self.entries.iter_mut() {

@@ -13,10 +13,15 @@ use std::marker::Model;
 
 /// The result calls of a test so far: a contract sees their lines, and the flags and counts that
 /// stand after them (DejaGnu manual, "Procedures for test results").
-#[derive(Drop)]
 pub struct Judging {
     lines: Seq<Line>,
     marks: Marks,
+}
+
+impl Drop for Judging {
+    fn drop(self) {
+        let Judging { lines: _, marks: _ } = self;
+    }
 }
 
 /// The flags and counts that stand since the last result.
@@ -185,7 +190,7 @@ impl Judging {
         ensures held { result ≡ self.lines }
         ensures judged { (calls : List Call) → self ≡ after_calls calls → result ≡ lines_of calls }
     {
-        let Judging { lines, .. } = self;
+        let Judging { lines, marks: _ } = self;
         Verdict::of(lines)
     }
 

@@ -17,11 +17,20 @@ pub const LONGEST_VALUE: usize = 1_048_576;
 
 /// Variables by name, in a first scope and in those pushed above it. A contract sees the map of
 /// the first scope, the globals, and the list of scopes from the last one pushed down to the first.
-#[derive(Drop)]
 pub struct Scopes {
     globals: Table<Bytes>,
     current: Scope,
     below: Vec<Scope>,
+}
+
+impl Drop for Scopes {
+    fn drop(self) {
+        let Scopes {
+            globals: _,
+            current: _,
+            below: _,
+        } = self;
+    }
 }
 
 impl Model for Scopes {

@@ -8,9 +8,14 @@ use std::collections::BTreeMap;
 use std::marker::Model;
 
 /// Values by name. A contract sees the finite map from names, in byte order, to values.
-#[derive(Drop)]
 pub struct Table<V> {
     entries: BTreeMap<Vec<u8>, V>,
+}
+
+impl<V: Drop> Drop for Table<V> {
+    fn drop(self) {
+        let Table { entries: _ } = self;
+    }
 }
 
 impl<V> Model for Table<V> {

@@ -2,5 +2,5 @@ use Rattle.std.proofs.Common.{arith}
 use Rattle.dg_match.proofs.OccursLemmas.{passed_nowhere}
 use Rattle.dg_match.proofs.search.passed_by.Goals as goal
 
-pub returns : goal.returns
-returns c = passed_nowhere _ _ _ (omega arith) c.requires
+pub returns-clause-passed : goal.returns-clause-passed
+returns-clause-passed c = passed_nowhere _ _ _ (omega arith) c.requires

@@ -1,5 +1,5 @@
-use Rattle.dg_match.proofs.OccursLemmas.{none_passed}
+use Rattle.dg_match.proofs.TryLemmas.{once_tried_ok}
 use Rattle.dg_match.proofs.buffer.Buffer.skip.Goals as goal
 
-pub invariant_of-self : goal.invariant_of-self
-invariant_of-self c = (c.self.invariant.0, c.pass.ensures _ c.self.invariant.1 (none_passed _ _))
+pub returns-clause-ok : goal.returns-clause-ok
+returns-clause-ok c = once_tried_ok c.note.result c.args.index c.args.self.now c.note.new.self (rw c.of_nothing.ensures at c.note.ensures.ok)

@@ -8,9 +8,12 @@ loop-start-preserved c =
     cut_step c.args.count c.loop-start.start-index _ c.args.self.now c.loop-start.start-items c.start-item.result (omega (arith, size, c.loop-start-test.true)) c.loop-start.invariant c.start-item.is c.saturating_sub-start.ensures
 
 pub returns : goal.returns
-returns c = λ bytes h all.
+returns c =
     let value = c.deref_mut-start-items.ensures.value in
     let size = ap length (value ∙ c.self.view_is) in
     let now = cut_all c.args.count c.loop-start.start-index c.args.self.now c.loop-start.start-items (omega (arith, size, c.loop-start-test.false)) c.loop-start.invariant in
-    rw (lent_back c.self.inside.entries.len c.loop-start.start-items c.self.inside.entries.items (c.loop-start.auto.start-items ∙ ap length value) (sym c.deref_mut-start-items.ensures.len ∙ ap length value), now)
-    (all_later bytes c.args.count c.args.self.now h all)
+    let back = lent_back c.self.inside.entries.len c.loop-start.start-items c.self.inside.entries.items (c.loop-start.auto.start-items ∙ ap length value) (sym c.deref_mut-start-items.ensures.len ∙ ap length value) in
+    record {
+      value = back ∙ now;
+      passed = λ bytes h all. rw (back, now) (all_later bytes c.args.count c.args.self.now h all);
+    }

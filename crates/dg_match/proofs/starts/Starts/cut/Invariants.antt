@@ -1,5 +1,5 @@
 use Rattle.std.proofs.Common.{◌≡◌, ◌++◌, map, take, drop}
-use Rattle.dg_match.proofs.StartLemmas.{later}
+use Rattle.dg_match.specs.Held.{later}
 use Rattle.dg_match.proofs.starts.Starts.cut.Given as goal
 
 abbrev pub invariant-loop-start : goal.invariant-loop-start

@@ -1,23 +1,15 @@
-use Rattle.dg_match.specs.Starts.{IsPassed}
-use Rattle.dg_match.specs.declared.starts.Start.{Start}
-use Rattle.dg_match.proofs.StartLemmas.{all_set}
-use Rattle.std.proofs.lemmas.List.Elements.{All-push}
+use Rattle.std.proofs.Common.{◌∙◌, [], ◌∷◌, ◌++◌, List, ℕ, ap}
+use Rattle.dg_match.specs.Tries.{remembered}
+use Rattle.dg_match.proofs.StartLemmas.{made, remembered_push, set_ok}
 use Rattle.dg_match.proofs.starts.Starts.pass.Goals as goal
 
-pub returns-in-Some : goal.returns-in-Some
-returns-in-Some c = λ bytes all here.
-    all_set bytes c.args.text.now c.args.passed c.args.index c.self.inside.entries.items c.in-Some.start.now _ c.in-Some.ensures.item.3.0 c.in-Some.ensures.value c.pass.ensures (rw c.self.view_is all) here
+pub returns-in-Some-clause-ok : goal.returns-in-Some-clause-ok
+returns-in-Some-clause-ok c =
+    set_ok c.pass.result c.args.index c.pass.new.self (made c.args.text.now c.args.passed) c.self.inside.entries.items c.args.self.now c.in-Some.ensures.item.3.0 c.self.view_is c.pass.ensures.ok
 
-pub returns-in_err-text : goal.returns-in_err-text
-returns-in_err-text c = λ bytes all here. rw c.self.view_is all
-
-pub returns-in_err-push : goal.returns-in_err-push
-returns-in_err-push c = λ bytes all here. rw (c.in_err-push.ensures.items, c.self.view_is) all
-
-pub returns-in_ok-push : goal.returns-in_ok-push
-returns-in_ok-push c = λ bytes all here.
-    rw c.in_ok-push.ensures.items
-    (All-push (λ (s : Start). IsPassed s.text bytes s.passed) c.self.inside.entries.items _ (rw c.self.view_is all) (rw c.in_ok-text.ensures here))
-
-pub returns-else-index-len : goal.returns-else-index-len
-returns-else-index-len c = λ bytes all here. rw c.self.view_is all
+pub returns-clause-ok : goal.returns-clause-ok
+returns-clause-ok c =
+    c.in_ok-push.ensures.items
+    ∙ (ap (λ (t : List ℕ). c.self.inside.entries.items ++ made t c.args.passed ∷ []) c.in_ok-text.ensures
+    ∙ (remembered_push c.args.index (made c.args.text.now c.args.passed) c.self.inside.entries.items c.in_default.ensures.item.3
+    ∙ ap (remembered c.args.index (made c.args.text.now c.args.passed)) c.self.view_is))

@@ -1,0 +1,47 @@
+-- What the search for a text in bytes compares, and which places it passes.
+use Rattle.std.specs.Prelude.{ℕ, zero, suc, ◌+◌, ◌-◌, Bool, List, [], length, nat_lt, Option, None, Some, if◌then◌else◌}
+use Rattle.memchr.specs.Find.{occurs_at}
+use Rattle.dg_match.specs.Fronts.{front, begins_with_star}
+use Rattle.dg_match.specs.declared.pattern.Pattern.{Pattern}
+use Rattle.dg_match.specs.declared.pattern.Pattern.TheVariants.{Glob, Exact, Regex}
+
+-- the least number below n that passes a test
+abbrev pub least_below : (ℕ → Bool) → ℕ → Option ℕ
+least_below p zero = None
+least_below p (suc n) = elim (least_below p n) as (λ _. Option ℕ) [ None ↦ if p n then Some n else None | Some k ↦ Some k ]
+
+-- the least place of the bytes at which a text stands
+unfoldable pub least_place : List ℕ → List ℕ → Option ℕ
+least_place text bytes = least_below (occurs_at bytes text) (length bytes + 1)
+
+-- how many places a text has passed, by its least place: those before it, or where there is none all at which it fits
+abbrev pub places_passed : List ℕ → List ℕ → Option ℕ → ℕ
+places_passed text bytes None = length bytes + 1 - length text
+places_passed text bytes (Some k) = k
+
+-- How many bytes are compared from a place on, by the least place: those up to the end of the text there. Where there is
+-- none they are all that are left, but none if the text is longer.
+abbrev pub bytes_compared : ℕ → List ℕ → List ℕ → Option ℕ → ℕ
+bytes_compared from text bytes None = if nat_lt (length bytes - from) (length text) then 0 else length bytes - from
+bytes_compared from text bytes (Some k) = k + length text - from
+
+-- how many bytes are compared with a glob, by the least place of its front: those from there on, or all where a star leads
+abbrev pub bytes_behind : List ℕ → List ℕ → Option ℕ → ℕ
+bytes_behind glob bytes None = 0
+bytes_behind glob bytes (Some k) = if begins_with_star glob then length bytes else length bytes - k
+
+-- the text of a pattern that is searched for: a literal itself, a glob's front, and none of a `-re` pattern
+abbrev pub sought : Pattern → List ℕ
+sought (Glob p) = front p
+sought (Exact t) = t
+sought (Regex t) = []
+
+abbrev pub glob_compared : ℕ → List ℕ → List ℕ → ℕ
+glob_compared from glob bytes =
+    bytes_compared from (front glob) bytes (least_place (front glob) bytes) + bytes_behind glob bytes (least_place (front glob) bytes)
+
+-- how many bytes are compared in a try of a pattern whose text has passed the places before this one
+abbrev pub compared_by : Pattern → ℕ → List ℕ → ℕ
+compared_by (Glob p) from bytes = glob_compared from p bytes
+compared_by (Exact t) from bytes = bytes_compared from t bytes (least_place t bytes)
+compared_by (Regex t) from bytes = 0

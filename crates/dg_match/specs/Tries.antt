@@ -1,0 +1,51 @@
+-- What a buffer has compared, and what it remembers, once patterns were tried.
+use Rattle.std.specs.Prelude.{◌≡◌, ℕ, zero, suc, ◌+◌, ◌≤◌, min, List, [], ◌∷◌, take, nat_eq, Option, None, Some, if◌then◌else◌}
+use Rattle.std.specs.Cmp.Lexicographic.{pointwise}
+use Rattle.dg_match.specs.Held.{Held}
+use Rattle.dg_match.specs.Searches.{compared_by, least_place, places_passed, sought}
+use Rattle.dg_match.specs.declared.starts.Start.{Start}
+use Rattle.dg_match.specs.declared.hit.Hit.{Hit}
+use Rattle.dg_match.specs.declared.pattern.Pattern.{Pattern}
+
+-- how many places are known to be passed for the pattern of an index: those of the last try, if that was for the same text
+abbrev pub known_passed : ℕ → List ℕ → List Start → ℕ
+known_passed i text [] = 0
+known_passed zero text (s ∷ starts) = if pointwise nat_eq s.text text then s.passed else 0
+known_passed (suc i) text (s ∷ starts) = known_passed i text starts
+
+-- what is remembered, with this for the pattern of an index
+abbrev pub remembered : ℕ → Start → List Start → List Start
+remembered i s [] = s ∷ []
+remembered zero s (old ∷ starts) = s ∷ starts
+remembered (suc i) s (old ∷ starts) = old ∷ remembered i s starts
+
+-- the count of compared bytes stays at its last value
+abbrev pub counted : ℕ → ℕ
+counted n = min n 18446744073709551615
+
+-- the buffer once the pattern of an index was tried
+unfoldable pub once_tried : ℕ → Pattern → Held → Held
+once_tried i p h = record h {
+  compared = counted (h.compared + compared_by p (known_passed i (sought p) h.starts) h.bytes);
+  starts = remembered i (record { text = sought p; passed = places_passed (sought p) h.bytes (least_place (sought p) h.bytes) }) h.starts;
+}
+
+-- and once all of these were tried, of which the first has this index
+unfoldable pub all_tried : ℕ → List Pattern → Held → Held
+all_tried i [] h = h
+all_tried i (p ∷ patterns) h = all_tried (i + 1) patterns (once_tried i p h)
+
+-- the patterns up to that of the hit, or all of them
+abbrev pub up_to : Option Hit → List Pattern → List Pattern
+up_to None patterns = patterns
+up_to (Some hit) patterns = take (hit.index + 1) patterns
+
+-- at most so many bytes were compared, and nothing changed but their count and what is remembered
+abbrev pub HasCompared : ℕ → Held → Held → Type 0
+HasCompared most old new =
+    (new ≡ record old { compared = new.compared; starts = new.starts }) × (old.compared ≤ new.compared) × (new.compared ≤ old.compared + most)
+
+-- Some of the patterns were tried, from the first on.
+pub record AreTried (patterns : List Pattern) (old new : Held) : Type 0 where
+  pub count : ℕ
+  pub tried : new ≡ all_tried 0 (take count patterns) old
