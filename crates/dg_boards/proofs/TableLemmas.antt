@@ -1,5 +1,5 @@
 -- What an insertion of a new key leaves.
-use Rattle.std.proofs.Common.{◌≡◌, ℕ, Bool, true, false, cond, List, [], ◌∷◌, ◌++◌, Option, None, Some, IsNone, refl, ap, rules}
+use Rattle.std.proofs.Common.{◌≡◌, true, false, cond, List, [], ◌∷◌, ◌++◌, Some, IsNone, refl, ap, rules}
 use Rattle.indexmap.specs.IndexMap.{insert_entry}
 use Rattle.dg_boards.specs.Table.{Text, same, setting}
 

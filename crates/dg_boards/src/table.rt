@@ -10,9 +10,14 @@ use std::marker::Model;
 
 /// The settings of a board, in the order in which each key was first set (`set_board_info` of the
 /// DejaGnu manual). A contract sees the list of keys with their values.
-#[derive(Drop)]
 pub struct BoardTable {
     map: IndexMap<Bytes, Bytes>,
+}
+
+impl Drop for BoardTable {
+    fn drop(self) {
+        let BoardTable { map: _ } = self;
+    }
 }
 
 impl Model for BoardTable {

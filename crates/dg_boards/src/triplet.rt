@@ -43,9 +43,14 @@ fn is_triplet(text: &[u8]) -> bool
 
 /// The triplet of a machine, as `x86_64-pc-linux-gnu` (the DejaGnu manual, "Config names"): 1 to 255
 /// letters, digits and bytes of `._+-`, of which at least two are `-`. A contract sees its bytes.
-#[derive(Drop)]
 pub struct Triplet {
     text: Bytes,
+}
+
+impl Drop for Triplet {
+    fn drop(self) {
+        let Triplet { text: _ } = self;
+    }
 }
 
 impl Model for Triplet {

@@ -9,6 +9,7 @@ mod field;
 mod format;
 mod index;
 mod lists;
+mod measure;
 mod numbers;
 mod places;
 mod strings;

@@ -6,10 +6,11 @@ ghost use Rattle.dg_cmds.specs.Answers.{Adds, Gives, limited};
 ghost use Rattle.dg_cmds.specs.Bytes.{member};
 ghost use Rattle.dg_cmds.specs.Lists.{concat_of, fault_text, is_some_text, join_of, joined, lindex_of, list_of, llength_of, lrange_of, lsearch_of, parts_of, passes, read_list, search_named, search_of, split_of, without_blanks};
 
-use crate::answer::{add, fail, fail_about, give, give_count, give_place, within, wrong_count};
+use crate::answer::{add, fail, fail_about, give, give_count, give_place, wrong_count};
 use crate::bytes::{BLANKS, set_of, trimmed_left, trimmed_right};
 use crate::fault::CmdFault;
 use crate::index::{part, read_index};
+use crate::measure::list_fits;
 use crate::places::glob_matches;
 use dg_words::{Bytes, Seq, WordFault, list_text, split_list};
 use std::alloc::{AllocError, Global};
@@ -44,12 +45,16 @@ pub(crate) fn read_list(alloc: Global, text: &Bytes) -> Result<Seq<Bytes>, CmdFa
     }
 }
 
-/// The canonical text of a list, if a value may have so many bytes.
+/// The canonical text of a list, if a value may have so many bytes. It isn't built if not.
+#[tactic(auto, unfolding(crate::specs::Answers::limited))]
 pub(crate) fn give_list(alloc: Global, elements: &[Bytes]) -> Result<Bytes, CmdFault>
     ensures { Gives result (limited (text_of_list elements.now)) }
 {
+    if !list_fits(elements) {
+        return Err(CmdFault::TooLong);
+    }
     match list_text(alloc, elements) {
-        Ok(text) => within(text),
+        Ok(text) => Ok(text),
         Err(_) => Err(CmdFault::Memory),
     }
 }

@@ -4,6 +4,7 @@ use dg_words::Bytes;
 use std::alloc::Global;
 use std::test::Fail;
 
+mod growth;
 mod rows;
 
 /// Splits rows at the byte 1F, the words of each from its answer at the byte 1E.

@@ -2,3 +2,4 @@ pub mod NameLemmas
 pub mod WorldLemmas
 pub mod PartLemmas
 pub mod SelectedLemmas
+pub mod SettingLemmas

@@ -10,7 +10,7 @@ use Rattle.std.specs.Map.{remove_entry, keys_of}
 use Rattle.std.proofs.lemmas.Bool.{and_parts, and_from, leb-true, le-leb, false≢true}
 use Rattle.std.proofs.lemmas.List.Folds.{list_all_at}
 use Rattle.dg_world.specs.Name.{is_name, is_single_part}
-use Rattle.dg_world.specs.Selection.{is_selection, first_selection, is_selected, are_boards, are_names, are_distinct}
+use Rattle.dg_world.specs.Selection.{is_selection, first_selection, is_selected, are_boards, are_names, are_settings, are_distinct}
 use Rattle.dg_world.specs.declared.selection.Selection.{Selection}
 use Rattle.dg_world.specs.World.{WorldView, is_world, is_file, scripts, selected}
 use Rattle.dg_world.specs.Tests.{tests_on}
@@ -89,13 +89,20 @@ unfolding scripts
 all_scripts w v same names left all none =
     sym (append-nil names) ∙ ap (λ l. names ++ filter (is_selected w.selection) l) (sym none) ∙ all ∙ ap scripts same
 
+-- a world with another selection that is valid
+pub selected_is_world : (w : WorldView) (s : Selection) → is_world w ≡ true → is_selection s ≡ true → is_world (record { files = w.files; selection = s }) ≡ true
+unfolding is_world
+selected_is_world w s h valid =
+    and_from _ (is_selection s) (and_parts (nat_le (length w.files) 4096 && list_all is_file w.files) (is_selection w.selection) h).0 valid
+
 -- each board of a world is one
 board_at : (w : WorldView) → is_world w ≡ true → (i : ℕ) (d : List ℕ) → i < length w.selection.boards → is_single_part (get_or w.selection.boards i d) ≡ true
 unfolding is_selection
 board_at w h i d lt =
     let s = w.selection in
     let valid = (all_files w h).2 in
-    let three = and_parts (is_single_part s.tool && are_boards s.boards && are_names s.only) (are_names s.ignore) valid in
+    let four = and_parts (is_single_part s.tool && are_boards s.boards && are_names s.only && are_names s.ignore) (are_settings s.variables) valid in
+    let three = and_parts (is_single_part s.tool && are_boards s.boards && are_names s.only) (are_names s.ignore) four.0 in
     let two = and_parts (is_single_part s.tool && are_boards s.boards) (are_names s.only) three.0 in
     let boards = and_parts (is_single_part s.tool) (are_boards s.boards) two.0 in
     let parts = and_parts (nat_le 1 (length s.boards) && nat_le (length s.boards) 16 && list_all is_single_part s.boards) (are_distinct s.boards) boards.1 in

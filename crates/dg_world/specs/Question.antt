@@ -1,25 +1,34 @@
 -- Questions and the kinds of their answers.
-use Rattle.std.specs.Prelude.{Bool, true, false, nat_eq}
-use Rattle.std.specs.Cmp.Lexicographic.{pointwise}
+use Rattle.std.specs.Prelude.{Bool, true, false}
+use Rattle.dg_world.specs.Script.{same}
+use Rattle.dg_world.specs.declared.question.Machine.{Machine}
+use Rattle.dg_world.specs.declared.question.Machine.TheVariants.{Target, Host, Build}
 use Rattle.dg_world.specs.declared.question.Question.{Question}
-use Rattle.dg_world.specs.declared.question.Question.TheVariants.{File, Variable}
+use Rattle.dg_world.specs.declared.question.Question.TheVariants.{File, Tool, Triplet, Variable}
 use Rattle.dg_world.specs.declared.question.Answer.{Answer}
-use Rattle.dg_world.specs.declared.question.Answer.TheVariants.{Absent, Content, Unset, Value}
+use Rattle.dg_world.specs.declared.question.Answer.TheVariants as answer
+
+-- whether two machines are the same
+abbrev pub same_machine : Machine → Machine → Bool
+same_machine Target Target = true
+same_machine Host Host = true
+same_machine Build Build = true
+same_machine _ _ = false
 
 -- whether two questions are the same
 abbrev pub same_question : Question → Question → Bool
-same_question (File a) (File b) = pointwise nat_eq a b
-same_question (File a) (Variable b) = false
-same_question (Variable a) (File b) = false
-same_question (Variable a) (Variable b) = pointwise nat_eq a b
+same_question (File a) (File b) = same a b
+same_question Tool Tool = true
+same_question (Triplet a) (Triplet b) = same_machine a b
+same_question (Variable a) (Variable b) = same a b
+same_question _ _ = false
 
 -- whether an answer is of the kind that a question has
 abbrev pub fits : Question → Answer → Bool
-fits (File n) Absent = true
-fits (File n) (Content bytes) = true
-fits (File n) Unset = false
-fits (File n) (Value v) = false
-fits (Variable n) Absent = false
-fits (Variable n) (Content bytes) = false
-fits (Variable n) Unset = true
-fits (Variable n) (Value v) = true
+fits (File n) answer.Absent = true
+fits (File n) (answer.Content bytes) = true
+fits Tool (answer.Tool name) = true
+fits (Triplet machine) (answer.Triplet triplet) = true
+fits (Variable n) answer.Unset = true
+fits (Variable n) (answer.Value v) = true
+fits _ _ = false

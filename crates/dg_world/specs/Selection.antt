@@ -1,9 +1,13 @@
 -- Selections, and the scripts that one selects.
-use Rattle.std.specs.Prelude.{ℕ, Bool, true, not, ◌&&◌, ◌||◌, ◌==◌, nat_le, List, [], ◌∷◌, length, codes}
+use Rattle.std.specs.Prelude.{ℕ, Bool, true, not, ◌&&◌, ◌||◌, ◌==◌, nat_le, List, [], ◌∷◌, length, map, codes}
 use Rattle.std.specs.List.{list_all, list_any}
 use Rattle.dg_world.specs.Name.{is_name, is_single_part}
 use Rattle.dg_world.specs.Script.{same, is_script, is_listed}
+use Rattle.dg_world.specs.Setting.{is_setting}
+use Rattle.dg_world.specs.declared.question.Machine.{Machine}
+use Rattle.dg_world.specs.declared.question.Machine.TheVariants.{Target, Host, Build}
 use Rattle.dg_world.specs.declared.selection.Selection.{Selection}
+use Rattle.dg_world.specs.declared.setting.Setting.{Setting}
 
 -- whether no two are the same
 abbrev pub are_distinct : List (List ℕ) → Bool
@@ -19,13 +23,33 @@ abbrev pub are_boards : List (List ℕ) → Bool
 are_boards boards =
     nat_le 1 (length boards) && nat_le (length boards) 16 && list_all is_single_part boards && are_distinct boards
 
+-- at most 64 settings of distinct variables
+abbrev pub are_settings : List Setting → Bool
+are_settings settings = nat_le (length settings) 64 && list_all is_setting settings && are_distinct (map (λ s. s.name) settings)
+
 -- whether a selection is valid
 unfoldable pub is_selection : Selection → Bool
-is_selection s = is_single_part s.tool && are_boards s.boards && are_names s.only && are_names s.ignore
+is_selection s = is_single_part s.tool && are_boards s.boards && are_names s.only && are_names s.ignore && are_settings s.variables
 
 -- the selection of a new world
 abbrev pub first_selection : Selection
-first_selection = record { tool = codes "t"; boards = codes "unix" ∷ []; only = []; ignore = [] }
+first_selection =
+    record {
+      tool = codes "t";
+      boards = codes "unix" ∷ [];
+      target = codes "x86_64-pc-linux-gnu";
+      host = codes "x86_64-pc-linux-gnu";
+      build = codes "x86_64-pc-linux-gnu";
+      only = [];
+      ignore = [];
+      variables = [];
+    }
+
+-- the triplet of a machine
+abbrev pub triplet_of : Selection → Machine → List ℕ
+triplet_of s Target = s.target
+triplet_of s Host = s.host
+triplet_of s Build = s.build
 
 -- whether the two lists take a script: all are taken where `only` is empty, and `ignore` goes before it
 unfoldable pub is_taken : Selection → List ℕ → Bool

@@ -10,18 +10,19 @@ use Rattle.std.specs.Cmp.Lexicographic.{slice_cmp}
 use Rattle.std.specs.BTreeMap.{insert_entry, is_at}
 use Rattle.std.specs.Map.{keys_of, lookup, remove_entry}
 use Rattle.dg_world.specs.Name.{is_name}
-use Rattle.dg_world.specs.Selection.{first_selection, is_selection, is_selected}
+use Rattle.dg_world.specs.Selection.{first_selection, is_selection, is_selected, triplet_of}
+use Rattle.dg_world.specs.Setting.{value_of}
 use Rattle.dg_world.specs.Tests.{tests_on}
 use Rattle.dg_world.specs.declared.selection.Selection.{Selection}
 use Rattle.dg_world.specs.declared.test_id.TestId.{TestId}
 use Rattle.dg_world.specs.declared.question.Question.{Question}
-use Rattle.dg_world.specs.declared.question.Question.TheVariants.{File, Variable}
+use Rattle.dg_world.specs.declared.question.Question.TheVariants.{File, Tool, Triplet, Variable}
 use Rattle.dg_world.specs.declared.question.Answer.{Answer}
-use Rattle.dg_world.specs.declared.question.Answer.TheVariants.{Absent, Content, Unset}
+use Rattle.dg_world.specs.declared.question.Answer.TheVariants as answer
 use Rattle.dg_world.specs.declared.edit.Edit.{Edit}
-use Rattle.dg_world.specs.declared.edit.Edit.TheVariants.{PutFile, RemoveFile}
+use Rattle.dg_world.specs.declared.edit.Edit.TheVariants.{PutFile, RemoveFile, Select}
 use Rattle.dg_world.specs.declared.refusal.Refusal.{Refusal}
-use Rattle.dg_world.specs.declared.refusal.Refusal.TheVariants.{BadName, TooLong, TooMany, NoSuchFile}
+use Rattle.dg_world.specs.declared.refusal.Refusal.TheVariants.{BadName, TooLong, TooMany, NoSuchFile, BadSelection}
 
 -- the files, each name with its bytes, in byte order of the names and each name once; and what is run
 pub record WorldView : Type 0 where
@@ -46,13 +47,20 @@ content_of w name = lookup (is_at (slice_cmp nat_cmp name)) w.files
 
 -- what a world answers where a file has these bytes, or there is none
 abbrev pub answer_of : Option (List ℕ) → Answer
-answer_of None = Absent
-answer_of (Some bytes) = Content bytes
+answer_of None = answer.Absent
+answer_of (Some bytes) = answer.Content bytes
+
+-- what it answers where a line sets a variable to this, or leaves it
+abbrev pub setting_answer : Option (List ℕ) → Answer
+setting_answer None = answer.Unset
+setting_answer (Some value) = answer.Value value
 
 -- what a world answers
 abbrev pub look : WorldView → Question → Answer
 look w (File name) = answer_of (content_of w name)
-look w (Variable name) = Unset
+look w Tool = answer.Tool w.selection.tool
+look w (Triplet machine) = answer.Triplet (triplet_of w.selection machine)
+look w (Variable name) = setting_answer (value_of w.selection.variables name)
 
 -- a world with these bytes as the file of this name, in its place in the order
 abbrev pub with_file : WorldView → List ℕ → List ℕ → WorldView
@@ -72,6 +80,7 @@ edited w (PutFile name bytes) =
 edited w (RemoveFile name) =
     cond (not (is_name name)) (Err BadName)
     (cond (is_some (content_of w name)) (Ok (without_file w name)) (Err NoSuchFile))
+edited w (Select selection) = cond (is_selection selection) (Ok (record { files = w.files; selection = selection })) (Err BadSelection)
 
 -- the scripts that are run on each board, in byte order
 unfoldable pub scripts : WorldView → List (List ℕ)

@@ -19,9 +19,14 @@ use std::marker::Model;
 
 /// A name: 1 to 255 bytes, parts joined by single `/`. A part is one or more of
 /// `A-Z a-z 0-9 . _ + -`, and neither `.` nor `..`.
-#[derive(Drop)]
 pub struct Name {
     bytes: Bytes,
+}
+
+impl Drop for Name {
+    fn drop(self) {
+        let Name { bytes: _ } = self;
+    }
 }
 
 impl Model for Name {

@@ -22,13 +22,16 @@ pub enum Refusal {
     /// There is no file of this name.
     #[error("no such file")]
     NoSuchFile,
+    /// The selection is not valid.
+    #[error("not a valid selection")]
+    BadSelection,
     /// Memory ran out.
     #[error("out of memory")]
     Memory,
 }
 
 impl Refusal {
-    /// Its number: 1 to 4 in the order of the list, and 8 for `Memory`.
+    /// Its number: 1 to 4 in the order of the list, 6 for `BadSelection`, and 8 for `Memory`.
     pub fn number(self) -> u8
         ensures { result ≡ refusal_number self }
     {
@@ -37,6 +40,7 @@ impl Refusal {
             Refusal::TooLong => 2,
             Refusal::TooMany => 3,
             Refusal::NoSuchFile => 4,
+            Refusal::BadSelection => 6,
             Refusal::Memory => 8,
         }
     }

@@ -8,10 +8,19 @@ use dg_words::Bytes;
 use std::alloc::{AllocError, Global};
 
 /// A test is a pair of a board and a script.
-#[derive(Debug, Drop, PartialEq, Eq, Hash)]
+#[derive(Debug, PartialEq, Eq, Hash)]
 pub struct TestId {
     pub board: Name,
     pub script: Name,
+}
+
+impl Drop for TestId {
+    fn drop(self) {
+        let TestId {
+            board: _,
+            script: _,
+        } = self;
+    }
 }
 
 impl TestId {

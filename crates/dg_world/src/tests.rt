@@ -3,3 +3,4 @@ mod copies;
 mod edits;
 mod names;
 mod scripts;
+mod selections;

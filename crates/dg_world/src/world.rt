@@ -23,10 +23,18 @@ const MAX_FILES: usize = 4096;
 const MAX_FILE_LENGTH: usize = 1_048_576;
 
 /// What scripts are judged in: at most 4,096 files, each a name with at most 1,048,576 bytes, and a selection.
-#[derive(Drop)]
 pub struct World {
     files: BTreeMap<Name, Bytes>,
     selection: Selection,
+}
+
+impl Drop for World {
+    fn drop(self) {
+        let World {
+            files: _,
+            selection: _,
+        } = self;
+    }
 }
 
 impl Model for World {
@@ -43,7 +51,7 @@ impl Model for World {
 impl World {
     ghost use Rattle.dg_world.specs.World.{new_world, edited, look, selected, scripts, is_world};
 
-    /// A world with no files, tool `t` and board `unix`.
+    /// A world with no files and the first selection.
     pub fn new(alloc: Global) -> Result<World, AllocError>
         ensures { IfOk result (λ w. w ≡ new_world) }
     {
@@ -62,6 +70,7 @@ impl World {
         match edit {
             Edit::PutFile(name, bytes) => self.put_file(name, bytes),
             Edit::RemoveFile(name) => self.remove_file(name),
+            Edit::Select(selection) => self.select(selection),
         }
     }
 
@@ -102,6 +111,19 @@ impl World {
         Ok(())
     }
 
+    /// Selects what is run.
+    fn select(&mut self, selection: Selection) -> Result<(), Refusal>
+        ensures ok { OnOk result (edited self.old (Edit.Select selection) ≡ Ok self.new) }
+        ensures which { IfErr result (λ r. edited self.old (Edit.Select selection) ≡ Err r) }
+        ensures err { OnErr result (self.new ≡ self.old) }
+    {
+        if !selection.is_valid() {
+            return Err(Refusal::BadSelection);
+        }
+        self.selection = selection;
+        Ok(())
+    }
+
     /// What it answers to a question.
     pub fn answer(&self, alloc: Global, question: &Question) -> Result<Option<Answer>, AllocError>
         ensures { IfOk result (λ a. a ≡ Some (look self.now question.now)) }
@@ -111,7 +133,15 @@ impl World {
                 Some(bytes) => Ok(Some(Answer::Content(bytes.copy(alloc)?))),
                 None => Ok(Some(Answer::Absent)),
             },
-            Question::Variable(_) => Ok(Some(Answer::Unset)),
+            Question::Tool => Ok(Some(Answer::Tool(self.selection.tool.copy(alloc)?))),
+            Question::Triplet(machine) => {
+                let triplet = self.selection.triplet(*machine);
+                Ok(Some(Answer::Triplet(triplet.copy(alloc)?)))
+            }
+            Question::Variable(name) => match self.selection.value_of(name) {
+                Some(value) => Ok(Some(Answer::Value(value.copy(alloc)?))),
+                None => Ok(Some(Answer::Unset)),
+            },
         }
     }
 
@@ -125,7 +155,19 @@ impl World {
                 (None, Answer::Absent) => true,
                 _ => false,
             },
-            Question::Variable(_) => matches!(answer, Answer::Unset),
+            Question::Tool => match answer {
+                Answer::Tool(tool) => *tool == self.selection.tool,
+                _ => false,
+            },
+            Question::Triplet(machine) => match answer {
+                Answer::Triplet(triplet) => *triplet == *self.selection.triplet(*machine),
+                _ => false,
+            },
+            Question::Variable(name) => match (self.selection.value_of(name), answer) {
+                (Some(held), Answer::Value(value)) => *held == *value,
+                (None, Answer::Unset) => true,
+                _ => false,
+            },
         }
     }
 

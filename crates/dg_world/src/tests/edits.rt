@@ -125,6 +125,7 @@ fn refusals_and_their_numbers(rt: HostRuntime) -> Result<(), Fail> {
     assert_eq!(rt; Refusal::TooLong.number(), 2);
     assert_eq!(rt; Refusal::TooMany.number(), 3);
     assert_eq!(rt; Refusal::NoSuchFile.number(), 4);
+    assert_eq!(rt; Refusal::BadSelection.number(), 6);
     assert_eq!(rt; Refusal::Memory.number(), 8);
     Ok(())
 }

@@ -52,6 +52,26 @@ fn selected_tests(rt: HostRuntime) -> Result<(), Fail> {
     Ok(())
 }
 
+/// Selects the boards `b2` and `b1`.
+fn select_two_boards(alloc: Global, world: &mut World) -> Result<bool, AllocError> {
+    let mut boards = one(alloc, b"b2")?;
+    boards.push(Bytes::from_slice(alloc, b"b1")?)?;
+    let mut selection = Selection::of_new_world(alloc)?;
+    selection.boards = boards;
+    Ok(world.edit(alloc, Edit::Select(selection)).is_ok())
+}
+
+#[test]
+fn tests_on_two_boards(rt: HostRuntime) -> Result<(), Fail> {
+    let mut world = World::new(rt.alloc())?;
+    put_all(rt.alloc(), &mut world, &[b"t/b.exp", b"t/a.exp"])?;
+    assert!(rt; select_two_boards(rt.alloc(), &mut world)?);
+    let tests = world.selected(rt.alloc())?;
+    let lines = told(rt.alloc(), tests.as_slice())?;
+    assert!(rt; lines.is(b"b2 t/a.exp\nb2 t/b.exp\nb1 t/a.exp\nb1 t/b.exp\n"));
+    Ok(())
+}
+
 /// A list of one name, or of none.
 fn one(alloc: Global, name: &[u8]) -> Result<Seq<Bytes>, AllocError> {
     let mut names = Seq::new(alloc);
@@ -68,12 +88,14 @@ fn selection(
     only: &[u8],
     ignore: &[u8],
 ) -> Result<Selection, AllocError> {
-    Ok(Selection {
-        tool: Bytes::from_slice(alloc, tool)?,
-        boards: one(alloc, b"unix")?,
-        only: one(alloc, only)?,
-        ignore: one(alloc, ignore)?,
-    })
+    let tool = Bytes::from_slice(alloc, tool)?;
+    let only = one(alloc, only)?;
+    let ignore = one(alloc, ignore)?;
+    let mut selection = Selection::of_new_world(alloc)?;
+    selection.tool = tool;
+    selection.only = only;
+    selection.ignore = ignore;
+    Ok(selection)
 }
 
 #[test]
@@ -82,6 +104,8 @@ fn taken_scripts(rt: HostRuntime) -> Result<(), Fail> {
     assert!(rt; only.selects(b"t/a.exp"));
     assert!(rt; only.selects(b"t/x/a.exp"));
     assert!(rt; !only.selects(b"t/b.exp"));
+    let full = selection(rt.alloc(), b"t", b"t/x/a.exp", b"")?;
+    assert!(rt; full.selects(b"t/x/a.exp") && !full.selects(b"t/a.exp"));
     Ok(())
 }
 
