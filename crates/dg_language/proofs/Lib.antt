@@ -1,9 +1,8 @@
+pub mod Sources
+pub mod Once
 pub mod Asking
-pub mod Finds
+pub mod ReadsLemmas
 pub mod CallLemmas
 pub mod TouchLemmas
 pub mod StateLemmas
-pub mod ValueLemmas
-pub mod ProcedureLemmas
-pub mod Choices
 pub mod Commands

@@ -5,7 +5,7 @@ use Rattle.dg_scope.specs.Names.{global_name}
 use Rattle.dg_world.specs.declared.question.Question.{Question}
 use Rattle.dg_world.specs.declared.question.Question.TheVariants.{Variable}
 use Rattle.dg_world.specs.declared.question.Answer.{Answer}
-use Rattle.dg_records.specs.Play.{Play, Asks, lookup}
+use Rattle.dg_language.specs.Play.{Play, Asks, lookup}
 use Rattle.dg_language.specs.State.{State, learn, began, began_with}
 use Rattle.dg_language.specs.Evaluation.{Ending, ask, cut, within}
 use Rattle.dg_language.specs.Variables.{touch, is_to_begin, begin, first_value}

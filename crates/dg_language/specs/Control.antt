@@ -4,7 +4,7 @@ use Rattle.dg_language.specs.declared.code.Code.{Code}
 use Rattle.dg_language.specs.declared.code.Code.TheVariants.{Done, Failed, Returned, Broken, Continued}
 use Rattle.dg_language.specs.declared.command.ControlCommand.{ControlCommand}
 use Rattle.dg_language.specs.declared.command.ControlCommand.TheVariants.{Proc, Foreach, Break, Continue, Return, Error, Catch}
-use Rattle.dg_records.specs.Play.{Play}
+use Rattle.dg_language.specs.Play.{Play}
 use Rattle.dg_language.specs.State.{State, assigned}
 use Rattle.dg_language.specs.Evaluation.{Ending, Then, Nested, cut, tick, within, fail, loop_after, on, first_of, three_of, wrong_count, list_in}
 use Rattle.dg_language.specs.Variables.{touch}

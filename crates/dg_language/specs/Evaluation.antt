@@ -9,8 +9,8 @@ use Rattle.dg_results.specs.declared.verdict.Line.{Line}
 use Rattle.dg_results.specs.Lines.{lines_of, abort_lines}
 use Rattle.dg_language.specs.declared.code.Code.{Code}
 use Rattle.dg_language.specs.declared.code.Code.TheVariants.{Done, Failed, Returned, Broken, Continued}
-use Rattle.dg_records.specs.Play.{Play, Ends, Asks, lookup}
-use Rattle.dg_language.specs.State.{State, stepped, learn}
+use Rattle.dg_language.specs.Play.{Play, Ends, Asks, lookup}
+use Rattle.dg_language.specs.State.{State, stepped, taken, learn}
 
 -- how the judging of a test ends: with these lines, after so many steps
 pub record Ending : Type 0 where
@@ -27,11 +27,11 @@ Nested = List ℕ → State → Then → Play Ending
 
 -- the lines of the result calls
 unfoldable pub ended : State → Ending
-ended s = record { verdict = lines_of s.calls; steps = s.steps }
+ended s = record { verdict = lines_of s.calls; steps = taken s }
 
 -- these lines and the closing ones of an error
 unfoldable pub aborted : List ℕ → State → Ending
-aborted why s = record { verdict = lines_of s.calls ++ abort_lines s.test.script why; steps = s.steps }
+aborted why s = record { verdict = lines_of s.calls ++ abort_lines s.test.script why; steps = taken s }
 
 -- a limit ends the whole test as an error does, whatever stands around
 unfoldable pub cut : List ℕ → State → Play Ending

@@ -1,9 +1,15 @@
+pub mod Play
 pub mod State
 pub mod Evaluation
 pub mod Results
 pub mod Variables
 pub mod Procedures
 pub mod Control
+pub mod Boards
+pub mod Words
+pub mod Expressions
+pub mod Choosing
+pub mod Switching
 pub mod Language
 pub mod Judge
 pub mod Law

@@ -7,7 +7,7 @@ use Rattle.dg_language.specs.declared.code.Code.TheVariants.{Done}
 use Rattle.dg_language.specs.declared.procedure.Binding.{Binding}
 use Rattle.dg_language.specs.declared.procedure.Parameter.{Parameter}
 use Rattle.dg_language.specs.declared.procedure.Procedure.{Procedure}
-use Rattle.dg_records.specs.Play.{Play}
+use Rattle.dg_language.specs.Play.{Play}
 use Rattle.dg_language.specs.State.{State, defined, entered, departed}
 use Rattle.dg_language.specs.Evaluation.{Ending, Then, Nested, within, fail, on, three_of, quoted, outside, wrong_count, list_in}
 

@@ -1,12 +1,14 @@
 -- What an evaluation has made so far.
-use Rattle.std.specs.Prelude.{ℕ, ◌+◌, List, [], ◌∷◌, ◌++◌, true, false, length, nat_lt}
+use Rattle.std.specs.Prelude.{ℕ, ◌+◌, List, [], ◌∷◌, ◌++◌, Bool, true, false, length, nat_lt, nat_eq, Option, Some, is_some, codes}
+use Rattle.std.specs.Cmp.Lexicographic.{pointwise}
 use Rattle.std.specs.FinMap as map
 use Rattle.dg_world.specs.declared.question.Question.{Question}
 use Rattle.dg_world.specs.declared.question.Answer.{Answer}
 use Rattle.dg_world.specs.declared.question.Read.{Read}
 use Rattle.dg_world.specs.declared.test_id.TestId.{TestId}
 use Rattle.dg_results.specs.Calls.{Call}
-use Rattle.dg_scope.specs.Scopes.{Names, Variables, no_variables, with_value, with_global, without_value, with_link, with_scope, without_scope}
+use Rattle.dg_boards.specs.Table.{setting, without}
+use Rattle.dg_scope.specs.Scopes.{Names, Variables, no_variables, with_value, with_global, without_value, with_link, with_scope, with_outermost, without_scope}
 use Rattle.dg_language.specs.declared.procedure.Binding.{Binding}
 use Rattle.dg_language.specs.declared.procedure.Procedure.{Procedure}
 
@@ -15,7 +17,11 @@ pub record State : Type 0 where
   pub test : TestId
   -- the calls of result commands, in order
   pub calls : List Call
-  -- the steps that were taken
+  -- whether the board's file is evaluated
+  pub on_board : Bool
+  -- the steps that the board's file took, once it has been evaluated
+  pub earlier : ℕ
+  -- the steps that were taken since
   pub steps : ℕ
   -- the questions that were answered, in order
   pub known : List Read
@@ -23,11 +29,45 @@ pub record State : Type 0 where
   -- the globals that began with what the line gives them
   pub begun : Names (Unit {0})
   pub procedures : Names Procedure
+  -- the libraries whose evaluation has begun, and the tool's own
+  pub libraries : Names (Unit {0})
+  -- the settings of the board, in the order in which each key was first set
+  pub settings : List (List ℕ × List ℕ)
 
 -- nothing was done yet
 unfoldable pub fresh : TestId → State
 fresh t =
-    record { test = t; calls = []; steps = 0; known = []; variables = no_variables; begun = map.empty; procedures = map.empty }
+    record {
+      test = t;
+      calls = [];
+      on_board = true;
+      earlier = 0;
+      steps = 0;
+      known = [];
+      variables = no_variables;
+      begun = map.empty;
+      procedures = map.empty;
+      libraries = map.empty;
+      settings = [];
+    }
+
+-- The board's file has been evaluated. Its settings stay, and the count of its steps; variables, procedures, libraries and
+-- the steps that are left begin anew.
+unfoldable pub with_board_made : State → State
+with_board_made s =
+    record s {
+      on_board = false;
+      earlier = s.steps;
+      steps = 0;
+      variables = no_variables;
+      begun = map.empty;
+      procedures = map.empty;
+      libraries = map.empty;
+    }
+
+-- all steps that were taken
+abbrev pub taken : State → ℕ
+taken s = s.earlier + s.steps
 
 unfoldable pub with_call : Call → State → State
 with_call c s = record s { calls = s.calls ++ c ∷ [] }
@@ -71,3 +111,24 @@ entered bs s = record s { variables = bound bs (with_scope s.variables) }
 unfoldable pub departed : State → State
 departed s =
     elim (nat_lt 1 (length s.variables.scopes)) [ true ↦ (record s { variables = without_scope s.variables }) | false ↦ s ]
+
+-- a library has begun
+unfoldable pub marked : List ℕ → State → State
+marked name s = record s { libraries = map.insert s.libraries name tt }
+
+-- a library is evaluated from here on, in the global scope
+unfoldable pub in_library : List ℕ → State → State
+in_library name s = record s { libraries = map.insert s.libraries name tt; variables = with_outermost s.variables }
+
+-- what the board has for a key; `name` always has the board's name
+unfoldable pub setting_of : List ℕ → State → Option (List ℕ)
+setting_of key s = elim (pointwise nat_eq key (codes "name")) [ true ↦ Some s.test.board | false ↦ setting s.settings key ]
+
+-- a key that has no setting gets one, behind the others
+unfoldable pub with_setting : List ℕ → List ℕ → State → State
+with_setting key value s =
+    elim (is_some (setting_of key s)) [ true ↦ s | false ↦ (record s { settings = s.settings ++ (key, value) ∷ [] }) ]
+
+-- a key has no setting any more; that of `name` stays
+unfoldable pub without_setting : List ℕ → State → State
+without_setting key s = record s { settings = without s.settings key }

@@ -1,6 +1,6 @@
 -- What comes before the use of a variable.
 use Rattle.std.specs.Prelude.{◌≡◌, ℕ, List, None, codes}
-use Rattle.dg_records.specs.Play.{Play, Asks, lookup}
+use Rattle.dg_language.specs.Play.{Play, Asks, lookup}
 use Rattle.dg_language.specs.State.{State, learn}
 use Rattle.dg_language.specs.Evaluation.{Ending, cut}
 use Rattle.dg_language.specs.Variables.{touch}

@@ -1,18 +1,20 @@
--- Variables, and the commands on them: set(n), append(n), lappend(n), unset(n), info(n), global(n).
-use Rattle.std.specs.Prelude.{ℕ, Bool, true, false, not, ◌&&◌, Option, Some, None, List, [], ◌∷◌, ◌++◌, length, is_some, nat_eq, codes, Result, Ok, Err}
+-- Variables, and the commands on them: set(n), append(n), lappend(n), incr(n), unset(n), info(n), global(n).
+use Rattle.std.specs.Prelude.{ℕ, ℤ, ◌+ℤ◌, Bool, true, false, not, ◌&&◌, Option, Some, None, List, [], ◌∷◌, ◌++◌, length, is_some, nat_eq, codes, Result, Ok, Err}
 use Rattle.std.specs.Cmp.Lexicographic.{pointwise}
 use Rattle.std.specs.List.{concat}
 use Rattle.std.specs.FinMap as map
 use Rattle.dg_words.specs.Canonical.{text_of_list}
+use Rattle.dg_expr.specs.Number.{number_of, decimal_text}
+use Rattle.dg_expr.specs.Operator.{fits}
 use Rattle.dg_scope.specs.Names.{global_name, has_index}
 use Rattle.dg_scope.specs.Scopes.{means_global, value_of}
 use Rattle.dg_world.specs.declared.question.Question.TheVariants.{Variable}
 use Rattle.dg_world.specs.declared.question.Answer.{Answer}
-use Rattle.dg_world.specs.declared.question.Answer.TheVariants.{Absent, Content, Unset, Value}
+use Rattle.dg_world.specs.declared.question.Answer.TheVariants.{Value}
 use Rattle.dg_language.specs.declared.code.Code.TheVariants.{Done}
 use Rattle.dg_language.specs.declared.command.VariableCommand.{VariableCommand}
-use Rattle.dg_language.specs.declared.command.VariableCommand.TheVariants.{Set, Append, ListAppend, Unset as UnsetCommand, Info, Global}
-use Rattle.dg_records.specs.Play.{Play}
+use Rattle.dg_language.specs.declared.command.VariableCommand.TheVariants.{Set, Append, ListAppend, Increase, Unset as UnsetCommand, Info, Global}
+use Rattle.dg_language.specs.Play.{Play}
 use Rattle.dg_language.specs.State.{State, began, began_with, assigned, unassigned, linked}
 use Rattle.dg_language.specs.Evaluation.{Ending, Then, ask, within, fail, on, one_of, first_of, quoted, wrong_count, list_in}
 
@@ -27,10 +29,8 @@ predefined g = elim (pointwise nat_eq g (codes "timeout")) [ true ↦ Some (code
 
 -- the value with which a global begins: the line's, or its own
 abbrev pub first_value : List ℕ → Answer → Option (List ℕ)
-first_value g Absent = predefined g
-first_value g (Content _) = predefined g
-first_value g Unset = predefined g
 first_value g (Value v) = Some v
+first_value g _ = predefined g
 
 -- a global begins
 abbrev pub begin : List ℕ → Option (List ℕ) → State → (State → Play Ending) → Play Ending
@@ -99,6 +99,49 @@ do_lappend args s k =
     on (first_of args) (fail (wrong_count (codes "lappend")) s k) (λ p.
     touch p.0 s (λ s'. append_elements p.0 (or_empty (value_of s'.variables p.0)) p.1 s' k))
 
+-- `incr name ?number?`: an unset name counts as 0, and 1 is added where no number is given
+abbrev pub addend : List (List ℕ) → Option (List ℕ)
+addend [] = Some (codes "1")
+addend (by ∷ []) = Some by
+addend (_ ∷ _ ∷ _) = None
+
+abbrev pub or_zero : Option (List ℕ) → List ℕ
+or_zero None = codes "0"
+or_zero (Some v) = v
+
+abbrev pub expected_integer : List ℕ → List ℕ
+expected_integer t = codes "expected integer but got " ++ quoted t
+
+-- the number that a text is, or a message
+abbrev pub or_expected : List ℕ → Option ℤ → Result ℤ (List ℕ)
+or_expected t None = Err (expected_integer t)
+or_expected t (Some z) = Ok z
+
+-- the text of a number that 64 bits hold, or a message
+abbrev pub text_of_sum : ℤ → Result (List ℕ) (List ℕ)
+text_of_sum z = elim (fits z) [ true ↦ Ok (decimal_text z) | false ↦ Err (codes "integer value too large to represent") ]
+
+-- the sum of two numbers; where both are none, the first has the message
+abbrev pub sum_of : Result ℤ (List ℕ) → Result ℤ (List ℕ) → Result (List ℕ) (List ℕ)
+sum_of (Err message) y = Err message
+sum_of (Ok x) (Err message) = Err message
+sum_of (Ok x) (Ok y) = text_of_sum (x +ℤ y)
+
+unfoldable pub increased : List ℕ → List ℕ → Result (List ℕ) (List ℕ)
+increased old by = sum_of (or_expected old (number_of old)) (or_expected by (number_of by))
+
+abbrev pub with_sum : List ℕ → Result (List ℕ) (List ℕ) → State → Then → Play Ending
+with_sum n (Err message) s k = fail message s k
+with_sum n (Ok v) s k = store n v s k
+
+unfoldable pub add_number : List ℕ → List ℕ → State → Then → Play Ending
+add_number n by s k = with_sum n (increased (or_zero (value_of s.variables n)) by) s k
+
+unfoldable pub do_incr : List (List ℕ) → State → Then → Play Ending
+do_incr args s k =
+    on (first_of args) (fail (wrong_count (codes "incr")) s k) (λ p.
+    on (addend p.1) (fail (wrong_count (codes "incr")) s k) (λ by. touch p.0 s (λ s'. add_number p.0 by s' k)))
+
 -- one of the names of `unset`; what follows is done where it could be unset or none complains
 abbrev pub unset_one : Bool → Bool → List ℕ → State → (State → Play Ending) → Then → Play Ending
 unset_one complains true n s more k = more (unassigned n s)
@@ -147,6 +190,7 @@ abbrev pub do_variable : VariableCommand → List (List ℕ) → State → Then 
 do_variable Set args s k = do_set args s k
 do_variable Append args s k = do_append args s k
 do_variable ListAppend args s k = do_lappend args s k
+do_variable Increase args s k = do_incr args s k
 do_variable UnsetCommand args s k = do_unset args s k
 do_variable Info args s k = do_info args s k
 do_variable Global args s k = do_global args s k

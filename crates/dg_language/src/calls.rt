@@ -8,7 +8,7 @@ use dg_words::Bytes;
 use std::alloc::{AllocError, Global};
 use std::marker::Model;
 
-/// A call of a result command, with its message.
+/// A call of a result command, with its message, and a count where it gives one; or of a setup or clear of a flag.
 #[derive(Drop)]
 pub enum ResultCall {
     Pass(Bytes),
@@ -17,12 +17,23 @@ pub enum ResultCall {
     Untested(Bytes),
     Unsupported(Bytes),
     Note(Bytes),
+    Perror(Bytes, Option<u32>),
+    Warning(Bytes, Option<u32>),
+    SetupXfail,
+    ClearXfail,
+    SetupKfail,
+    ClearKfail,
 }
 
 /// Result calls in order.
-#[derive(Drop)]
 pub struct Calls {
     inner: Vec<ResultCall>,
+}
+
+impl Drop for Calls {
+    fn drop(self) {
+        let Calls { inner: _ } = self;
+    }
 }
 
 impl Model for Calls {
@@ -66,6 +77,20 @@ impl Calls {
                 ResultCall::Untested(message) => judging.untested(alloc, message.as_slice())?,
                 ResultCall::Unsupported(message) => judging.unsupported(alloc, message.as_slice())?,
                 ResultCall::Note(message) => judging.note(alloc, message.as_slice())?,
+                ResultCall::Perror(message, count) => judging.perror(
+                    alloc,
+                    message.as_slice(),
+                    *count,
+                )?,
+                ResultCall::Warning(message, count) => judging.warning(
+                    alloc,
+                    message.as_slice(),
+                    *count,
+                )?,
+                ResultCall::SetupXfail => judging.setup_xfail(),
+                ResultCall::ClearXfail => judging.clear_xfail(),
+                ResultCall::SetupKfail => judging.setup_kfail(),
+                ResultCall::ClearKfail => judging.clear_kfail(),
             }
         }
         Ok(judging)

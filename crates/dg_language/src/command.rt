@@ -17,14 +17,17 @@ pub enum ResultCommand {
     Untested,
     Unsupported,
     Note,
+    Perror,
+    Warning,
 }
 
-/// A command on variables: set(n), append(n), lappend(n), unset(n), info(n), global(n).
+/// A command on variables: set(n), append(n), lappend(n), incr(n), unset(n), info(n), global(n).
 #[derive(Clone, Copy, Debug, PartialEq, Eq)]
 pub enum VariableCommand {
     Set,
     Append,
     ListAppend,
+    Increase,
     Unset,
     Info,
     Global,
@@ -42,12 +45,57 @@ pub enum ControlCommand {
     Catch,
 }
 
+/// A command that computes, chooses or repeats: expr(n), eval(n), if(n), switch(n),
+/// while(n), for(n).
+#[derive(Clone, Copy, Debug, PartialEq, Eq)]
+pub enum ChoiceCommand {
+    Expr,
+    Eval,
+    If,
+    Switch,
+    While,
+    For,
+}
+
+/// A command on the board, by the DejaGnu manual.
+#[derive(Clone, Copy, Debug, PartialEq, Eq)]
+pub enum BoardCommand {
+    SetBoardInfo,
+    UnsetBoardInfo,
+    LoadGenericConfig,
+    TargetInfo,
+    BoardInfo,
+    LoadLib,
+}
+
+/// A command on the machines' triplets, by the DejaGnu manual.
+#[derive(Clone, Copy, Debug, PartialEq, Eq)]
+pub enum TargetCommand {
+    IsTarget,
+    IsHost,
+    IsBuild,
+    IsNative,
+}
+
+/// A command on the flags of expected failures, by the DejaGnu manual.
+#[derive(Clone, Copy, Debug, PartialEq, Eq)]
+pub enum FlagCommand {
+    SetupXfail,
+    SetupKfail,
+    ClearXfail,
+    ClearKfail,
+}
+
 /// A command that is known by its name.
 #[derive(Clone, Copy, Debug, PartialEq, Eq)]
 pub enum Builtin {
     Result(ResultCommand),
     Variable(VariableCommand),
     Control(ControlCommand),
+    Choice(ChoiceCommand),
+    Board(BoardCommand),
+    Target(TargetCommand),
+    Flag(FlagCommand),
     /// `verbose`, `send_user` and `send_log`, which have no effect.
     Silent,
 }

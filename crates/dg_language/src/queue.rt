@@ -6,9 +6,14 @@ use std::collections::VecDeque;
 use std::marker::Model;
 
 /// Values in order, of which the first is taken. A contract sees those that are left.
-#[derive(Drop)]
 pub struct Queue<T> {
     items: VecDeque<T>,
+}
+
+impl<T: Drop> Drop for Queue<T> {
+    fn drop(self) {
+        let Queue { items: _ } = self;
+    }
 }
 
 impl<T> Model for Queue<T> {

@@ -1,5 +1,5 @@
 //! What an evaluation has made so far.
-ghost use Rattle.std.specs.Prelude.{◌≡◌, ◌<◌, OnOk, IfOk};
+ghost use Rattle.std.specs.Prelude.{◌≡◌, ◌<◌, None, OnOk, IfOk, nat_lt};
 ghost use Rattle.std.specs.Option.{option_copied};
 ghost use Rattle.std.specs.FinMap as map;
 ghost use Rattle.dg_scope.specs.Scopes.{value_of, with_value};
@@ -10,6 +10,8 @@ ghost use Rattle.dg_results.specs.Standing.{after_calls};
 
 use crate::calls::{Calls, ResultCall};
 use crate::procedure::{Binding, Procedure};
+use crate::reads::Reads;
+use dg_boards::BoardTable;
 use dg_results::Judging;
 use dg_scope::{LONGEST_VALUE, Scopes, Table, global_name, has_index};
 use dg_words::{Bytes, Seq, TryCopy};
@@ -17,16 +19,40 @@ use dg_world::{Answer, Question, Read, TestId};
 use std::alloc::{AllocError, Global};
 use std::marker::Model;
 
+/// The most steps of the board's file, and of the tool's library and the script together.
+pub const STEPS: u32 = 100_000;
+
 /// The state of an evaluation.
-#[derive(Drop)]
 pub struct State {
     test: TestId,
     calls: Calls,
+    on_board: bool,
+    earlier: u32,
     steps: u32,
-    known: Seq<Read>,
+    known: Reads,
     variables: Scopes,
     begun: Table<()>,
     procedures: Table<Procedure>,
+    libraries: Table<()>,
+    board: BoardTable,
+}
+
+impl Drop for State {
+    fn drop(self) {
+        let State {
+            test: _,
+            calls: _,
+            on_board: _,
+            earlier: _,
+            steps: _,
+            known: _,
+            variables: _,
+            begun: _,
+            procedures: _,
+            libraries: _,
+            board: _,
+        } = self;
+    }
 }
 
 /// What comes before the use of a variable.
@@ -55,13 +81,13 @@ impl Model for State {
 
     ghost coded = { Prim.hlevel (codes, scopes.the_row.coded, map.code {R = slice_cmp nat_cmp} (coded_list coded_ℕ) procedure.the_row.coded, map.code {R = slice_cmp nat_cmp} (coded_list coded_ℕ) coded_unit) };
 
-    ghost view = { λ s. record { test = s.test; calls = s.calls; steps = s.steps; known = s.known; variables = s.variables; begun = s.begun; procedures = s.procedures } };
+    ghost view = { λ s. record { test = s.test; calls = s.calls; on_board = s.on_board; earlier = s.earlier; steps = s.steps; known = s.known; variables = s.variables; begun = s.begun; procedures = s.procedures; libraries = s.libraries; settings = s.board } };
 }
 
 #[tactic(auto, unfolding(crate::specs::State::fresh, crate::specs::State::with_call, crate::specs::State::stepped, crate::specs::State::learn))]
 impl State {
-    ghost use Rattle.dg_language.specs.State.{fresh, with_call, stepped, learn};
-    ghost use Rattle.dg_records.specs.Play.{lookup};
+    ghost use Rattle.dg_language.specs.State.{fresh, with_call, stepped, taken, learn};
+    ghost use Rattle.dg_language.specs.Play.{lookup};
 
     /// Nothing was done yet.
     pub fn new(alloc: Global, test: TestId) -> State
@@ -70,11 +96,15 @@ impl State {
         State {
             test,
             calls: Calls::new(alloc),
+            on_board: true,
+            earlier: 0,
             steps: 0,
-            known: Seq::new(alloc),
+            known: Reads::new(alloc),
             variables: Scopes::new(alloc),
             begun: Table::new(alloc),
             procedures: Table::new(alloc),
+            libraries: Table::new(alloc),
+            board: BoardTable::new(alloc),
         }
     }
 
@@ -85,11 +115,18 @@ impl State {
         &self.test
     }
 
-    /// The steps that were taken.
-    pub fn steps(&self) -> u32
-        ensures { result ≡ self.now.steps }
+    /// All steps that were taken.
+    pub fn steps(&self) -> u64
+        ensures { result ≡ taken self.now }
     {
-        self.steps
+        self.earlier as u64 + self.steps as u64
+    }
+
+    /// Whether a step is left: of 100,000 for the board's file, and of as many for what comes after it.
+    pub fn has_step(&self) -> bool
+        ensures { result ≡ nat_lt self.now.steps 100000 }
+    {
+        self.steps < STEPS
     }
 
     /// Takes a step.
@@ -118,36 +155,35 @@ impl State {
     pub fn answer_to(&self, question: &Question) -> Option<&Answer>
         ensures { option_copied result ≡ lookup question.now self.now.known }
     {
-        for read in self.known.as_slice() {
-            if read.question.is(question) {
-                return Some(&read.answer);
-            }
-        }
-        None
+        self.known.answer_to(question)
     }
 
-    /// Notes the answer to a question.
+    /// Notes the answer to a question that had none.
     pub fn learn(&mut self, question: Question, answer: Answer) -> Result<(), AllocError>
+        requires { lookup question self.old.known ≡ None }
         ensures { OnOk result (self.new ≡ learn question answer self.old) }
     {
-        self.known.push(Read { question, answer })?;
-        Ok(())
+        self.known.learn(question, answer)
     }
 
-    /// The questions that were answered, in order.
-    pub fn into_reads(self) -> Seq<Read>
-        ensures { result ≡ self.known }
+    /// The questions that were answered, in order. `AllocError` if there is no room for their list.
+    pub fn into_reads(self) -> Result<Seq<Read>, AllocError>
+        ensures { IfOk result (λ reads. reads ≡ self.known) }
     {
         let State {
             test: _,
             calls: _,
+            on_board: _,
+            earlier: _,
             steps: _,
             known,
             variables: _,
             begun: _,
             procedures: _,
+            libraries: _,
+            board: _,
         } = self;
-        known
+        known.into_reads()
     }
 }
 
@@ -318,5 +354,81 @@ impl State {
         if self.variables.can_pop() {
             self.variables.pop();
         }
+    }
+}
+
+#[tactic(auto, unfolding(crate::specs::State::with_board_made, crate::specs::State::marked, crate::specs::State::in_library, crate::specs::State::setting_of, crate::specs::State::with_setting, crate::specs::State::without_setting))]
+impl State {
+    ghost use Rattle.dg_language.specs.State.{with_board_made, marked, in_library, setting_of, with_setting, without_setting};
+
+    /// Whether the board's file is evaluated. Until it has ended, no command records a result.
+    pub fn is_on_board(&self) -> bool
+        ensures { result ≡ self.now.on_board }
+    {
+        self.on_board
+    }
+
+    /// The board's file has been evaluated, or there is none: its settings stay, all else begins anew.
+    pub fn leave_board(&mut self, alloc: Global)
+        ensures { self.new ≡ with_board_made self.old }
+    {
+        self.on_board = false;
+        self.earlier = self.steps;
+        self.steps = 0;
+        self.variables = Scopes::new(alloc);
+        self.begun = Table::new(alloc);
+        self.procedures = Table::new(alloc);
+        self.libraries = Table::new(alloc);
+    }
+
+    /// Whether a library has begun.
+    pub fn has_begun(&self, library: &[u8]) -> bool
+        ensures { result ≡ map.contains_key self.now.libraries library.now }
+    {
+        self.libraries.has(library)
+    }
+
+    /// A library counts as begun.
+    pub fn mark(&mut self, alloc: Global, library: &[u8]) -> Result<(), AllocError>
+        ensures { OnOk result (self.new ≡ marked library.now self.old) }
+    {
+        self.libraries.insert(alloc, library, ())?;
+        Ok(())
+    }
+
+    /// A library begins, in the global scope, until `leave`.
+    pub fn enter_library(&mut self, alloc: Global, library: &[u8]) -> Result<(), AllocError>
+        ensures { OnOk result (self.new ≡ in_library library.now self.old) }
+    {
+        self.libraries.insert(alloc, library, ())?;
+        self.variables.push_outermost()?;
+        Ok(())
+    }
+
+    /// The board's setting of a key. `name` has the board's name.
+    pub fn setting(&self, key: &Bytes) -> Option<&[u8]>
+        ensures { option_copied result ≡ setting_of key.now self.now }
+    {
+        if key.is(b"name") {
+            return Some(self.test.board.as_slice());
+        }
+        self.board.get(key).map(|value| value.as_slice())
+    }
+
+    /// Sets a key that has no setting, and leaves one that has.
+    pub fn set_first(&mut self, key: Bytes, value: Bytes) -> Result<(), AllocError>
+        ensures { OnOk result (self.new ≡ with_setting key value self.old) }
+    {
+        if self.setting(&key).is_none() {
+            self.board.set_first(key, value)?;
+        }
+        Ok(())
+    }
+
+    /// Removes the setting of a key, if it has one. That of `name` stays.
+    pub fn unset_setting(&mut self, key: &Bytes)
+        ensures { self.new ≡ without_setting key.now self.old }
+    {
+        self.board.unset(key);
     }
 }

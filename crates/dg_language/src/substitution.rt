@@ -1,6 +1,15 @@
 //! How the words of a command are made, by Tcl(n).
 use dg_words::Bytes;
 
+/// What the words that are made are for.
+#[derive(Clone, Copy, Debug, PartialEq, Eq)]
+pub enum Purpose {
+    /// They are a command, which runs.
+    Run,
+    /// The first is an operand of an expression.
+    Load,
+}
+
 /// A step in the making of a command's words, from left to right.
 #[derive(Drop)]
 pub enum Substitution {

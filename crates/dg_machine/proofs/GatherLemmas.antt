@@ -1,15 +1,16 @@
 -- How the words of a command are made.
-use Rattle.std.proofs.Common.{◌≡◌, ℕ, ◌+◌, ◌*◌, ◌^◌, ◌<◌, ◌≤◌, List, [], ◌∷◌, ◌++◌, length, ap, sym, ◌∙◌, refl, arith}
+use Rattle.std.proofs.Common.{◌≡◌, ℕ, ◌+◌, ◌*◌, ◌<◌, ◌≤◌, List, [], ◌∷◌, ◌++◌, length, ap, sym, ◌∙◌, refl, arith}
 use Rattle.std.specs.Prelude.{Option, Some, None}
 use Rattle.dg_scope.specs.Scopes.{value_of}
 use Rattle.dg_world.specs.declared.question.Read.{Read}
 use Rattle.dg_language.specs.declared.substitution.Substitution.{Substitution}
 use Rattle.dg_language.specs.declared.substitution.Substitution.TheVariants.{Literal, Variable, IndexBegins, IndexEnds, Script, WordEnds, ListEnds}
-use Rattle.dg_records.specs.Play.{Play}
+use Rattle.dg_language.specs.Play.{Play}
 use Rattle.dg_language.specs.State.{State}
 use Rattle.dg_language.specs.Evaluation.{Ending, Then, fail, if_done, list_in}
 use Rattle.dg_language.specs.Variables.{touch, given, cannot_read, read_variable}
-use Rattle.dg_language.specs.Language.{longer, command, element, with_elements, gather, evaluate}
+use Rattle.dg_language.specs.Language.{evaluate}
+use Rattle.dg_language.specs.Words.{Act, longer, element, with_elements, gather}
 use Rattle.dg_machine.specs.declared.frame.Frame.{Frame}
 use Rattle.dg_machine.specs.declared.frame.Frame.TheVariants.{Gathering}
 use Rattle.dg_machine.specs.declared.frame.Making.{Making}
@@ -18,7 +19,7 @@ use Rattle.dg_machine.specs.declared.frame.Control.TheVariants.{Go}
 use Rattle.dg_machine.specs.declared.frame.Pace.{Pace}
 use Rattle.dg_machine.specs.declared.frame.Pace.TheVariants.{Moved, Stands, Over}
 use Rattle.dg_machine.specs.declared.machine.Machine.{Machine}
-use Rattle.dg_machine.specs.Meaning.{reading, Goes, Comes, Readies, weight_of, weight, stack_weight, all_back}
+use Rattle.dg_machine.specs.Meaning.{reading, budget, Goes, Comes, Readies, weight_of, weight, stack_weight, all_back}
 use Rattle.dg_machine.proofs.MachineLemmas.{Goes-along, Goes-comes}
 
 -- an error goes through what would be done after a good end
@@ -47,81 +48,81 @@ module _ (o : Option (List ℕ)) (n : List ℕ) (s : State) (f : List ℕ → St
   given-none e = rw e (fail-through (cannot_read n) s f k)
 
 -- one equation for each step
-module _ (d : ℕ) (made : List (List ℕ)) (outer : List (List ℕ × List ℕ)) (text : List ℕ) (left : List Substitution) (s : State) (k : Then) where
-  pub gather-none : left ≡ [] → gather (evaluate d) made outer text left s k ≡ command (evaluate d) made s k
+module _ (d : ℕ) (act : Act) (made : List (List ℕ)) (outer : List (List ℕ × List ℕ)) (text : List ℕ) (left : List Substitution) (s : State) (k : Then) where
+  pub gather-none : left ≡ [] → gather (evaluate d) act made outer text left s k ≡ act made s k
   unfolding gather
   gather-none e = rw e refl
 
   pub gather-literal : (t : List ℕ) (ps : List Substitution) → left ≡ Literal t ∷ ps
-      → gather (evaluate d) made outer text left s k ≡ longer text t s (λ u. gather (evaluate d) made outer u ps s k)
+      → gather (evaluate d) act made outer text left s k ≡ longer text t s (λ u. gather (evaluate d) act made outer u ps s k)
   unfolding gather
   gather-literal t ps e = rw e refl
 
   pub gather-variable : (n : List ℕ) (ps : List Substitution) → left ≡ Variable n ∷ ps
-      → gather (evaluate d) made outer text left s k
+      → gather (evaluate d) act made outer text left s k
       ≡ touch n s (λ s'. given (value_of s'.variables n) n s'
-      (if_done (λ v s''. longer text v s'' (λ u. gather (evaluate d) made outer u ps s'' k)) k))
+      (if_done (λ v s''. longer text v s'' (λ u. gather (evaluate d) act made outer u ps s'' k)) k))
   unfolding gather read_variable
   gather-variable n ps e = rw e refl
 
   pub gather-begins : (n : List ℕ) (ps : List Substitution) → left ≡ IndexBegins n ∷ ps
-      → gather (evaluate d) made outer text left s k ≡ gather (evaluate d) made ((n, text) ∷ outer) [] ps s k
+      → gather (evaluate d) act made outer text left s k ≡ gather (evaluate d) act made ((n, text) ∷ outer) [] ps s k
   unfolding gather
   gather-begins n ps e = rw e refl
 
   pub gather-ends : (ps : List Substitution) → left ≡ IndexEnds ∷ ps
-      → gather (evaluate d) made outer text left s k ≡ gather (evaluate d) made outer text (IndexEnds ∷ ps) s k
+      → gather (evaluate d) act made outer text left s k ≡ gather (evaluate d) act made outer text (IndexEnds ∷ ps) s k
   gather-ends ps e = rw e refl
 
   pub gather-script : (t : List ℕ) (ps : List Substitution) → left ≡ Script t ∷ ps
-      → gather (evaluate d) made outer text left s k
-      ≡ evaluate d t s (if_done (λ v s'. longer text v s' (λ u. gather (evaluate d) made outer u ps s' k)) k)
+      → gather (evaluate d) act made outer text left s k
+      ≡ evaluate d t s (if_done (λ v s'. longer text v s' (λ u. gather (evaluate d) act made outer u ps s' k)) k)
   unfolding gather
   gather-script t ps e = rw e refl
 
   pub gather-word : (ps : List Substitution) → left ≡ WordEnds ∷ ps
-      → gather (evaluate d) made outer text left s k ≡ gather (evaluate d) (made ++ text ∷ []) outer [] ps s k
+      → gather (evaluate d) act made outer text left s k ≡ gather (evaluate d) act (made ++ text ∷ []) outer [] ps s k
   unfolding gather
   gather-word ps e = rw e refl
 
   pub gather-list : (ps : List Substitution) → left ≡ ListEnds ∷ ps
-      → gather (evaluate d) made outer text left s k
-      ≡ with_elements (list_in text) s k (λ es. gather (evaluate d) (made ++ es) outer [] ps s k)
+      → gather (evaluate d) act made outer text left s k
+      ≡ with_elements (list_in text) s k (λ es. gather (evaluate d) act (made ++ es) outer [] ps s k)
   unfolding gather
   gather-list ps e = rw e refl
 
   -- an index that did not begin ends
-  pub index-none : outer ≡ [] → gather (evaluate d) made outer text (IndexEnds ∷ left) s k ≡ gather (evaluate d) made outer text left s k
+  pub index-none : outer ≡ [] → gather (evaluate d) act made outer text (IndexEnds ∷ left) s k ≡ gather (evaluate d) act made outer text left s k
   unfolding gather
   index-none e = rw e refl
 
   -- an index ends
   pub index-ends : (n before : List ℕ) (more : List (List ℕ × List ℕ)) → outer ≡ (n, before) ∷ more
-      → gather (evaluate d) made outer text (IndexEnds ∷ left) s k
+      → gather (evaluate d) act made outer text (IndexEnds ∷ left) s k
       ≡ touch (element n text) s (λ s'. given (value_of s'.variables (element n text)) (element n text) s'
-      (if_done (λ v s''. longer before v s'' (λ u. gather (evaluate d) made more u left s'' k)) k))
+      (if_done (λ v s''. longer before v s'' (λ u. gather (evaluate d) act made more u left s'' k)) k))
   unfolding gather read_variable
   index-ends n before more e = rw e refl
 
 -- a variable could be used, and its value is added
 module _ (n : List ℕ) (old new : Machine) (m : Making) (d : ℕ) where
   pub ready-reading : (last : Machine) (p : Pace) → Readies n old new None
-      → Goes (reading m d n new.state (all_back new.stack)) new.state.known (weight_of new + 2 ^ 69 + 8 + 4 * length m.left) last p
-      → Comes (touch n old.state (λ s. reading m d n s (all_back old.stack))) old.state.known (weight_of old + 2 ^ 69 + 8 + 4 * length m.left) last p
+      → Goes (reading m d n new.state (all_back new.stack)) new.state.known (weight_of new + budget m.purpose + 8 + 4 * length m.left) last p
+      → Comes (touch n old.state (λ s. reading m d n s (all_back old.stack))) old.state.known (weight_of old + budget m.purpose + 8 + 4 * length m.left) last p
   ready-reading last p h g =
       let stack = ap (λ (x : Machine). x.stack) h.1 in
       let control = ap (λ (x : Machine). x.control) h.1 in
       let w : weight_of new ≡ weight_of old = weight-same new.control old.control new.state old.state new.stack old.stack control h.3 stack in
-      let l : weight_of new + 2 ^ 69 + 8 + 4 * length m.left ≤ weight_of old + 2 ^ 69 + 8 + 4 * length m.left = omega arith in
+      let l : weight_of new + budget m.purpose + 8 + 4 * length m.left ≤ weight_of old + budget m.purpose + 8 + 4 * length m.left = omega arith in
       let e : reading m d n new.state (all_back old.stack) ≡ reading m d n new.state (all_back new.stack) =
       ap (λ (fs : List Frame). reading m d n new.state (all_back fs)) (sym stack) in
       let went = Goes-along p (reading m d n new.state (all_back new.stack)) (reading m d n new.state (all_back old.stack)) new.state.known old.state.known
-      (weight_of new + 2 ^ 69 + 8 + 4 * length m.left) (weight_of old + 2 ^ 69 + 8 + 4 * length m.left) last g e h.2 l in
+      (weight_of new + budget m.purpose + 8 + 4 * length m.left) (weight_of old + budget m.purpose + 8 + 4 * length m.left) last g e h.2 l in
       Goes-comes p (reading m d n new.state (all_back old.stack)) (touch n old.state (λ s. reading m d n s (all_back old.stack))) old.state.known
-      (weight_of old + 2 ^ 69 + 8 + 4 * length m.left) (weight_of old + 2 ^ 69 + 8 + 4 * length m.left) last went
+      (weight_of old + budget m.purpose + 8 + 4 * length m.left) (weight_of old + budget m.purpose + 8 + 4 * length m.left) last went
       (h.0 (λ s. reading m d n s (all_back old.stack))) (omega arith)
 
 -- the frame that makes the words of a command
-pub weight-gathering : (s : State) (m : Making) (d : ℕ) (fs : List Frame) → weight Go s (Gathering m d ∷ fs) ≡ weight Go s fs + 2 ^ 69 + 4 + 4 * length m.left
+pub weight-gathering : (s : State) (m : Making) (d : ℕ) (fs : List Frame) → weight Go s (Gathering m d ∷ fs) ≡ weight Go s fs + budget m.purpose + 4 + 4 * length m.left
 unfolding weight stack_weight
 weight-gathering s m d fs = omega arith

@@ -4,3 +4,10 @@ pub mod GatherLemmas
 pub mod ProcedureLemmas
 pub mod LoopLemmas
 pub mod ReadyLemmas
+pub mod StepLemmas
+pub mod VariableLemmas
+pub mod ExpressionLemmas
+pub mod ChoiceLemmas
+pub mod OpeningLemmas
+pub mod BoardLemmas
+pub mod EvaluationLemmas

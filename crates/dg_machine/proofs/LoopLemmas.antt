@@ -6,7 +6,7 @@ use Rattle.dg_world.specs.declared.question.Question.{Question}
 use Rattle.dg_world.specs.declared.question.Read.{Read}
 use Rattle.dg_language.specs.declared.code.Code.{Code}
 use Rattle.dg_language.specs.declared.code.Code.TheVariants.{Done}
-use Rattle.dg_records.specs.Play.{Play, Asks}
+use Rattle.dg_language.specs.Play.{Play, Asks}
 use Rattle.dg_language.specs.State.{State, assigned, learn, stepped}
 use Rattle.dg_language.specs.Evaluation.{Ending, Then, Nested, cut, tick, within, fail, list_in, loop_after}
 use Rattle.dg_language.specs.Variables.{touch}
@@ -121,7 +121,7 @@ unfolding do_foreach
 foreach-empty nested args s k n v body e h = rw e (ap (λ r. with_names nested r v body s k) h)
 
 -- a step that is taken pays for a frame
-pub weight-frame : (s : State) (f : Frame) (fs : List Frame) → s.steps < 100000 → frame_weight f ≤ 2 ^ 68
+pub weight-frame : (s : State) (f : Frame) (fs : List Frame) → s.steps < 100000 → frame_weight f ≤ 2 ^ 249
     → weight Go (stepped s) (f ∷ fs) < weight Go s fs + 5
 unfolding weight stack_weight stepped
 weight-frame s f fs h g = omega arith

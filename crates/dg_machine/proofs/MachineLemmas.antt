@@ -1,19 +1,21 @@
 -- Ends, errors and limits.
-use Rattle.std.proofs.Common.{◌≡◌, ◌≢◌, ℕ, suc, zero, ◌+◌, ◌-◌, ◌^◌, ◌<◌, ◌≤◌, true, false, List, [], ◌∷◌, ◌++◌, length, ap, sym, ◌∙◌, refl, arith}
+use Rattle.std.proofs.Common.{◌≡◌, ◌≢◌, Bool, ℕ, suc, zero, ◌+◌, ◌-◌, ◌^◌, ◌<◌, ◌≤◌, true, false, List, [], ◌∷◌, ◌++◌, length, ap, sym, ◌∙◌, refl, arith}
 use Rattle.std.proofs.lemmas.Bool.{lt-ltb}
 use Rattle.std.specs.Prelude.{nat_lt, codes}
 use Rattle.dg_results.specs.declared.verdict.Line.{Line}
 use Rattle.dg_results.specs.Lines.{lines_of, abort_lines}
 use Rattle.dg_language.specs.declared.code.Code.TheVariants.{Done, Failed}
-use Rattle.dg_records.specs.Play.{Play}
-use Rattle.dg_language.specs.State.{State, stepped}
+use Rattle.dg_language.specs.Play.{Play}
+use Rattle.dg_language.specs.State.{State, stepped, taken}
 use Rattle.dg_words.specs.declared.word.Word.{Word}
 use Rattle.dg_words.specs.declared.fault.WordFault.{WordFault}
 use Rattle.dg_world.specs.declared.question.Read.{Read}
 use Rattle.dg_language.specs.declared.command.Command.{Command}
+use Rattle.dg_language.specs.declared.substitution.Purpose.TheVariants.{Run}
 use Rattle.dg_language.specs.declared.command.Command.TheVariants.{Words, Unreadable}
 use Rattle.dg_language.specs.Evaluation.{Ending, Then, cut, aborted, fail, tick, if_done, fault_text}
-use Rattle.dg_language.specs.Language.{gather, substitutions, sequence, evaluate, commands_at}
+use Rattle.dg_language.specs.Language.{command, sequence, evaluate, commands_at}
+use Rattle.dg_language.specs.Words.{gather, substitutions}
 use Rattle.dg_machine.specs.declared.frame.Frame.{Frame}
 use Rattle.dg_machine.specs.declared.frame.Frame.TheVariants.{Sequence, Gathering}
 use Rattle.dg_machine.specs.declared.frame.Making.{Making}
@@ -21,9 +23,9 @@ use Rattle.dg_machine.specs.declared.frame.Control.TheVariants.{Go}
 use Rattle.dg_machine.specs.declared.frame.Pace.{Pace}
 use Rattle.dg_machine.specs.declared.frame.Pace.TheVariants.{Moved, Stands, Over}
 use Rattle.dg_machine.specs.declared.machine.Machine.{Machine}
-use Rattle.dg_machine.specs.Meaning.{ends_with, Goes, Comes, weight_of, weight, stack_weight, frame_weight, all_back, back}
+use Rattle.dg_machine.specs.Meaning.{ends_with, budget, Goes, Comes, weight_of, weight, stack_weight, frame_weight, all_back, back}
 
-pub cut-ends : (why : List ℕ) (s : State) (v : List Line) → v ≡ lines_of s.calls ++ abort_lines s.test.script why → cut why s ≡ ends_with v s.steps
+pub cut-ends : (why : List ℕ) (s : State) (v : List Line) → v ≡ lines_of s.calls ++ abort_lines s.test.script why → cut why s ≡ ends_with v (taken s)
 unfolding cut aborted
 cut-ends why s v e = rw e refl
 
@@ -39,6 +41,13 @@ pub fail-short : (message : List ℕ) (s : State) (k : Then) → length message 
 unfolding fail
 fail-short message s k h =
     ap (λ b. elim b as (λ _. Play Ending) [ true ↦ cut (codes "value too long") s | false ↦ k Failed message s ]) (nat_lt-false 1048576 (length message) h)
+
+-- whether a step is left
+pub step-left : (s : State) (b : Bool) → b ≡ nat_lt s.steps 100000 → b ≡ true → s.steps < 100000
+step-left s b e h = grind arith
+
+pub no-step : (s : State) (b : Bool) → b ≡ nat_lt s.steps 100000 → b ≡ false → 100000 ≤ s.steps
+no-step s b e h = grind arith
 
 pub tick-step : (s : State) (f : State → Play Ending) → s.steps < 100000 → tick s f ≡ f (stepped s)
 unfolding tick
@@ -61,23 +70,25 @@ sequence-unreadable d fault cs more v s k e = rw e refl
 
 -- the next command begins
 pub sequence-next : (d : ℕ) (ws : List Word) (cs more : List Command) (v : List ℕ) (s : State) (fs : List Frame) → cs ≡ Words ws ∷ more → s.steps < 100000
-    → sequence (evaluate d) cs v s (all_back fs) ≡ gather (evaluate d) [] [] [] (substitutions ws) (stepped s) (all_back (Sequence more d ∷ fs))
+    → sequence (evaluate d) cs v s (all_back fs) ≡ gather (evaluate d) (command (evaluate d)) [] [] [] (substitutions ws) (stepped s) (all_back (Sequence more d ∷ fs))
 unfolding sequence all_back back
 sequence-next d ws cs more v s fs e h =
-    rw e (tick-step s (λ s'. gather (evaluate d) [] [] [] (substitutions ws) s' (if_done (λ v' s''. sequence (evaluate d) more v' s'' (all_back fs)) (all_back fs))) h)
+    rw e (tick-step s (λ s'. gather (evaluate d) (command (evaluate d)) [] [] [] (substitutions ws) s' (if_done (λ v' s''. sequence (evaluate d) more v' s'' (all_back fs)) (all_back fs))) h)
 
 -- no step is left for the next command
 pub sequence-cut : (d : ℕ) (ws : List Word) (cs more : List Command) (v : List ℕ) (s : State) (k : Then) → cs ≡ Words ws ∷ more → 100000 ≤ s.steps
     → sequence (evaluate d) cs v s k ≡ cut (codes "step limit reached") s
 unfolding sequence
 sequence-cut d ws cs more v s k e h =
-    rw e (tick-none s (λ s'. gather (evaluate d) [] [] [] (substitutions ws) s' (if_done (λ v' s''. sequence (evaluate d) more v' s'' k) k)) h)
+    rw e (tick-none s (λ s'. gather (evaluate d) (command (evaluate d)) [] [] [] (substitutions ws) s' (if_done (λ v' s''. sequence (evaluate d) more v' s'' k) k)) h)
 
 -- a step that is taken pays for the frames of a command
-pub weight-begun : (s : State) (m : Making) (more : List Command) (d : ℕ) (fs : List Frame) → s.steps < 100000 → length m.left < 2 ^ 64
+pub weight-begun : (s : State) (m : Making) (more : List Command) (d : ℕ) (fs : List Frame) → s.steps < 100000 → m.purpose ≡ Run → length m.left < 2 ^ 64
     → weight Go (stepped s) (Gathering m d ∷ Sequence more d ∷ fs) < weight Go s fs + 3
-unfolding weight stack_weight stepped
-weight-begun s m more d fs h g = omega arith
+unfolding weight stack_weight stepped budget
+weight-begun s m more d fs h e g =
+    let paid : budget m.purpose ≡ 2 ^ 250 = rw e refl in
+    omega arith
 
 pub weight-cons : (s : State) (f : Frame) (fs : List Frame) → weight Go s (f ∷ fs) ≡ weight Go s fs + frame_weight f
 unfolding weight stack_weight

@@ -7,7 +7,7 @@ use Rattle.std.specs.Prelude.{None}
 use Rattle.dg_language.specs.State.{State}
 use Rattle.dg_language.specs.Evaluation.{Ending, Then}
 use Rattle.dg_language.specs.Variables.{touch}
-use Rattle.dg_records.specs.Play.{Play}
+use Rattle.dg_language.specs.Play.{Play}
 use Rattle.dg_machine.specs.declared.frame.Frame.{Frame}
 use Rattle.dg_machine.specs.declared.frame.Pace.{Pace}
 use Rattle.dg_machine.specs.declared.frame.Pace.TheVariants.{Moved, Stands, Over}

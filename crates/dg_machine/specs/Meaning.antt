@@ -1,22 +1,30 @@
 -- What is left of an evaluation, as frames, and what a move does to it.
-use Rattle.std.specs.Prelude.{◌≡◌, ℕ, ◌+◌, ◌-◌, ◌*◌, ◌^◌, ◌<◌, List, [], ◌∷◌, drop, length, Option, Some, None}
+use Rattle.std.specs.Prelude.{◌≡◌, ℕ, ◌+◌, ◌-◌, ◌*◌, ◌^◌, ◌<◌, List, [], ◌∷◌, drop, length, codes, Option, Some, None}
 use Rattle.dg_world.specs.declared.question.Question.{Question}
 use Rattle.dg_world.specs.declared.question.Answer.{Answer}
 use Rattle.dg_world.specs.declared.question.Read.{Read}
-use Rattle.dg_language.specs.declared.code.Code.TheVariants.{Done}
+use Rattle.dg_language.specs.declared.code.Code.{Code}
+use Rattle.dg_language.specs.declared.code.Code.TheVariants.{Done, Failed, Returned, Broken, Continued}
 use Rattle.dg_results.specs.declared.verdict.Line.{Line}
-use Rattle.dg_records.specs.Play.{Play, Ends, Asks, lookup}
-use Rattle.dg_language.specs.State.{State, learn, departed}
-use Rattle.dg_language.specs.Evaluation.{Ending, Then, if_done, loop_after, outside}
+use Rattle.dg_language.specs.Play.{Play, Ends, Asks, lookup}
+use Rattle.dg_language.specs.State.{State, taken, learn, departed}
+use Rattle.dg_language.specs.Evaluation.{Ending, Then, if_done, loop_after, outside, outside_of_a_loop}
 use Rattle.dg_language.specs.Variables.{touch, given, unset_all}
 use Rattle.dg_scope.specs.Scopes.{value_of}
 use Rattle.dg_language.specs.Control.{caught, each, give_each}
-use Rattle.dg_language.specs.Language.{longer, command, gather, substitutions, sequence, evaluate}
+use Rattle.dg_language.specs.Language.{command, used, sequence, evaluate}
+use Rattle.dg_language.specs.Words.{longer, gather}
 use Rattle.dg_language.specs.declared.command.Command.{Command}
-use Rattle.dg_words.specs.declared.word.Word.{Word}
-use Rattle.dg_language.specs.Judge.{finish, open_script}
+use Rattle.dg_language.specs.declared.substitution.Purpose.{Purpose}
+use Rattle.dg_language.specs.declared.substitution.Purpose.TheVariants.{Run, Load}
+use Rattle.dg_language.specs.declared.substitution.Substitution.{Substitution}
+use Rattle.dg_language.specs.Boards.{after_library}
+use Rattle.dg_language.specs.Judge.{after_file, finish}
+use Rattle.dg_language.specs.Expressions.{written}
+use Rattle.dg_machine.specs.Opening.{open_next, opening_weight}
+use Rattle.dg_machine.specs.Choosing.{calculating, calculating_with, choosing, repeating, stage_weight}
 use Rattle.dg_machine.specs.declared.frame.Frame.{Frame}
-use Rattle.dg_machine.specs.declared.frame.Frame.TheVariants.{Opening, Sequence, Gathering, Running, Catching, Calling, Looping, Unsetting}
+use Rattle.dg_machine.specs.declared.frame.Frame.TheVariants.{Opening, Preceding, Sequence, Gathering, Running, Catching, Calling, Loading, Looping, Unsetting, Calculating, Writing, Choosing, Repeating}
 use Rattle.dg_machine.specs.declared.frame.Making.{Making}
 use Rattle.dg_machine.specs.declared.frame.Rounds.{Rounds}
 use Rattle.dg_machine.specs.declared.frame.Control.{Control}
@@ -29,12 +37,12 @@ use Rattle.dg_machine.specs.declared.machine.Machine.{Machine}
 
 -- the words of a command go on being made
 abbrev pub making_on : Making → ℕ → State → Then → Play Ending
-making_on m depth s k = gather (evaluate depth) m.made m.outer m.text m.left s k
+making_on m depth s k = gather (evaluate depth) (used (evaluate depth) m.purpose) m.made m.outer m.text m.left s k
 
 -- a value is added to what is made of a word, and the words go on being made
 abbrev pub making_with : Making → ℕ → List ℕ → State → Then → Play Ending
 making_with m depth v s k =
-    longer m.text v s (λ u. gather (evaluate depth) m.made m.outer u m.left s k)
+    longer m.text v s (λ u. gather (evaluate depth) (used (evaluate depth) m.purpose) m.made m.outer u m.left s k)
 
 -- the value of a variable, which can be used, is added
 abbrev pub reading : Making → ℕ → List ℕ → State → Then → Play Ending
@@ -60,25 +68,37 @@ looping r (Some i) s k = give_each (drop i r.names) r.values s (λ values t. rou
 
 -- what a frame does when it is to go on
 unfoldable pub go : Frame → State → Then → Play Ending
-go Opening s k = open_script s k
+go (Opening what) s k = open_next what s k
+go (Preceding next) s k = k Done [] s
 go (Sequence commands depth) s k = sequence (evaluate depth) commands [] s k
 go (Gathering m depth) s k = making_on m depth s k
 go (Running words depth) s k = command (evaluate depth) words s k
 go (Catching name) s k = k Done [] s
 go Calling s k = k Done [] s
+go Loading s k = k Done [] s
 go (Looping r) s k = looping r r.given s k
 go (Unsetting complains names) s k = unset_all complains names s k
+go (Calculating c) s k = calculating c s k
+go Writing s k = k Done [] s
+go (Choosing c) s k = k Done [] s
+go (Repeating r) s k = k Done [] s
 
 -- what a frame does with what has ended inside of it
 unfoldable pub back : Frame → Then → Then
-back Opening k = k
+back (Opening what) k = k
+back (Preceding next) k = after_file (open_next next) k
 back (Sequence commands depth) k = if_done (λ v s. sequence (evaluate depth) commands v s k) k
 back (Gathering m depth) k = if_done (λ v s. making_with m depth v s k) k
 back (Running words depth) k = k
 back (Catching name) k = caught name k
 back Calling k = λ c v s. outside k c v (departed s)
+back Loading k = after_library k
 back (Looping r) k = loop_after (λ s. next_round r r.values s k) k
 back (Unsetting complains names) k = k
+back (Calculating c) k = if_done (λ v s. calculating_with c v s k) k
+back Writing k = written k
+back (Choosing c) k = choosing c k
+back (Repeating r) k = repeating r r.stage k
 
 -- what all the frames do with what has ended inside of them
 unfoldable pub all_back : List Frame → Then
@@ -98,15 +118,26 @@ abbrev pub names_left : Rounds → Option ℕ → ℕ
 names_left r None = 0
 names_left r (Some i) = 4 + 4 * (length r.names - i)
 
+-- what is set aside for what is done with words once they are made
+unfoldable pub budget : Purpose → ℕ
+budget Run = 2 ^ 250
+budget Load = 0
+
 abbrev pub frame_weight : Frame → ℕ
-frame_weight Opening = 6
+frame_weight (Opening what) = opening_weight what
+frame_weight (Preceding next) = opening_weight next + 1
 frame_weight (Sequence commands depth) = 3
-frame_weight (Gathering m depth) = 2 ^ 69 + 4 + 4 * length m.left
-frame_weight (Running words depth) = 2 ^ 69
+frame_weight (Gathering m depth) = budget m.purpose + 4 + 4 * length m.left
+frame_weight (Running words depth) = 2 ^ 250
 frame_weight (Catching name) = 3
 frame_weight Calling = 3
+frame_weight Loading = 3
 frame_weight (Looping r) = 5 + names_left r r.given
 frame_weight (Unsetting complains names) = 5 + 4 * length names
+frame_weight (Calculating c) = 8 + 2 ^ 67 * length c.left
+frame_weight Writing = 4
+frame_weight (Choosing c) = 2 ^ 140 + 2 ^ 140 * length c.left
+frame_weight (Repeating r) = stage_weight r.stage
 
 unfoldable pub stack_weight : List Frame → ℕ
 stack_weight [] = 0
@@ -118,7 +149,7 @@ control_weight (Ended c v) = 1
 
 -- it falls with each move
 unfoldable pub weight : Control → State → List Frame → ℕ
-weight c s fs = (100000 - s.steps) * 2 ^ 70 + stack_weight fs + control_weight c
+weight c s fs = (100000 - s.steps) * 2 ^ 251 + stack_weight fs + control_weight c
 
 abbrev pub weight_of : Machine → ℕ
 weight_of m = weight m.control m.state m.stack
@@ -136,25 +167,50 @@ abbrev pub Comes : Play Ending → List Read → ℕ → Machine → Pace → Ty
 Comes play known w m Moved = (rest m ≡ play) × (m.state.known ≡ known) × (weight_of m < w)
 Comes play known w m (Stands q) =
     (play ≡ Asks q (λ a. rest (told q a m))) × (m.state.known ≡ known) × (lookup q known ≡ None)
-Comes play known w m (Over v) = (play ≡ ends_with v m.state.steps) × (m.state.known ≡ known)
+Comes play known w m (Over v) = (play ≡ ends_with v (taken m.state)) × (m.state.known ≡ known)
 
 -- the same, where no question can stand
 abbrev pub Goes : Play Ending → List Read → ℕ → Machine → Pace → Type 0
 Goes play known w m Moved = (rest m ≡ play) × (m.state.known ≡ known) × (weight_of m < w)
 Goes play known w m (Stands q) = ⊥
-Goes play known w m (Over v) = (play ≡ ends_with v m.state.steps) × (m.state.known ≡ known)
+Goes play known w m (Over v) = (play ≡ ends_with v (taken m.state)) × (m.state.known ≡ known)
 
 -- From this, with what is done at another try, a command came to that machine; where a question stands, it has changed nothing.
 abbrev pub Runs : Play Ending → (State → Play Ending) → Machine → Machine → Pace → Type 0
 Runs play again old new Moved =
-    (rest new ≡ play) × (new.state.known ≡ old.state.known) × (weight_of new < weight_of old + 2 ^ 69)
+    (rest new ≡ play) × (new.state.known ≡ old.state.known) × (weight_of new < weight_of old + 2 ^ 250)
 Runs play again old new (Stands q) =
     (play ≡ Asks q (λ a. again (learn q a old.state))) × (new ≡ old) × (lookup q old.state.known ≡ None)
-Runs play again old new (Over v) = (play ≡ ends_with v new.state.steps) × (new.state.known ≡ old.state.known)
+Runs play again old new (Over v) = (play ≡ ends_with v (taken new.state)) × (new.state.known ≡ old.state.known)
 
 -- a command, as one that a machine came to run
 abbrev pub RunsAs : (State → Then → Play Ending) → Machine → Machine → Pace → Type 0
 RunsAs f old new p = Runs (f old.state (all_back old.stack)) (λ s. f s (all_back old.stack)) old new p
+
+-- What is opened next has been, or has come to an end; or a question stands, and nothing has changed.
+abbrev pub Opens : (State → Then → Play Ending) → ℕ → Machine → Machine → Pace → Type 0
+Opens f w old new Moved =
+    (rest new ≡ f old.state (all_back old.stack)) × (new.state.known ≡ old.state.known) × (weight_of new < weight_of old + w)
+Opens f w old new (Stands q) =
+    (f old.state (all_back old.stack) ≡ Asks q (λ a. f (learn q a old.state) (all_back old.stack))) × (new ≡ old)
+    × (lookup q old.state.known ≡ None)
+Opens f w old new (Over v) =
+    (f old.state (all_back old.stack) ≡ ends_with v (taken new.state)) × (new.state.known ≡ old.state.known)
+
+-- how the code and the value with which a procedure or a file ends read outside of it
+abbrev pub outside_code : Code → Code
+outside_code Done = Done
+outside_code Failed = Failed
+outside_code Returned = Done
+outside_code Broken = Failed
+outside_code Continued = Failed
+
+abbrev pub outside_value : Code → List ℕ → List ℕ
+outside_value Done v = v
+outside_value Failed v = v
+outside_value Returned v = v
+outside_value Broken v = outside_of_a_loop (codes "break")
+outside_value Continued v = outside_of_a_loop (codes "continue")
 
 -- What comes before the use of a variable: nothing more, and it may have begun; or a question that stands, or a limit, and
 -- nothing has changed.
@@ -167,21 +223,21 @@ Readies n old new (Some (Stands q)) =
     ((k : State → Play Ending) → touch n old.state k ≡ Asks q (λ a. touch n (learn q a old.state) k)) × (new ≡ old)
     × (lookup q old.state.known ≡ None)
 Readies n old new (Some (Over v)) =
-    ((k : State → Play Ending) → touch n old.state k ≡ ends_with v new.state.steps) × (new ≡ old)
+    ((k : State → Play Ending) → touch n old.state k ≡ ends_with v (taken new.state)) × (new ≡ old)
 
--- a command of these words has begun, in front of the commands that are left
-abbrev pub Begins : List Command → List Word → ℕ → Machine → Machine → Type 0
-Begins commands words depth old new =
+-- a command whose words are made in these steps has begun, in front of the commands that are left
+abbrev pub Begins : List Command → List Substitution → ℕ → Machine → Machine → Type 0
+Begins commands left depth old new =
     (new
     ≡ record old {
       stack =
-          Gathering (record { made = []; outer = []; text = []; left = substitutions words }) depth
+          Gathering (record { purpose = Run; made = []; outer = []; text = []; left = left }) depth
           ∷ Sequence commands depth ∷ old.stack;
     })
-    × (length (substitutions words) < 2 ^ 64)
+    × (length left < 2 ^ 64)
 
 -- where a machine comes to by itself: to a question that has no answer yet, or to the end
 abbrev pub ComesTo : Machine → Machine → Stop → Type 0
 ComesTo old new (AtQuestion q) =
     (rest old ≡ Asks q (λ a. rest (told q a new))) × (new.state.known ≡ old.state.known) × (lookup q old.state.known ≡ None)
-ComesTo old new (AtEnd v) = (rest old ≡ ends_with v new.state.steps) × (new.state.known ≡ old.state.known)
+ComesTo old new (AtEnd v) = (rest old ≡ ends_with v (taken new.state)) × (new.state.known ≡ old.state.known)

@@ -1,10 +1,27 @@
--- What is taken off the commands that are left.
-use Rattle.std.specs.Prelude.{◌≡◌, List, [], ◌∷◌, Option, Some, None}
+-- What is read of a text, and what is taken off the commands that are left.
+use Rattle.std.specs.Prelude.{◌≡◌, ℕ, ◌+◌, ◌≤◌, ◌<◌, List, [], ◌∷◌, drop, length, Option, Some, None}
+use Rattle.dg_words.specs.declared.word.Word.{Word}
 use Rattle.dg_language.specs.declared.command.Command.{Command}
 use Rattle.dg_language.specs.declared.command.Command.TheVariants.{Words, Unreadable}
+use Rattle.dg_language.specs.Language.{commands_at}
+use Rattle.dg_language.specs.Words.{substitutions}
+use Rattle.dg_machine.specs.declared.script.Begun.{Begun}
+use Rattle.dg_machine.specs.declared.script.Begun.TheVariants.{Steps, Unreadable as NoSteps}
+use Rattle.dg_machine.specs.declared.script.Next.{Next}
+use Rattle.dg_machine.specs.declared.script.Next.TheVariants.{Words as NextWords, Unreadable as NextFault, Nothing}
 
--- the first command, where there is one; nothing is behind one that can't be read
-abbrev pub Takes : List Command → List Command → Option Command → Type 0
+-- what stands at a place of a text
+abbrev pub Reads : List ℕ → ℕ → Next → Type 0
+Reads text at (NextWords ws next) = (commands_at text at ≡ Words ws ∷ commands_at text next) × (at < next) × (next ≤ length text)
+Reads text at (NextFault fault) = commands_at text at ≡ Unreadable fault ∷ []
+Reads text at Nothing = commands_at text at ≡ []
+
+-- The first command, where there is one, has the steps of its words; what is behind one that can't be read does not matter.
+abbrev pub Takes : List Command → List Command → Option Begun → Type 0
 Takes old new None = old ≡ []
-Takes old new (Some (Words ws)) = old ≡ Words ws ∷ new
-Takes old new (Some (Unreadable fault)) = old ≡ Unreadable fault ∷ []
+Takes old new (Some (Steps steps)) = (ws : List Word) × ((old ≡ Words ws ∷ new) × (steps ≡ substitutions ws))
+Takes old new (Some (NoSteps fault)) = (more : List Command) × (old ≡ Unreadable fault ∷ more)
+
+-- how the command at a place begins
+abbrev pub Begins : List Command → ℕ → Option Begun → Type 0
+Begins commands at begun = Takes (drop at commands) (drop (at + 1) commands) begun

@@ -8,8 +8,10 @@ ghost use Rattle.dg_machine.specs.declared.frame.Control.{Control};
 ghost use Rattle.dg_machine.specs.Meaning.{all_back, weight_of, looping, Comes, Goes, RunsAs};
 
 use crate::frame::{Frame, Pace, Rounds};
-use crate::machine::{Machine, STEPS, VALUE, three};
-use dg_language::{Code, ControlCommand, Queue, elements_in};
+use crate::machine::{Machine, VALUE, three};
+use crate::script::Body;
+use dg_commands::elements_in;
+use dg_language::{Code, ControlCommand, Queue, STEPS};
 use dg_words::{Bytes, Seq, TryCopy};
 use std::alloc::{AllocError, Global};
 
@@ -171,7 +173,7 @@ impl Machine {
         };
         let rounds = Rounds {
             names,
-            body: body.copy(alloc)?,
+            body: Body::new(alloc, body)?,
             values,
             given: None,
             left: STEPS,

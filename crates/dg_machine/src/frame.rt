@@ -1,17 +1,20 @@
 //! What stands round an evaluation.
 ghost use Rattle.std.specs.Prelude.{◌≡◌, [], ◌∷◌, OnOk, MatchOption};
 
-use crate::script::Script;
-use dg_language::{Code, Queue, Substitution};
+use crate::script::{Body, Script};
+use dg_expr::Instruction;
+use dg_language::{Clause, Code, Purpose, Queue, Substitution};
 use dg_results::Verdict;
 use dg_words::{Bytes, Seq};
 use dg_world::Question;
 use std::alloc::{AllocError, Global};
 use std::marker::Model;
 
-/// The words of a command in the making.
+/// Words in the making.
 #[derive(Drop)]
 pub struct Making {
+    /// What the words are for.
+    pub purpose: Purpose,
     /// The words that are made.
     pub made: Seq<Bytes>,
     /// The name of each element whose index is being made, and what was made before it; the inmost on top.
@@ -27,7 +30,7 @@ pub struct Making {
 pub struct Rounds {
     /// The names that get the values of a round.
     pub names: Seq<Bytes>,
-    pub body: Bytes,
+    pub body: Body,
     /// The values that are left.
     pub values: Queue<Bytes>,
     /// The next name that gets a value, while a round begins.
@@ -37,11 +40,88 @@ pub struct Rounds {
     pub depth: u32,
 }
 
+/// The code of an expression, on a stack of values.
+#[derive(Drop)]
+pub struct Calculation {
+    pub values: Stack<Bytes>,
+    /// How many of the instructions that are left are passed over.
+    pub passed: usize,
+    /// The instructions that are left.
+    pub left: Queue<Instruction>,
+    pub depth: u32,
+}
+
+/// An `if` whose condition is computed.
+#[derive(Drop)]
+pub struct Choice {
+    /// What runs where the condition is true.
+    pub body: Bytes,
+    /// The clauses that are left.
+    pub left: Queue<Clause>,
+    /// What runs where no condition is true.
+    pub otherwise: Option<Bytes>,
+    pub depth: u32,
+}
+
+/// What of a loop over a condition runs.
+#[derive(Clone, Copy, Debug, PartialEq, Eq)]
+pub enum Stage {
+    /// The first script of `for`.
+    Start,
+    Test,
+    Body,
+    /// The third script of `for`.
+    Next,
+}
+
+/// A loop over a condition.
+#[derive(Drop)]
+pub struct Repetition {
+    pub stage: Stage,
+    pub test: Bytes,
+    /// The third script of `for`.
+    pub next: Option<Body>,
+    pub body: Body,
+    /// The most tests that are left.
+    pub left: u32,
+    pub depth: u32,
+}
+
+/// What is opened for a test, in this order.
+#[derive(Drop)]
+pub enum Opening {
+    /// The board's file.
+    Board,
+    /// The board's file has been evaluated, or there is none.
+    AfterBoard,
+    /// The tool, whose library is opened.
+    Tool,
+    /// The tool's library, in the file of this name.
+    Library(Bytes),
+    /// The test's script.
+    Script,
+}
+
+/// What is known of a file.
+#[derive(Drop)]
+pub enum FileText {
+    /// This question has no answer yet.
+    Unanswered(Question),
+    /// The bytes of the file, if there is one.
+    Known(Option<Bytes>),
+}
+
 /// What is done when its turn comes, or when what stands inside of it has ended.
 #[derive(Drop)]
 pub enum Frame {
-    /// The script is opened.
-    Opening,
+    /// A file of the test is opened.
+    Opening {
+        what: Opening,
+    },
+    /// A file that comes before the script is evaluated; then the next is opened.
+    Preceding {
+        next: Opening,
+    },
     /// The commands of a text that are left, inside as many evaluations as the depth leaves.
     Sequence {
         commands: Script,
@@ -63,6 +143,8 @@ pub enum Frame {
     },
     /// A procedure ends.
     Calling,
+    /// A library ends.
+    Loading,
     /// A loop over values.
     Looping {
         rounds: Rounds,
@@ -71,6 +153,20 @@ pub enum Frame {
     Unsetting {
         complains: bool,
         names: Queue<Bytes>,
+    },
+    /// An expression is computed.
+    Calculating {
+        calculation: Calculation,
+    },
+    /// The value of `expr` is written.
+    Writing,
+    /// A condition of `if` is computed.
+    Choosing {
+        choice: Choice,
+    },
+    /// A loop over a condition.
+    Repeating {
+        repetition: Repetition,
     },
 }
 

@@ -1,18 +1,62 @@
 //! How the words of a command are made, a step at a time.
-ghost use Rattle.std.specs.Prelude.{◌≡◌, ◌+◌, ◌*◌, ◌^◌, ◌<◌, ◌∷◌, ◌++◌, [], IfOk, OnOk, length, codes};
-ghost use Rattle.dg_language.specs.Evaluation.{if_done, list_in};
+ghost use Rattle.std.specs.Prelude.{◌≡◌, ◌+◌, ◌*◌, ◌^◌, ◌<◌, ◌≤◌, ◌∷◌, ◌++◌, [], ℕ, IfOk, OnOk, length, codes};
+ghost use Rattle.dg_language.specs.Evaluation.{Then, if_done, list_in};
+ghost use Rattle.dg_language.specs.State.{State};
 ghost use Rattle.dg_language.specs.Variables.{touch};
-ghost use Rattle.dg_language.specs.Language.{gather, element, evaluate, with_elements};
+ghost use Rattle.dg_language.specs.Language.{used, evaluate};
+ghost use Rattle.dg_language.specs.Words.{gather, element, with_elements};
 ghost use Rattle.dg_machine.specs.declared.frame.Control.{Control};
-ghost use Rattle.dg_machine.specs.Meaning.{all_back, weight_of, making_on, making_with, reading, outside_index, Comes, Goes};
+ghost use Rattle.dg_machine.specs.Meaning.{all_back, weight_of, making_on, making_with, budget, reading, outside_index, Comes, Goes};
 
 use crate::frame::{Frame, Making, Pace};
 use crate::machine::{Machine, VALUE};
 use crate::variables::push_all;
-use dg_language::{Substitution, cannot_read, elements_in};
+use dg_commands::{cannot_read, elements_in};
+use dg_language::Substitution;
 use dg_words::Bytes;
 use std::alloc::{AllocError, Global};
 use std::mem;
+
+/// Adds a value at the end of a text; where that is empty it is the text from then on.
+fn add_text(text: &mut Bytes, value: Bytes) -> Result<(), AllocError>
+    ensures { OnOk result (text.new ≡ text.old ++ value) }
+{
+    if text.is_empty() {
+        *text = value;
+        return Ok(());
+    }
+    text.extend(value.as_slice())
+}
+
+/// Takes the steps that only add a text or end a word, up to any other, or to a text that would make
+/// the word too long.
+fn make_texts(alloc: Global, making: &mut Making) -> Result<(), AllocError>
+    ensures same { OnOk result ((depth : ℕ) (s : State) (k : Then) → making_on making.new depth s k ≡ making_on making.old depth s k) }
+    ensures fewer { OnOk result (length making.new.left ≤ length making.old.left) }
+    ensures purpose { OnOk result (making.new.purpose ≡ making.old.purpose) }
+{
+    'steps: while let Some(step) = making.left.next() {
+        match step {
+            Substitution::Literal(text) => {
+                let length = text.len();
+                if length > VALUE || making.text.len() > VALUE - length {
+                    making.left.push_front(Substitution::Literal(text))?;
+                    return Ok(());
+                }
+                add_text(&mut making.text, text)?;
+            }
+            Substitution::WordEnds => {
+                let word = mem::replace(&mut making.text, Bytes::new(alloc));
+                making.made.push(word)?;
+            }
+            step => {
+                making.left.push_front(step)?;
+                return Ok(());
+            }
+        }
+    }
+    Ok(())
+}
 
 /// The name of an element.
 fn element(alloc: Global, name: &[u8], index: &[u8]) -> Result<Bytes, AllocError>
@@ -34,17 +78,18 @@ impl Machine {
         &mut self,
         alloc: Global,
         mut making: Making,
-        value: &[u8],
+        value: Bytes,
         depth: u32,
     ) -> Result<Pace, AllocError>
         requires { self.old.control ≡ Control.Go }
-        ensures { IfOk result (λ p. Goes (making_with making depth value.now self.old.state (all_back self.old.stack)) self.old.state.known (weight_of self.old + 2 ^ 69 + 8 + 4 * length making.left) self.new p) }
+        ensures { IfOk result (λ p. Goes (making_with making depth value self.old.state (all_back self.old.stack)) self.old.state.known (weight_of self.old + budget making.purpose + 5 + 4 * length making.left) self.new p) }
     {
-        if value.len() > VALUE || making.text.len() > VALUE - value.len() {
+        let length = value.len();
+        if length > VALUE || making.text.len() > VALUE - length {
             let verdict = self.cut(alloc, b"value too long")?;
             return Ok(Pace::Over(verdict));
         }
-        making.text.extend(value)?;
+        add_text(&mut making.text, value)?;
         self.stack.push(Frame::Gathering { making, depth })?;
         Ok(Pace::Moved)
     }
@@ -58,7 +103,7 @@ impl Machine {
         depth: u32,
     ) -> Result<Pace, AllocError>
         requires { self.old.control ≡ Control.Go }
-        ensures { IfOk result (λ p. Goes (reading making depth name.now self.old.state (all_back self.old.stack)) self.old.state.known (weight_of self.old + 2 ^ 69 + 8 + 4 * length making.left) self.new p) }
+        ensures { IfOk result (λ p. Goes (reading making depth name.now self.old.state (all_back self.old.stack)) self.old.state.known (weight_of self.old + budget making.purpose + 8 + 4 * length making.left) self.new p) }
     {
         let Some(value) = self.state.value_of(name) else {
             let message = cannot_read(alloc, name)?;
@@ -66,7 +111,7 @@ impl Machine {
             return Ok(pace);
         };
         let value = Bytes::from_slice(alloc, value)?;
-        let pace = self.add_value(alloc, making, value.as_slice(), depth)?;
+        let pace = self.add_value(alloc, making, value, depth)?;
         Ok(pace)
     }
 
@@ -79,7 +124,7 @@ impl Machine {
         depth: u32,
     ) -> Result<Pace, AllocError>
         requires { self.old.control ≡ Control.Go }
-        ensures { IfOk result (λ p. Comes (touch name self.old.state (λ s. reading making depth name s (all_back self.old.stack))) self.old.state.known (weight_of self.old + 2 ^ 69 + 8 + 4 * length making.left) self.new p) }
+        ensures { IfOk result (λ p. Comes (touch name self.old.state (λ s. reading making depth name s (all_back self.old.stack))) self.old.state.known (weight_of self.old + budget making.purpose + 8 + 4 * length making.left) self.new p) }
     {
         match self.ready(alloc, name.as_slice())? {
             Some(Pace::Stands(question)) => {
@@ -102,7 +147,7 @@ impl Machine {
         depth: u32,
     ) -> Result<Pace, AllocError>
         requires { self.old.control ≡ Control.Go }
-        ensures { IfOk result (λ p. Comes (touch (element name making.text) self.old.state (λ s. reading (outside_index making before) depth (element name making.text) s (all_back self.old.stack))) self.old.state.known (weight_of self.old + 2 ^ 69 + 8 + 4 * length making.left) self.new p) }
+        ensures { IfOk result (λ p. Comes (touch (element name making.text) self.old.state (λ s. reading (outside_index making before) depth (element name making.text) s (all_back self.old.stack))) self.old.state.known (weight_of self.old + budget making.purpose + 8 + 4 * length making.left) self.new p) }
     {
         let whole = element(alloc, name.as_slice(), making.text.as_slice())?;
         match self.ready(alloc, whole.as_slice())? {
@@ -130,7 +175,7 @@ impl Machine {
         depth: u32,
     ) -> Result<Pace, AllocError>
         requires { self.old.control ≡ Control.Go }
-        ensures { IfOk result (λ p. Goes (gather (evaluate depth) making.made ((name, making.text) ∷ making.outer) [] making.left self.old.state (all_back self.old.stack)) self.old.state.known (weight_of self.old + 2 ^ 69 + 8 + 4 * length making.left) self.new p) }
+        ensures { IfOk result (λ p. Goes (gather (evaluate depth) (used (evaluate depth) making.purpose) making.made ((name, making.text) ∷ making.outer) [] making.left self.old.state (all_back self.old.stack)) self.old.state.known (weight_of self.old + budget making.purpose + 8 + 4 * length making.left) self.new p) }
     {
         let before = mem::replace(&mut making.text, Bytes::new(alloc));
         making.outer.push((name, before))?;
@@ -147,7 +192,7 @@ impl Machine {
         depth: u32,
     ) -> Result<Pace, AllocError>
         requires { self.old.control ≡ Control.Go }
-        ensures { IfOk result (λ p. Comes (gather (evaluate depth) making.made making.outer making.text (Substitution.IndexEnds ∷ making.left) self.old.state (all_back self.old.stack)) self.old.state.known (weight_of self.old + 2 ^ 69 + 8 + 4 * length making.left) self.new p) }
+        ensures { IfOk result (λ p. Comes (gather (evaluate depth) (used (evaluate depth) making.purpose) making.made making.outer making.text (Substitution.IndexEnds ∷ making.left) self.old.state (all_back self.old.stack)) self.old.state.known (weight_of self.old + budget making.purpose + 8 + 4 * length making.left) self.new p) }
     {
         let Some((name, before)) = making.outer.pop() else {
             self.stack.push(Frame::Gathering { making, depth })?;
@@ -166,7 +211,7 @@ impl Machine {
         depth: u32,
     ) -> Result<Pace, AllocError>
         requires { self.old.control ≡ Control.Go }
-        ensures { IfOk result (λ p. Goes (gather (evaluate depth) (making.made ++ making.text ∷ []) making.outer [] making.left self.old.state (all_back self.old.stack)) self.old.state.known (weight_of self.old + 2 ^ 69 + 8 + 4 * length making.left) self.new p) }
+        ensures { IfOk result (λ p. Goes (gather (evaluate depth) (used (evaluate depth) making.purpose) (making.made ++ making.text ∷ []) making.outer [] making.left self.old.state (all_back self.old.stack)) self.old.state.known (weight_of self.old + budget making.purpose + 8 + 4 * length making.left) self.new p) }
     {
         let word = mem::replace(&mut making.text, Bytes::new(alloc));
         making.made.push(word)?;
@@ -183,7 +228,7 @@ impl Machine {
         depth: u32,
     ) -> Result<Pace, AllocError>
         requires { self.old.control ≡ Control.Go }
-        ensures { IfOk result (λ p. Goes (with_elements (list_in making.text) self.old.state (all_back self.old.stack) (λ es. gather (evaluate depth) (making.made ++ es) making.outer [] making.left self.old.state (all_back self.old.stack))) self.old.state.known (weight_of self.old + 2 ^ 69 + 8 + 4 * length making.left) self.new p) }
+        ensures { IfOk result (λ p. Goes (with_elements (list_in making.text) self.old.state (all_back self.old.stack) (λ es. gather (evaluate depth) (used (evaluate depth) making.purpose) (making.made ++ es) making.outer [] making.left self.old.state (all_back self.old.stack))) self.old.state.known (weight_of self.old + budget making.purpose + 8 + 4 * length making.left) self.new p) }
     {
         let elements = match elements_in(alloc, making.text.as_slice())? {
             Ok(elements) => elements,
@@ -208,10 +253,39 @@ impl Machine {
         depth: u32,
     ) -> Result<Pace, AllocError>
         requires { self.old.control ≡ Control.Go }
-        ensures { IfOk result (λ p. Goes (evaluate depth script self.old.state (if_done (λ v s. making_with making depth v s (all_back self.old.stack)) (all_back self.old.stack))) self.old.state.known (weight_of self.old + 2 ^ 69 + 8 + 4 * length making.left) self.new p) }
+        ensures { IfOk result (λ p. Goes (evaluate depth script self.old.state (if_done (λ v s. making_with making depth v s (all_back self.old.stack)) (all_back self.old.stack))) self.old.state.known (weight_of self.old + budget making.purpose + 8 + 4 * length making.left) self.new p) }
     {
         self.stack.push(Frame::Gathering { making, depth })?;
         let pace = self.enter(alloc, script, depth)?;
         Ok(pace)
+    }
+
+    /// The words go on being made, by one step, or are used.
+    pub(crate) fn gather(
+        &mut self,
+        alloc: Global,
+        mut making: Making,
+        depth: u32,
+    ) -> Result<Pace, AllocError>
+        requires { self.old.control ≡ Control.Go }
+        ensures { IfOk result (λ p. Comes (making_on making depth self.old.state (all_back self.old.stack)) self.old.state.known (weight_of self.old + budget making.purpose + 4 + 4 * length making.left) self.new p) }
+    {
+        make_texts(alloc, &mut making)?;
+        match making.left.next() {
+            None => Ok(self.use_words(alloc, making, depth)?),
+            Some(Substitution::Literal(text)) => Ok(self.add_value(alloc, making, text, depth)?),
+            Some(Substitution::Variable(name)) => {
+                Ok(self.gather_variable(alloc, making, name, depth)?)
+            }
+            Some(Substitution::IndexBegins(name)) => {
+                Ok(self.begin_index(alloc, making, name, depth)?)
+            }
+            Some(Substitution::IndexEnds) => Ok(self.end_index(alloc, making, depth)?),
+            Some(Substitution::Script(script)) => {
+                Ok(self.run_script(alloc, making, script, depth)?)
+            }
+            Some(Substitution::WordEnds) => Ok(self.end_word(alloc, making, depth)?),
+            Some(Substitution::ListEnds) => Ok(self.end_list(alloc, making, depth)?),
+        }
     }
 }

@@ -1,17 +1,30 @@
 //! The machine that runs scripts: a stack of frames, and its moves.
 #![tactic(auto)]
 
+mod boards;
+mod choices;
 mod control;
+mod dispatch;
+mod evaluation;
+mod expressions;
 mod frame;
 mod gather;
 mod machine;
+mod opening;
 mod procedures;
 mod reading;
+mod repeats;
 mod results;
 mod rounds;
 mod script;
+mod step;
+mod targets;
 mod variables;
 
-pub use crate::frame::{Control, Frame, Making, Pace, Rounds, Stack, Stop};
+pub use crate::evaluation::{Arrival, Asking, Ended, Evaluation};
+pub use crate::frame::{
+    Calculation, Choice, Control, FileText, Frame, Making, Opening, Pace, Repetition, Rounds,
+    Stack, Stage, Stop,
+};
 pub use crate::machine::Machine;
-pub use crate::script::Script;
+pub use crate::script::{Begun, Body, Script};

@@ -1,30 +1,39 @@
 //! A stopped evaluation, and how its commands begin and end.
-ghost use Rattle.std.specs.Prelude.{◌≡◌, ◌+◌, ◌*◌, ◌^◌, ◌<◌, ◌≤◌, ◌∷◌, ◌++◌, [], length, IfOk, codes, OnOk, MatchOption};
+ghost use Rattle.std.specs.Prelude.{◌≡◌, ◌+◌, ◌*◌, ◌^◌, ◌<◌, ◌≤◌, ◌∷◌, ◌++◌, [], length, IfOk, codes, OnOk, MatchOption, ℕ, List};
 ghost use Rattle.std.specs.Option.{option_copied};
 ghost use Rattle.dg_language.specs.Evaluation.{cut, fail, one_of, first_of, three_of, wrong_count};
+ghost use Rattle.dg_language.specs.State.{taken};
 ghost use Rattle.dg_language.specs.Variables.{store};
-ghost use Rattle.dg_language.specs.Language.{sequence, evaluate};
+ghost use Rattle.dg_language.specs.Language.{commands_at, sequence, evaluate};
 ghost use Rattle.dg_machine.specs.Meaning.{all_back, weight_of, ends_with, Begins, Goes, Readies};
 
 use crate::frame::{Control, Frame, Making, Pace, Stack};
-use crate::script::Script;
-use dg_language::{Code, Command, State, Touch, fault_text, steps_of, wrong_count};
+use crate::script::{Begun, Script};
+use dg_commands::{fault_text, wrong_count};
+use dg_language::{Code, Purpose, Queue, State, Substitution, Touch};
 use dg_results::Verdict;
-use dg_words::{Bytes, Seq, TryCopy, Word};
+use dg_words::{Bytes, Seq, TryCopy};
 use std::alloc::{AllocError, Global};
-
-/// The most steps that an evaluation takes.
-pub(crate) const STEPS: u32 = 100_000;
 
 /// The most bytes of a value.
 pub(crate) const VALUE: usize = 1_048_576;
 
 /// A stopped evaluation.
-#[derive(Drop)]
 pub struct Machine {
     pub state: State,
     pub stack: Stack<Frame>,
     pub control: Control,
+}
+
+/// Written by hand, and so one call for whoever lets a machine go.
+impl Drop for Machine {
+    fn drop(self) {
+        let Machine {
+            state: _,
+            stack: _,
+            control: _,
+        } = self;
+    }
 }
 
 /// The only word, if there is just one.
@@ -58,10 +67,22 @@ pub(crate) fn three(words: &[Bytes]) -> Option<(&Bytes, &Bytes, &Bytes)>
 }
 
 impl Machine {
+    /// What was made so far, without the frames.
+    pub(crate) fn into_state(self) -> State
+        ensures { result ≡ self.state }
+    {
+        let Machine {
+            state,
+            stack: _,
+            control: _,
+        } = self;
+        state
+    }
+
     /// A limit ends the evaluation as an error does.
     #[tactic(auto, unfolding(dg_language::specs::Evaluation::cut, dg_language::specs::Evaluation::aborted))]
     pub(crate) fn cut(&mut self, alloc: Global, why: &[u8]) -> Result<Verdict, AllocError>
-        ensures ends { IfOk result (λ v. cut why.now self.old.state ≡ ends_with v self.old.state.steps) }
+        ensures ends { IfOk result (λ v. cut why.now self.old.state ≡ ends_with v (taken self.old.state)) }
         ensures same { self.new ≡ self.old }
     {
         let judging = self.state.judged(alloc)?;
@@ -140,16 +161,17 @@ impl Machine {
         &mut self,
         alloc: Global,
         commands: Script,
-        words: &[Word],
+        left: Queue<Substitution>,
         depth: u32,
     ) -> Result<(), AllocError>
-        ensures { OnOk result (Begins commands words.now depth self.old self.new) }
+        ensures { OnOk result (Begins commands left depth self.old self.new) }
     {
         let making = Making {
+            purpose: Purpose::Run,
             made: Seq::new(alloc),
             outer: Stack::new(alloc),
             text: Bytes::new(alloc),
-            left: steps_of(alloc, words)?,
+            left,
         };
         let _count = making.left.len();
         self.stack.push(Frame::Sequence { commands, depth })?;
@@ -173,21 +195,42 @@ impl Machine {
                 self.end(Code::Done, value);
                 Ok(Pace::Moved)
             }
-            Some(Command::Unreadable(fault)) => {
+            Some(Begun::Unreadable(fault)) => {
                 let message = Bytes::from_slice(alloc, fault_text(fault))?;
                 let pace = self.fail(alloc, message)?;
                 Ok(pace)
             }
-            Some(Command::Words(words)) => {
-                if self.state.steps() >= STEPS {
+            Some(Begun::Steps(left)) => {
+                if !self.state.has_step() {
                     let verdict = self.cut(alloc, b"step limit reached")?;
                     return Ok(Pace::Over(verdict));
                 }
                 self.state.take_step();
-                self.begin_command(alloc, commands, words.as_slice(), depth)?;
+                self.begin_command(alloc, commands, left, depth)?;
                 Ok(Pace::Moved)
             }
         }
+    }
+
+    /// The evaluation of a text begins, whose commands these are, inside as many others as this leaves.
+    pub(crate) fn begin(
+        &mut self,
+        alloc: Global,
+        commands: Script,
+        depth: u32,
+    ) -> Result<Pace, AllocError>
+        requires { self.old.control ≡ Control.Go }
+        ensures { IfOk result (λ p. (text : List ℕ) → commands ≡ commands_at text 0 → Goes (evaluate depth text self.old.state (all_back self.old.stack)) self.old.state.known (weight_of self.old + 4) self.new p) }
+    {
+        if depth == 0 {
+            let verdict = self.cut(alloc, b"too many nested evaluations")?;
+            return Ok(Pace::Over(verdict));
+        }
+        self.stack.push(Frame::Sequence {
+            commands,
+            depth: depth - 1,
+        })?;
+        Ok(Pace::Moved)
     }
 
     /// The evaluation of a text begins, inside as many others as this leaves.
@@ -200,14 +243,6 @@ impl Machine {
         requires { self.old.control ≡ Control.Go }
         ensures { IfOk result (λ p. Goes (evaluate depth text self.old.state (all_back self.old.stack)) self.old.state.known (weight_of self.old + 4) self.new p) }
     {
-        if depth == 0 {
-            let verdict = self.cut(alloc, b"too many nested evaluations")?;
-            return Ok(Pace::Over(verdict));
-        }
-        self.stack.push(Frame::Sequence {
-            commands: Script::new(text),
-            depth: depth - 1,
-        })?;
-        Ok(Pace::Moved)
+        Ok(self.begin(alloc, Script::new(text), depth)?)
     }
 }

@@ -6,7 +6,8 @@ ghost use Rattle.dg_machine.specs.Meaning.{RunsAs};
 
 use crate::frame::Pace;
 use crate::machine::Machine;
-use dg_language::{Code, cannot_read};
+use dg_commands::cannot_read;
+use dg_language::Code;
 use dg_words::Bytes;
 use std::alloc::{AllocError, Global};
 

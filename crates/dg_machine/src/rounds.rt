@@ -7,7 +7,7 @@ ghost use Rattle.dg_machine.specs.declared.frame.Control.{Control};
 ghost use Rattle.dg_machine.specs.Meaning.{all_back, weight_of, looping, next_round, round_body, Comes, Goes};
 
 use crate::frame::{Frame, Pace, Rounds};
-use crate::machine::{Machine, STEPS, VALUE};
+use crate::machine::{Machine, VALUE};
 use dg_language::{Code, Queue};
 use dg_words::{Bytes, Seq, TryCopy};
 use std::alloc::{AllocError, Global};
@@ -27,7 +27,7 @@ impl Machine {
             self.end(Code::Done, Bytes::new(alloc));
             return Ok(Pace::Moved);
         }
-        if rounds.left == 0 || self.state.steps() >= STEPS {
+        if rounds.left == 0 || !self.state.has_step() {
             let verdict = self.cut(alloc, b"step limit reached")?;
             return Ok(Pace::Over(verdict));
         }
@@ -46,10 +46,10 @@ impl Machine {
         ensures { IfOk result (λ p. Goes (round_body rounds rounds.values self.old.state (all_back self.old.stack)) self.old.state.known (weight_of self.old + 9) self.new p) }
     {
         rounds.given = None;
-        let body = rounds.body.copy(alloc)?;
+        let commands = rounds.body.script(alloc)?;
         let depth = rounds.depth;
         self.stack.push(Frame::Looping { rounds })?;
-        let pace = self.enter(alloc, body, depth)?;
+        let pace = self.begin(alloc, commands, depth)?;
         Ok(pace)
     }
 

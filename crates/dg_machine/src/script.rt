@@ -1,31 +1,113 @@
-//! The commands of a text, read one after another.
-ghost use Rattle.std.specs.Prelude.{◌≡◌, ◌∷◌, [], ◌≤◌, length, IfOk, MatchOption};
+//! The commands of a text, read one after another, and texts whose commands are read once.
+ghost use Rattle.std.specs.Prelude.{◌≡◌, ◌++◌, ◌∷◌, [], ◌≤◌, drop, length, IfOk, MatchOption};
 ghost use Rattle.dg_language.specs.Language.{commands_at};
-ghost use Rattle.dg_machine.specs.Script.{Takes};
+ghost use Rattle.dg_machine.specs.Script.{Begins, Reads, Takes};
 
-use dg_language::Command;
-use dg_words::{Bytes, Parsed, WordFault, parse_command};
+use dg_commands::steps_of;
+use dg_language::{Command, Queue, Substitution};
+use dg_words::{Bytes, Parsed, Seq, TryCopy, Word, WordFault, parse_command};
 use std::alloc::{AllocError, Global};
 use std::marker::Model;
+use std::sync::Arc;
 
-/// A text, and the place up to which its commands were read. A contract sees the commands that
-/// are left.
+/// The most bytes of a text whose commands are kept: they take many times its room.
+const KEPT: usize = 4096;
+
+/// A command that begins: the steps in which its words are made, or why it can't be read.
+#[derive(Drop)]
+pub enum Begun {
+    Steps(Queue<Substitution>),
+    Unreadable(WordFault),
+}
+
+/// Where commands come from: a text that is read as they are taken, or commands that were read.
+#[derive(Drop)]
+enum Source {
+    Text(Bytes),
+    Kept(Arc<Seq<Command>>),
+}
+
+/// Commands, and the place up to which they were taken. A contract sees those that are left.
 #[derive(Drop)]
 pub struct Script {
-    text: Bytes,
+    source: Source,
     at: usize,
 }
 
 impl Model for Script {
-    ghost use Rattle.std.specs.Prelude.{List, ◌≤◌, length};
+    ghost use Rattle.std.specs.Prelude.{List};
     ghost use Rattle.dg_language.specs.declared.command.Command.{Command};
-    ghost use Rattle.dg_language.specs.Language.{commands_at};
+    ghost use Rattle.dg_machine.specs.Source.{IsPlace, left_of};
 
     ghost Value = { List Command };
 
-    ghost view = { λ s. commands_at s.text s.at };
+    ghost view = { λ s. left_of s.source s.at };
 
-    ghost invariant = { λ s. s.at ≤ length s.text };
+    ghost invariant = { λ s. IsPlace s.source s.at };
+}
+
+/// What stands at a place of a text: the words of a command and the place behind it, why it can't be
+/// read, or nothing more.
+#[derive(Drop)]
+enum Next {
+    Words(Seq<Word>, usize),
+    Unreadable(WordFault),
+    Nothing,
+}
+
+/// Reads the command at a place of a text.
+fn read_command(alloc: Global, text: &[u8], at: usize) -> Result<Next, AllocError>
+    requires { at ≤ length text.now }
+    ensures { IfOk result (Reads text.now at) }
+{
+    match parse_command(alloc, text, at) {
+        Ok(Parsed { words, next }) => {
+            if words.is_empty() {
+                return Ok(Next::Nothing);
+            }
+            Ok(Next::Words(words, next))
+        }
+        Err(fault) => {
+            if fault == WordFault::Memory {
+                return Err(AllocError);
+            }
+            Ok(Next::Unreadable(fault))
+        }
+    }
+}
+
+/// All commands of a text, up to the first that can't be read.
+fn commands_of(alloc: Global, text: &[u8]) -> Result<Seq<Command>, AllocError>
+    ensures { IfOk result (λ cs. cs ≡ commands_at text.now 0) }
+{
+    let mut commands = Seq::new(alloc);
+    let mut at = 0;
+    'commands: loop {
+        match read_command(alloc, text, at)? {
+            Next::Words(words, next) => {
+                commands.push(Command::Words(words))?;
+                at = next;
+            }
+            Next::Unreadable(fault) => {
+                commands.push(Command::Unreadable(fault))?;
+                return Ok(commands);
+            }
+            Next::Nothing => return Ok(commands),
+        }
+    }
+}
+
+/// How the command at a place begins, where there is one.
+fn begin_at(alloc: Global, commands: &[Command], at: usize) -> Result<Option<Begun>, AllocError>
+    ensures { IfOk result (Begins commands.now at) }
+{
+    if at >= commands.len() {
+        return Ok(None);
+    }
+    match &commands[at] {
+        Command::Words(words) => Ok(Some(Begun::Steps(steps_of(alloc, words.as_slice())?))),
+        Command::Unreadable(fault) => Ok(Some(Begun::Unreadable(*fault))),
+    }
 }
 
 impl Script {
@@ -33,27 +115,84 @@ impl Script {
     pub fn new(text: Bytes) -> Script
         ensures { result ≡ commands_at text 0 }
     {
-        Script { text, at: 0 }
+        Script {
+            source: Source::Text(text),
+            at: 0,
+        }
     }
 
-    /// Reads the next command. Nothing is left behind one that can't be read.
-    pub fn next(&mut self, alloc: Global) -> Result<Option<Command>, AllocError>
+    /// Takes the next command.
+    pub fn next(&mut self, alloc: Global) -> Result<Option<Begun>, AllocError>
         ensures { IfOk result (Takes self.old self.new) }
     {
-        match parse_command(alloc, self.text.as_slice(), self.at) {
-            Ok(Parsed { words, next }) => {
-                if words.is_empty() {
-                    return Ok(None);
+        match &self.source {
+            Source::Text(text) => match read_command(alloc, text.as_slice(), self.at)? {
+                Next::Words(words, next) => {
+                    self.at = next;
+                    Ok(Some(Begun::Steps(steps_of(alloc, words.as_slice())?)))
                 }
-                self.at = next;
-                Ok(Some(Command::Words(words)))
-            }
-            Err(fault) => {
-                if fault == WordFault::Memory {
-                    return Err(AllocError);
+                Next::Unreadable(fault) => Ok(Some(Begun::Unreadable(fault))),
+                Next::Nothing => Ok(None),
+            },
+            Source::Kept(commands) => {
+                let begun = begin_at(alloc, commands.as_slice(), self.at)?;
+                if begun.is_some() {
+                    self.at += 1;
                 }
-                Ok(Some(Command::Unreadable(fault)))
+                Ok(begun)
             }
+        }
+    }
+}
+
+/// A text that is evaluated again and again. Unless it is long its commands are read once. A contract
+/// sees the text.
+#[derive(Drop)]
+pub struct Body {
+    text: Bytes,
+    commands: Option<Arc<Seq<Command>>>,
+}
+
+impl Model for Body {
+    ghost use Rattle.std.specs.Prelude.{ℕ, List};
+    ghost use Rattle.dg_machine.specs.Source.{IsRead};
+
+    ghost Value = { List ℕ };
+
+    ghost view = { λ b. b.text };
+
+    ghost invariant = { λ b. IsRead b.text b.commands };
+}
+
+impl Body {
+    /// A text. `AllocError` if there is no room for it, or for its commands.
+    pub fn new(alloc: Global, text: &Bytes) -> Result<Body, AllocError>
+        ensures { IfOk result (λ b. b ≡ text.now) }
+    {
+        let text = text.copy(alloc)?;
+        if text.len() > KEPT {
+            return Ok(Body {
+                text,
+                commands: None,
+            });
+        }
+        let commands = Arc::new(alloc, commands_of(alloc, text.as_slice())?)?;
+        Ok(Body {
+            text,
+            commands: Some(commands),
+        })
+    }
+
+    /// All commands of the text.
+    pub fn script(&self, alloc: Global) -> Result<Script, AllocError>
+        ensures { IfOk result (λ s. s ≡ commands_at self.now 0) }
+    {
+        match &self.commands {
+            Some(commands) => Ok(Script {
+                source: Source::Kept(Arc::try_clone(commands)?),
+                at: 0,
+            }),
+            None => Ok(Script::new(self.text.copy(alloc)?)),
         }
     }
 }

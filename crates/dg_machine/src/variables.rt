@@ -1,14 +1,16 @@
-//! What the commands on variables are made of.
-ghost use Rattle.std.specs.Prelude.{◌≡◌, ◌+◌, ◌*◌, ◌^◌, ◌<◌, ◌∷◌, ◌++◌, [], IfOk, OnOk, length};
+//! The commands on variables.
+ghost use Rattle.std.specs.Prelude.{◌≡◌, ◌+◌, ◌*◌, ◌^◌, ◌<◌, ◌∷◌, ◌++◌, [], IfOk, OnOk, length, is_some};
 ghost use Rattle.std.specs.List.{concat};
 ghost use Rattle.std.specs.Option.{option_copied};
-ghost use Rattle.dg_language.specs.Variables.{digit, append_elements, or_empty, unset_names};
+ghost use Rattle.dg_scope.specs.Scopes.{value_of};
+ghost use Rattle.dg_language.specs.Variables.{digit, append_elements, add_number, or_empty, or_zero, store, touch, unset_all, unset_names, unset_one, do_append, do_global, do_incr, do_info, do_lappend, do_set, do_unset, do_variable};
 ghost use Rattle.dg_machine.specs.declared.frame.Control.{Control};
-ghost use Rattle.dg_machine.specs.Meaning.{all_back, weight_of, Goes};
+ghost use Rattle.dg_machine.specs.Meaning.{all_back, weight_of, Comes, Goes, RunsAs};
 
-use crate::frame::Pace;
-use crate::machine::Machine;
-use dg_language::{elements_in, text_of};
+use crate::frame::{Frame, Pace};
+use crate::machine::{Machine, only, split};
+use dg_commands::{addend, cannot_unset, elements_in, increased, text_of};
+use dg_language::{Code, Queue, VariableCommand};
 use dg_words::{Bytes, Seq, TryCopy};
 use std::alloc::{AllocError, Global};
 
@@ -19,6 +21,16 @@ fn or_empty(alloc: Global, value: Option<&[u8]>) -> Result<Bytes, AllocError>
     match value {
         Some(value) => Ok(Bytes::from_slice(alloc, value)?),
         None => Ok(Bytes::new(alloc)),
+    }
+}
+
+/// A value, or the text `0` in the place of none.
+fn or_zero(alloc: Global, value: Option<&[u8]>) -> Result<Bytes, AllocError>
+    ensures { IfOk result (λ b. b ≡ or_zero (option_copied value.entry)) }
+{
+    match value {
+        Some(value) => Ok(Bytes::from_slice(alloc, value)?),
+        None => Ok(Bytes::from_slice(alloc, b"0")?),
     }
 }
 
@@ -75,10 +87,260 @@ impl Machine {
         let pace = self.store(alloc, name, text)?;
         Ok(pace)
     }
+
+    /// A number more, as the value of a variable that can be used.
+    #[tactic(auto, unfolding(dg_language::specs::Variables::add_number))]
+    fn add_number(&mut self, alloc: Global, name: &[u8], by: &[u8]) -> Result<Pace, AllocError>
+        requires { self.old.control ≡ Control.Go }
+        ensures { IfOk result (λ p. Goes (add_number name.now by.now self.old.state (all_back self.old.stack)) self.old.state.known (weight_of self.old + 2) self.new p) }
+    {
+        let old = or_zero(alloc, self.state.value_of(name))?;
+        match increased(alloc, old.as_slice(), by)? {
+            Ok(sum) => {
+                let pace = self.store(alloc, name, sum)?;
+                Ok(pace)
+            }
+            Err(message) => {
+                let pace = self.fail(alloc, message)?;
+                Ok(pace)
+            }
+        }
+    }
+
+    /// A variable gets a value.
+    fn write(&mut self, alloc: Global, name: &[u8], value: &Bytes) -> Result<Pace, AllocError>
+        requires { self.old.control ≡ Control.Go }
+        ensures { IfOk result (RunsAs (λ s k. touch name.now s (λ t. store name.now value.now t k)) self.old self.new) }
+    {
+        if let Some(pace) = self.ready(alloc, name)? {
+            return Ok(pace);
+        }
+        let value = value.copy(alloc)?;
+        let pace = self.store(alloc, name, value)?;
+        Ok(pace)
+    }
+
+    /// `set name` and `set name value`.
+    #[tactic(auto, unfolding(dg_language::specs::Variables::do_set))]
+    fn set(&mut self, alloc: Global, args: &[Bytes]) -> Result<Pace, AllocError>
+        requires { self.old.control ≡ Control.Go }
+        ensures { IfOk result (RunsAs (do_set args.now) self.old self.new) }
+    {
+        let Some((name, others)) = split(args) else {
+            let pace = self.wrong_count(alloc, b"set")?;
+            return Ok(pace);
+        };
+        if others.is_empty() {
+            let pace = self.read(alloc, name.as_slice())?;
+            return Ok(pace);
+        }
+        let Some(value) = only(others) else {
+            let pace = self.wrong_count(alloc, b"set")?;
+            return Ok(pace);
+        };
+        let pace = self.write(alloc, name.as_slice(), value)?;
+        Ok(pace)
+    }
+
+    /// `append name value..`.
+    #[tactic(auto, unfolding(dg_language::specs::Variables::do_append))]
+    fn append(&mut self, alloc: Global, args: &[Bytes]) -> Result<Pace, AllocError>
+        requires { self.old.control ≡ Control.Go }
+        ensures { IfOk result (RunsAs (do_append args.now) self.old self.new) }
+    {
+        let Some((name, values)) = split(args) else {
+            let pace = self.wrong_count(alloc, b"append")?;
+            return Ok(pace);
+        };
+        if let Some(pace) = self.ready(alloc, name.as_slice())? {
+            return Ok(pace);
+        }
+        let mut text = or_empty(alloc, self.state.value_of(name.as_slice()))?;
+        extend_all(&mut text, values)?;
+        let pace = self.store(alloc, name.as_slice(), text)?;
+        Ok(pace)
+    }
+
+    /// `lappend name value..`.
+    #[tactic(auto, unfolding(dg_language::specs::Variables::do_lappend))]
+    fn lappend(&mut self, alloc: Global, args: &[Bytes]) -> Result<Pace, AllocError>
+        requires { self.old.control ≡ Control.Go }
+        ensures { IfOk result (RunsAs (do_lappend args.now) self.old self.new) }
+    {
+        let Some((name, values)) = split(args) else {
+            let pace = self.wrong_count(alloc, b"lappend")?;
+            return Ok(pace);
+        };
+        if let Some(pace) = self.ready(alloc, name.as_slice())? {
+            return Ok(pace);
+        }
+        let old = or_empty(alloc, self.state.value_of(name.as_slice()))?;
+        let pace = self.append_elements(alloc, name.as_slice(), old, values)?;
+        Ok(pace)
+    }
+
+    /// `incr name` and `incr name number`.
+    #[tactic(auto, unfolding(dg_language::specs::Variables::do_incr))]
+    fn incr(&mut self, alloc: Global, args: &[Bytes]) -> Result<Pace, AllocError>
+        requires { self.old.control ≡ Control.Go }
+        ensures { IfOk result (RunsAs (do_incr args.now) self.old self.new) }
+    {
+        let Some((name, others)) = split(args) else {
+            let pace = self.wrong_count(alloc, b"incr")?;
+            return Ok(pace);
+        };
+        let Some(by) = addend(others) else {
+            let pace = self.wrong_count(alloc, b"incr")?;
+            return Ok(pace);
+        };
+        if let Some(pace) = self.ready(alloc, name.as_slice())? {
+            return Ok(pace);
+        }
+        let pace = self.add_number(alloc, name.as_slice(), by)?;
+        Ok(pace)
+    }
+
+    /// Whether a variable is set.
+    #[tactic(auto, unfolding(crate::specs::Meaning::rest, crate::specs::Meaning::weight))]
+    fn exists(&mut self, alloc: Global, name: &[u8]) -> Result<Pace, AllocError>
+        requires { self.old.control ≡ Control.Go }
+        ensures { IfOk result (RunsAs (λ s k. touch name.now s (λ t. k Code.Done (digit (is_some (value_of t.variables name.now))) t)) self.old self.new) }
+    {
+        if let Some(pace) = self.ready(alloc, name)? {
+            return Ok(pace);
+        }
+        let digit = Bytes::from_slice(alloc, digit(self.state.is_set(name)))?;
+        self.end(Code::Done, digit);
+        Ok(Pace::Moved)
+    }
+
+    /// `info exists name`.
+    #[tactic(auto, unfolding(dg_language::specs::Variables::do_info))]
+    fn info(&mut self, alloc: Global, args: &[Bytes]) -> Result<Pace, AllocError>
+        requires { self.old.control ≡ Control.Go }
+        ensures { IfOk result (RunsAs (do_info args.now) self.old self.new) }
+    {
+        let Some((subcommand, others)) = split(args) else {
+            let pace = self.wrong_count(alloc, b"info")?;
+            return Ok(pace);
+        };
+        if subcommand.as_slice() != b"exists".as_slice() {
+            let message = Bytes::from_slice(alloc, b"unknown subcommand")?;
+            let pace = self.fail(alloc, message)?;
+            return Ok(pace);
+        }
+        let Some(name) = only(others) else {
+            let pace = self.wrong_count(alloc, b"info")?;
+            return Ok(pace);
+        };
+        let pace = self.exists(alloc, name.as_slice())?;
+        Ok(pace)
+    }
+
+    /// `global name..`.
+    #[tactic(auto, unfolding(dg_language::specs::Variables::do_global, crate::specs::Meaning::rest, crate::specs::Meaning::weight))]
+    fn global(&mut self, alloc: Global, args: &[Bytes]) -> Result<Pace, AllocError>
+        requires { self.old.control ≡ Control.Go }
+        ensures { IfOk result (λ p. Goes (do_global args.now self.old.state (all_back self.old.stack)) self.old.state.known (weight_of self.old + 2) self.new p) }
+    {
+        self.state.link_all(alloc, args)?;
+        self.end(Code::Done, Bytes::new(alloc));
+        Ok(Pace::Moved)
+    }
+
+    /// `unset name..` and `unset -nocomplain name..`.
+    #[tactic(auto, unfolding(dg_language::specs::Variables::do_unset, crate::specs::Meaning::rest, crate::specs::Meaning::go, crate::specs::Meaning::weight, crate::specs::Meaning::stack_weight))]
+    fn unset(&mut self, alloc: Global, args: &[Bytes]) -> Result<Pace, AllocError>
+        requires { self.old.control ≡ Control.Go }
+        ensures { IfOk result (λ p. Goes (do_unset args.now self.old.state (all_back self.old.stack)) self.old.state.known (weight_of self.old + 9 + 4 * length args.now) self.new p) }
+    {
+        let (complains, names) = unset_names(args);
+        let mut copies = Seq::new(alloc);
+        push_all(alloc, &mut copies, names)?;
+        self.stack.push(Frame::Unsetting {
+            complains,
+            names: Queue::new(copies.into_vec()),
+        })?;
+        Ok(Pace::Moved)
+    }
+
+    /// A variable that can be used is unset, and the names that are left follow.
+    #[tactic(auto, unfolding(crate::specs::Meaning::rest, crate::specs::Meaning::go, crate::specs::Meaning::weight, crate::specs::Meaning::stack_weight))]
+    fn unset_one(
+        &mut self,
+        alloc: Global,
+        complains: bool,
+        name: &[u8],
+        names: Queue<Bytes>,
+    ) -> Result<Pace, AllocError>
+        requires { self.old.control ≡ Control.Go }
+        ensures { IfOk result (λ p. Goes (unset_one complains (is_some (value_of self.old.state.variables name.now)) name.now self.old.state (λ t. unset_all complains names t (all_back self.old.stack)) (all_back self.old.stack)) self.old.state.known (weight_of self.old + 6 + 4 * length names) self.new p) }
+    {
+        let was_set = self.state.unassign(name);
+        if complains && !was_set {
+            let message = cannot_unset(alloc, name)?;
+            let pace = self.fail(alloc, message)?;
+            return Ok(pace);
+        }
+        self.stack.push(Frame::Unsetting { complains, names })?;
+        Ok(Pace::Moved)
+    }
+
+    /// The next name is unset, or all are.
+    #[tactic(auto, unfolding(crate::specs::Meaning::rest, crate::specs::Meaning::go, crate::specs::Meaning::weight))]
+    pub(crate) fn unset_next(
+        &mut self,
+        alloc: Global,
+        complains: bool,
+        mut names: Queue<Bytes>,
+    ) -> Result<Pace, AllocError>
+        requires { self.old.control ≡ Control.Go }
+        ensures { IfOk result (λ p. Comes (unset_all complains names self.old.state (all_back self.old.stack)) self.old.state.known (weight_of self.old + 5 + 4 * length names) self.new p) }
+    {
+        let Some(name) = names.next() else {
+            self.end(Code::Done, Bytes::new(alloc));
+            return Ok(Pace::Moved);
+        };
+        match self.ready(alloc, name.as_slice())? {
+            Some(Pace::Stands(question)) => {
+                names.push_front(name)?;
+                self.stack.push(Frame::Unsetting { complains, names })?;
+                Ok(Pace::Stands(question))
+            }
+            Some(Pace::Over(verdict)) => Ok(Pace::Over(verdict)),
+            Some(Pace::Moved) => Ok(Pace::Moved),
+            None => {
+                let pace = self.unset_one(alloc, complains, name.as_slice(), names)?;
+                Ok(pace)
+            }
+        }
+    }
+
+    /// A command on variables.
+    pub(crate) fn variable(
+        &mut self,
+        alloc: Global,
+        which: VariableCommand,
+        args: &[Bytes],
+    ) -> Result<Pace, AllocError>
+        requires { self.old.control ≡ Control.Go }
+        ensures { IfOk result (RunsAs (do_variable which args.now) self.old self.new) }
+    {
+        let _count = args.len();
+        match which {
+            VariableCommand::Set => Ok(self.set(alloc, args)?),
+            VariableCommand::Append => Ok(self.append(alloc, args)?),
+            VariableCommand::ListAppend => Ok(self.lappend(alloc, args)?),
+            VariableCommand::Increase => Ok(self.incr(alloc, args)?),
+            VariableCommand::Unset => Ok(self.unset(alloc, args)?),
+            VariableCommand::Info => Ok(self.info(alloc, args)?),
+            VariableCommand::Global => Ok(self.global(alloc, args)?),
+        }
+    }
 }
 
 /// `1` or `0`.
-fn digit(holds: bool) -> &'static [u8]
+pub(crate) fn digit(holds: bool) -> &'static [u8]
     ensures { result.now ≡ digit holds }
 {
     if holds { b"1" } else { b"0" }

@@ -1,4 +1,4 @@
-use Rattle.dg_records.proofs.Sources.{run_more}
+use Rattle.dg_language.proofs.Sources.{run_more}
 use Rattle.dg_language.specs.Language.{evaluate}
 use Rattle.dg_language.proofs.law.more_answers_keep_the_end.Goals as goal
 

@@ -6,4 +6,4 @@ use Rattle.dg_language.proofs.state.State.enter.Goals as goal
 pub loop-name-preserved : goal.loop-name-preserved
 loop-name-preserved c =
     let i = c.loop-name.invariant in
-    (rw (c.in_ok-write.ensures, c.as_slice.ensures) (sym (bound-last c.pop.new.self.items c.in-Some.field-0 c.loop-name.self-inside.variables) ∙ ap (λ xs. bound xs c.loop-name.self-inside.variables) (sym c.in-Some.ensures.items) ∙ i.0), i.1, i.2, i.3, i.4, i.5, i.6)
+    (rw (c.in_ok-write.ensures, c.as_slice.ensures) (sym (bound-last c.pop.new.self.items c.in-Some.field-0 c.loop-name.self-inside.variables) ∙ ap (λ xs. bound xs c.loop-name.self-inside.variables) (sym c.in-Some.ensures.items) ∙ i.0), i.1, i.2, i.3, i.4, i.5, i.6, i.7, i.8, i.9, i.10)

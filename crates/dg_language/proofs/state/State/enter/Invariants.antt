@@ -6,7 +6,9 @@ use Rattle.dg_language.proofs.state.State.enter.Given as goal
 abbrev pub invariant-loop-name : goal.invariant-loop-name
 invariant-loop-name l =
     (bound l.left.items l.self-inside.variables ≡ bound l.fn.bindings (with_scope l.fn.self.variables))
-    × (l.self-inside.test ≡ l.fn.self.test) × (l.self-inside.calls ≡ l.fn.self.calls) × (l.self-inside.steps ≡ l.fn.self.steps)
+    × (l.self-inside.test ≡ l.fn.self.test) × (l.self-inside.calls ≡ l.fn.self.calls) × (l.self-inside.on_board ≡ l.fn.self.on_board)
+    × (l.self-inside.earlier ≡ l.fn.self.earlier) × (l.self-inside.steps ≡ l.fn.self.steps)
+    × (l.self-inside.libraries ≡ l.fn.self.libraries) × (l.self-inside.board ≡ l.fn.self.settings)
     × (l.self-inside.known ≡ l.fn.self.known) × (l.self-inside.begun ≡ l.fn.self.begun) × (l.self-inside.procedures ≡ l.fn.self.procedures)
 
 abbrev pub decreases-loop-name : goal.decreases-loop-name

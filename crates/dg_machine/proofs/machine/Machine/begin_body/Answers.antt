@@ -6,5 +6,5 @@ use Rattle.dg_machine.proofs.machine.Machine.begin_body.Goals as goal
 pub returns : goal.returns
 unfolding all_back back
 returns c =
-    let went = rw (c.in_ok-push.ensures, c.in_ok-body.ensures, c.requires) at c.in_ok-pace.ensures in
+    let went = rw (c.in_ok-push.ensures, c.requires) at (c.in_ok-pace.ensures c.args.rounds.body c.in_ok-commands.ensures) in
     rw c.requires (Goes-along _ _ _ _ _ _ _ _ went refl refl (rw weight-cons (omega arith)))

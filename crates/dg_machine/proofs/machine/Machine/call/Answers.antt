@@ -1,7 +1,7 @@
 use Rattle.std.proofs.Common.{◌∙◌, refl, sym, arith}
 use Rattle.dg_machine.specs.Meaning.{back, all_back}
 use Rattle.dg_machine.proofs.MachineLemmas.{Goes-along}
-use Rattle.dg_language.proofs.ProcedureLemmas.{within-true, within-false}
+use Rattle.dg_commands.proofs.ProcedureLemmas.{within-true, within-false}
 use Rattle.dg_machine.proofs.ProcedureLemmas.{known-entered, weight-entered}
 use Rattle.dg_machine.proofs.machine.Machine.call.Goals as goal
 

@@ -8,11 +8,11 @@ unfolding rest go
 returns-in_default c =
     let same = c.in_default.ensures.1 ∙ sym c.in_default.ensures.0 in
     rw (c.in_ok-push.ensures, same, c.requires)
-    (sym (index-none _ _ _ _ _ _ _ c.in_default.ensures.0), refl, (rw weight-gathering (omega arith)))
+    (sym (index-none _ _ _ _ _ _ _ _ c.in_default.ensures.0), refl, (rw weight-gathering (omega arith)))
 
 pub returns : goal.returns
 returns c =
     let m = c.args.making in
     Comes-along _ _ _ _ _ _ _ c.in_ok-pace.ensures
-    (index-ends c.args.depth m.made m.outer m.text m.left c.args.self.now.state (all_back c.args.self.now.stack) c.in-Some.name c.in-Some.before c.pop.new.self c.in-Some.ensures)
+    (index-ends c.args.depth _ m.made m.outer m.text m.left c.args.self.now.state (all_back c.args.self.now.stack) c.in-Some.name c.in-Some.before c.pop.new.self c.in-Some.ensures)
     (omega arith)

@@ -1,8 +1,8 @@
 use Rattle.std.proofs.Common.{◌≡◌, ◌≤◌, ◌<◌, ◌⊎◌, inl, inr, ◌∙◌, refl, sym, length, arith}
 use Rattle.dg_machine.specs.Meaning.{go, rest, weight}
-use Rattle.dg_machine.proofs.MachineLemmas.{known-stepped}
+use Rattle.dg_machine.proofs.MachineLemmas.{known-stepped, no-step, step-left}
 use Rattle.dg_machine.proofs.LoopLemmas.{each-done, each-cut, each-next, weight-frame}
-use Rattle.dg_machine.proofs.machine.Machine.next_round.Goals.{then-rounds-eq0-via-then-rounds-eq0, then-rounds-eq0-via-else-rounds-eq0+then-steps-ge-STEPS}
+use Rattle.dg_machine.proofs.machine.Machine.next_round.Goals.{then-rounds-eq0-via-then-rounds-eq0, then-rounds-eq0-via-else-rounds-eq0+then-not-has_step}
 use Rattle.dg_machine.proofs.machine.Machine.next_round.Goals as goal
 
 pub returns-then-len-eq0 : goal.returns-then-len-eq0
@@ -17,7 +17,7 @@ returns-then-rounds-eq0 c =
     let h : (c.args.rounds.left ≡ 0) ⊎ (100000 ≤ c.args.self.now.state.steps) =
     elim c.then-rounds-eq0.branch [
       | then-rounds-eq0-via-then-rounds-eq0 w ↦ inl w.if-rounds-eq0.true
-      | then-rounds-eq0-via-else-rounds-eq0+then-steps-ge-STEPS w ↦ inr (rw w.steps.ensures at w.if-steps-ge-STEPS.true)
+      | then-rounds-eq0-via-else-rounds-eq0+then-not-has_step w ↦ inr (no-step c.args.self.now.state _ w.has_step.ensures w.if-not-has_step.true)
     ] in
     rw c.cut.ensures.same (each-cut _ _ _ _ _ _ _ some h ∙ c.in_ok-verdict.ensures.ends, refl)
 
@@ -25,6 +25,6 @@ pub returns : goal.returns
 unfolding rest go
 returns c =
     let some : 0 < length c.args.rounds.values = omega (arith, c.len.ensures, c.if-len-eq0.false) in
-    let h = rw c.steps.ensures at c.if-steps-ge-STEPS.false in
+    let h = step-left c.args.self.now.state _ c.has_step.ensures c.if-not-has_step.false in
     rw (c.in_ok-push.ensures, c.take_step.ensures, c.requires)
     (each-next _ _ _ _ _ _ _ some c.if-rounds-eq0.false h, known-stepped _, weight-frame _ _ _ h (rw (← c.len-count.ensures) (omega arith)))

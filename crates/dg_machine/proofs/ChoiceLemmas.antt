@@ -1,0 +1,56 @@
+-- The clauses of `if`, and the tests of loops.
+use Rattle.std.proofs.Common.{◌≡◌, ◌≢◌, ℕ, suc, zero, ◌+◌, ◌-◌, ◌^◌, ◌<◌, ◌≤◌, ◌⊎◌, inl, inr, true, false, List, [], ◌∷◌, refl, arith}
+use Rattle.std.specs.Prelude.{Option, codes}
+use Rattle.dg_language.specs.declared.clause.Clause.{Clause}
+use Rattle.dg_language.specs.State.{State, stepped}
+use Rattle.dg_language.specs.Evaluation.{Then, Nested, cut}
+use Rattle.dg_language.specs.Expressions.{calculate, condition, decided}
+use Rattle.dg_language.specs.Choosing.{body_if, choose, do_otherwise, repeat}
+use Rattle.dg_machine.specs.declared.frame.Control.TheVariants.{Go}
+use Rattle.dg_machine.specs.declared.frame.Frame.{Frame}
+use Rattle.dg_machine.specs.Meaning.{frame_weight, stack_weight, weight}
+use Rattle.dg_machine.proofs.MachineLemmas.{tick-step, tick-none}
+
+-- no clause is left, and one is
+module _ (nested : Nested) (left : List Clause) (otherwise : Option (List ℕ)) (s : State) (k : Then) where
+  pub choose-none : left ≡ [] → choose nested left otherwise s k ≡ do_otherwise nested otherwise s k
+  unfolding choose
+  choose-none e = rw e refl
+
+  pub choose-next : (c : Clause) (cs : List Clause) → left ≡ c ∷ cs
+      → choose nested left otherwise s k
+      ≡ calculate nested c.condition s (decided (λ holds t. elim holds [ true ↦ nested c.body t k | false ↦ choose nested cs otherwise t k ]) k)
+  unfolding choose condition
+  choose-next c cs e = rw e refl
+
+module _ (nested : Nested) (test : List ℕ) (next : Option (List ℕ)) (body : List ℕ) (s : State) (k : Then) where
+  repeat-late : (left : ℕ) → 100000 ≤ s.steps → repeat nested left test next body s k ≡ cut (codes "step limit reached") s
+  unfolding repeat
+  repeat-late zero l = refl
+  repeat-late (suc r) l =
+      tick-none s (λ t. condition nested test t (λ holds u. body_if holds nested body next (λ w. repeat nested r test next body w k) u k) k) l
+
+  repeat-zero : repeat nested 0 test next body s k ≡ cut (codes "step limit reached") s
+  unfolding repeat
+  repeat-zero = refl
+
+  -- no test is left, or no step
+  pub repeat-cut : (left : ℕ) → (left ≡ 0) ⊎ (100000 ≤ s.steps) → repeat nested left test next body s k ≡ cut (codes "step limit reached") s
+  repeat-cut left (inl e) = rw e repeat-zero
+  repeat-cut left (inr l) = repeat-late left l
+
+  -- a test begins
+  pub repeat-next : (left : ℕ) → left ≢ 0 → s.steps < 100000
+      → repeat nested left test next body s k
+      ≡ calculate nested test (stepped s) (decided (λ holds u. body_if holds nested body next (λ w. repeat nested (left - 1) test next body w k) u k) k)
+  unfolding repeat condition
+  repeat-next zero n l = absurd (n refl)
+  repeat-next (suc r) n l =
+      let e : suc r - 1 ≡ r = omega arith in
+      rw e (tick-step s (λ t. condition nested test t (λ holds u. body_if holds nested body next (λ w. repeat nested r test next body w k) u k) k) l)
+
+-- a step that is taken pays for a test
+pub weight-tested : (s : State) (f : Frame) (fs : List Frame) → s.steps < 100000 → frame_weight f ≤ 2 ^ 68
+    → weight Go (stepped s) (f ∷ fs) + 2 ^ 139 ≤ weight Go s fs + 5
+unfolding weight stack_weight stepped
+weight-tested s f fs h g = omega arith

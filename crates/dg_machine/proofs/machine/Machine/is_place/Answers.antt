@@ -1,0 +1,19 @@
+use Rattle.std.proofs.Common.{refl, sym, arith}
+use Rattle.dg_language.specs.Boards.{do_is}
+use Rattle.dg_machine.specs.Meaning.{all_back}
+use Rattle.dg_machine.proofs.StepLemmas.{Goes-runs}
+use Rattle.dg_machine.proofs.BoardLemmas.{told_place, is-of, stands-at, goes-with}
+use Rattle.dg_machine.proofs.machine.Machine.is_place.Goals as goal
+
+pub returns-in_default-answer_to : goal.returns-in_default-answer_to
+returns-in_default-answer_to c =
+    let none = sym c.in_default-answer_to.ensures in
+    (stands-at _ (told_place c.in-Some.pattern.now) (do_is c.args.place c.args.name.now c.args.args.now) (is-of _ _ _ _ c.in-Some.ensures) _ _ none, refl, none)
+
+pub returns : goal.returns
+returns c =
+    let went = rw (c.in_ok-value.ensures, c.digit.ensures, c.glob_matches-holds.ensures, c.as_slice.ensures, c.triplet_of.ensures) at c.go_up.ensures in
+    let f = do_is c.args.place c.args.name.now c.args.args.now in
+    Goes-runs _ _ _ (λ s. f s (all_back c.args.self.now.stack)) _ _ _ _ went
+    (goes-with _ (told_place c.in-Some.pattern.now) f (is-of _ _ _ _ c.in-Some.ensures) c.args.self.now.state (all_back c.args.self.now.stack) _ (sym c.in-Some-answer_to.ensures))
+    refl (omega arith)

@@ -1,0 +1,9 @@
+use Rattle.std.proofs.Common.{◌∙◌, sym, ap}
+use Rattle.dg_language.specs.Language.{builtin_of, usable}
+use Rattle.dg_machine.proofs.StepLemmas.{by-table-as}
+use Rattle.dg_machine.proofs.machine.Machine.known_command.Goals as goal
+
+pub returns-in_ok-builtin-in-Some : goal.returns-in_ok-builtin-in-Some
+returns-in_ok-builtin-in-Some c =
+    let found = sym c.in-Some.is ∙ c.find_builtin.ensures ∙ ap (λ b. usable b (builtin_of c.args.name.now)) c.is_on_board.ensures in
+    by-table-as _ _ _ _ _ _ _ found c.in_ok-builtin-in-Some.ensures

@@ -1,0 +1,11 @@
+-- What an evaluation comes to by itself.
+use Rattle.std.specs.Prelude.{◌≡◌}
+use Rattle.dg_machine.specs.Evaluating.{EvaluationView, NeedsNext, HasEnded}
+use Rattle.dg_machine.specs.declared.evaluation.Arrival.{Arrival}
+use Rattle.dg_machine.specs.declared.evaluation.Arrival.TheVariants.{AtQuestion, AtEnd}
+
+-- to the question that the judging needs next, which then stands; or to its end, with just the answers so far as the reads
+abbrev pub Arrives : EvaluationView → Arrival → Type 0
+Arrives old (AtQuestion a) = NeedsNext old.test old.reads a.question × (a.test ≡ old.test) × (a.reads ≡ old.reads)
+Arrives old (AtEnd e) =
+    HasEnded old.test old.reads (record { verdict = e.verdict; steps = e.steps }) × (e.test ≡ old.test) × (e.reads ≡ old.reads)

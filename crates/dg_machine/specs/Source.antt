@@ -1,0 +1,23 @@
+-- The commands that are left of a script, and those that were read of a text.
+use Rattle.std.specs.Prelude.{◌≡◌, ℕ, ◌≤◌, List, drop, length, Option, Some, None}
+use Rattle.std.specs.Arc.{arc_value}
+use Rattle.std.specs.declared.sync.Arc.{Arc}
+use Rattle.std.specs.declared.alloc.Global.{Global}
+use Rattle.dg_language.specs.declared.command.Command.{Command}
+use Rattle.dg_language.specs.Language.{commands_at}
+use Rattle.dg_machine.specs.declared.script.Source.{Source}
+use Rattle.dg_machine.specs.declared.script.Source.TheVariants.{Text, Kept}
+
+-- the commands from a place on
+abbrev pub left_of : Source → ℕ → List Command
+left_of (Text text) at = commands_at text at
+left_of (Kept commands) at = drop at (arc_value commands)
+
+abbrev pub IsPlace : Source → ℕ → Type 0
+IsPlace (Text text) at = at ≤ length text
+IsPlace (Kept commands) at = Unit {0}
+
+-- the commands that are kept of a text, if any are
+abbrev pub IsRead : List ℕ → Option (Arc (List Command) Global) → Type 0
+IsRead text None = Unit {0}
+IsRead text (Some commands) = arc_value commands ≡ commands_at text 0

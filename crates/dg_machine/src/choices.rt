@@ -1,0 +1,171 @@
+//! The commands `if`, `switch` and `eval`, and the way to all that compute, choose or repeat.
+ghost use Rattle.std.specs.Prelude.{◌≡◌, ◌+◌, ◌*◌, ◌^◌, ◌<◌, ◌∷◌, [], IfOk, length};
+ghost use Rattle.dg_language.specs.Choosing.{choose, do_if, do_otherwise};
+ghost use Rattle.dg_language.specs.Switching.{do_choice, do_eval, do_switch, evaluated};
+ghost use Rattle.dg_language.specs.Language.{evaluate};
+ghost use Rattle.dg_machine.specs.declared.frame.Control.{Control};
+ghost use Rattle.dg_machine.specs.Choosing.{choosing};
+ghost use Rattle.dg_machine.specs.Meaning.{all_back, weight_of, Goes};
+
+use crate::frame::{Choice, Frame, Pace};
+use crate::machine::{Machine, split};
+use dg_commands::{clauses_of, concatenated, switched, truth_in};
+use dg_language::{ChoiceCommand, Clause, Clauses, Code, Queue};
+use dg_words::Bytes;
+use std::alloc::{AllocError, Global};
+
+impl Machine {
+    /// The last body of an `if` runs, if it has one.
+    #[tactic(auto, unfolding(crate::specs::Meaning::rest, crate::specs::Meaning::weight))]
+    fn otherwise(
+        &mut self,
+        alloc: Global,
+        otherwise: Option<Bytes>,
+        depth: u32,
+    ) -> Result<Pace, AllocError>
+        requires { self.old.control ≡ Control.Go }
+        ensures { IfOk result (λ p. Goes (do_otherwise (evaluate depth) otherwise self.old.state (all_back self.old.stack)) self.old.state.known (weight_of self.old + 4) self.new p) }
+    {
+        match otherwise {
+            None => {
+                self.end(Code::Done, Bytes::new(alloc));
+                Ok(Pace::Moved)
+            }
+            Some(body) => Ok(self.enter(alloc, body, depth)?),
+        }
+    }
+
+    /// The condition of the next clause begins to be computed, or the last body runs.
+    #[tactic(auto, unfolding(crate::specs::Meaning::back, crate::specs::Meaning::all_back, crate::specs::Meaning::weight, crate::specs::Meaning::stack_weight))]
+    fn choose(
+        &mut self,
+        alloc: Global,
+        mut left: Queue<Clause>,
+        otherwise: Option<Bytes>,
+        depth: u32,
+    ) -> Result<Pace, AllocError>
+        requires { self.old.control ≡ Control.Go }
+        ensures { IfOk result (λ p. Goes (choose (evaluate depth) left otherwise self.old.state (all_back self.old.stack)) self.old.state.known (weight_of self.old + 2 ^ 140 + 2 ^ 140 * length left) self.new p) }
+    {
+        let Some(clause) = left.next() else {
+            return Ok(self.otherwise(alloc, otherwise, depth)?);
+        };
+        let Clause { condition, body } = clause;
+        let choice = Choice {
+            body,
+            left,
+            otherwise,
+            depth,
+        };
+        self.stack.push(Frame::Choosing { choice })?;
+        Ok(self.calculate(alloc, condition.as_slice(), depth)?)
+    }
+
+    /// An `if` goes on, once the value of a condition is there.
+    fn decide(&mut self, alloc: Global, choice: Choice, value: Bytes) -> Result<Pace, AllocError>
+        requires { self.old.control ≡ Control.Go }
+        ensures { IfOk result (λ p. Goes (choosing choice (all_back self.old.stack) Code.Done value self.old.state) self.old.state.known (weight_of self.old + 2 ^ 140 + 2 ^ 140 * length choice.left) self.new p) }
+    {
+        match truth_in(alloc, value.as_slice())? {
+            Ok(true) => Ok(self.enter(alloc, choice.body, choice.depth)?),
+            Ok(false) => Ok(self.choose(alloc, choice.left, choice.otherwise, choice.depth)?),
+            Err(message) => Ok(self.fail(alloc, message)?),
+        }
+    }
+
+    /// A condition of `if` has ended.
+    pub(crate) fn after_condition(
+        &mut self,
+        alloc: Global,
+        choice: Choice,
+        code: Code,
+        value: Bytes,
+    ) -> Result<Pace, AllocError>
+        requires { self.old.control ≡ Control.Go }
+        ensures { IfOk result (λ p. Goes (choosing choice (all_back self.old.stack) code value self.old.state) self.old.state.known (weight_of self.old + 2 ^ 140 + 2 ^ 140 * length choice.left) self.new p) }
+    {
+        match code {
+            Code::Done => Ok(self.decide(alloc, choice, value)?),
+            Code::Failed | Code::Returned | Code::Broken | Code::Continued => {
+                Ok(self.go_up(code, value))
+            }
+        }
+    }
+
+    /// `if`.
+    #[tactic(auto, unfolding(dg_language::specs::Choosing::do_if))]
+    fn branch(&mut self, alloc: Global, args: &[Bytes], depth: u32) -> Result<Pace, AllocError>
+        requires { self.old.control ≡ Control.Go }
+        ensures { IfOk result (λ p. Goes (do_if (evaluate depth) args.now self.old.state (all_back self.old.stack)) self.old.state.known (weight_of self.old + 2 ^ 249) self.new p) }
+    {
+        let Some(clauses) = clauses_of(alloc, args)? else {
+            return Ok(self.wrong_count(alloc, b"if")?);
+        };
+        let Clauses { tested, otherwise } = clauses;
+        let _count = tested.len();
+        Ok(self.choose(alloc, tested, otherwise, depth)?)
+    }
+
+    /// `switch`: the body that it takes runs.
+    #[tactic(auto, unfolding(dg_language::specs::Switching::do_switch))]
+    fn switch(&mut self, alloc: Global, args: &[Bytes], depth: u32) -> Result<Pace, AllocError>
+        requires { self.old.control ≡ Control.Go }
+        ensures { IfOk result (λ p. Goes (do_switch (evaluate depth) args.now self.old.state (all_back self.old.stack)) self.old.state.known (weight_of self.old + 4) self.new p) }
+    {
+        match switched(alloc, args)? {
+            Ok(body) => Ok(self.otherwise(alloc, body, depth)?),
+            Err(message) => Ok(self.fail(alloc, message)?),
+        }
+    }
+
+    /// A text runs, if it was not too long.
+    fn evaluate(
+        &mut self,
+        alloc: Global,
+        text: Option<Bytes>,
+        depth: u32,
+    ) -> Result<Pace, AllocError>
+        requires { self.old.control ≡ Control.Go }
+        ensures { IfOk result (λ p. Goes (evaluated (evaluate depth) text self.old.state (all_back self.old.stack)) self.old.state.known (weight_of self.old + 4) self.new p) }
+    {
+        let Some(text) = text else {
+            let verdict = self.cut(alloc, b"value too long")?;
+            return Ok(Pace::Over(verdict));
+        };
+        Ok(self.enter(alloc, text, depth)?)
+    }
+
+    /// `eval`: what `concat` makes of the words runs.
+    #[tactic(auto, unfolding(dg_language::specs::Switching::do_eval))]
+    fn eval(&mut self, alloc: Global, args: &[Bytes], depth: u32) -> Result<Pace, AllocError>
+        requires { self.old.control ≡ Control.Go }
+        ensures { IfOk result (λ p. Goes (do_eval (evaluate depth) args.now self.old.state (all_back self.old.stack)) self.old.state.known (weight_of self.old + 4) self.new p) }
+    {
+        let Some((_, _)) = split(args) else {
+            return Ok(self.wrong_count(alloc, b"eval")?);
+        };
+        let text = concatenated(alloc, args)?;
+        Ok(self.evaluate(alloc, text, depth)?)
+    }
+
+    /// A command that computes, chooses or repeats.
+    pub(crate) fn choice(
+        &mut self,
+        alloc: Global,
+        which: ChoiceCommand,
+        args: &[Bytes],
+        depth: u32,
+    ) -> Result<Pace, AllocError>
+        requires { self.old.control ≡ Control.Go }
+        ensures { IfOk result (λ p. Goes (do_choice (evaluate depth) which args.now self.old.state (all_back self.old.stack)) self.old.state.known (weight_of self.old + 2 ^ 249) self.new p) }
+    {
+        match which {
+            ChoiceCommand::Expr => Ok(self.expr(alloc, args, depth)?),
+            ChoiceCommand::Eval => Ok(self.eval(alloc, args, depth)?),
+            ChoiceCommand::If => Ok(self.branch(alloc, args, depth)?),
+            ChoiceCommand::Switch => Ok(self.switch(alloc, args, depth)?),
+            ChoiceCommand::While => Ok(self.repeat_while(alloc, args, depth)?),
+            ChoiceCommand::For => Ok(self.repeat_for(alloc, args, depth)?),
+        }
+    }
+}

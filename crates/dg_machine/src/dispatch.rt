@@ -1,0 +1,156 @@
+//! The command that words name.
+ghost use Rattle.std.specs.Prelude.{◌≡◌, ◌+◌, ◌*◌, ◌^◌, ◌<◌, ◌∷◌, ◌++◌, [], IfOk, length};
+ghost use Rattle.dg_cmds.specs.Commands.{pure_of};
+ghost use Rattle.dg_language.specs.Control.{head_or_empty};
+ghost use Rattle.dg_language.specs.Language.{builtin, builtin_of, usable, pure_value, known_command, command, used, evaluate};
+ghost use Rattle.dg_machine.specs.declared.frame.Control.{Control};
+ghost use Rattle.dg_machine.specs.Meaning.{all_back, weight_of, budget, Comes, Goes, RunsAs};
+
+use crate::frame::{Frame, Making, Pace};
+use crate::machine::{Machine, split};
+use dg_cmds::{CmdFault, run_pure};
+use dg_commands::{bindings, find_builtin, invalid_command};
+use dg_language::{Builtin, Code, Purpose};
+use dg_words::{Bytes, Seq, TryCopy};
+use std::alloc::{AllocError, Global};
+
+/// The first value, or the empty text where there is none.
+fn first_or_empty(alloc: Global, values: &[Bytes]) -> Result<Bytes, AllocError>
+    ensures { IfOk result (λ b. b ≡ head_or_empty values.now) }
+{
+    match values {
+        [] => Ok(Bytes::new(alloc)),
+        [first, ..] => Ok(first.copy(alloc)?),
+    }
+}
+
+impl Machine {
+    /// A command that is known by its name.
+    #[tactic(auto, unfolding(crate::specs::Meaning::rest, crate::specs::Meaning::weight))]
+    fn builtin(
+        &mut self,
+        alloc: Global,
+        which: Builtin,
+        args: &[Bytes],
+        depth: u32,
+    ) -> Result<Pace, AllocError>
+        requires { self.old.control ≡ Control.Go }
+        ensures { IfOk result (RunsAs (builtin (evaluate depth) which args.now) self.old self.new) }
+    {
+        match which {
+            Builtin::Result(which) => Ok(self.result(alloc, which, args)?),
+            Builtin::Variable(which) => Ok(self.variable(alloc, which, args)?),
+            Builtin::Control(which) => Ok(self.control(alloc, which, args, depth)?),
+            Builtin::Choice(which) => Ok(self.choice(alloc, which, args, depth)?),
+            Builtin::Board(which) => Ok(self.board(alloc, which, args, depth)?),
+            Builtin::Target(which) => Ok(self.target(alloc, which, args)?),
+            Builtin::Flag(which) => Ok(self.flag(alloc, which, args)?),
+            Builtin::Silent => {
+                self.end(Code::Done, Bytes::new(alloc));
+                Ok(Pace::Moved)
+            }
+        }
+    }
+
+    /// A string or list command, or `format`. There is no other command.
+    #[tactic(auto, unfolding(crate::specs::Meaning::rest, crate::specs::Meaning::weight))]
+    fn pure(&mut self, alloc: Global, name: &[u8], args: &[Bytes]) -> Result<Pace, AllocError>
+        requires { self.old.control ≡ Control.Go }
+        ensures { IfOk result (λ p. Goes (pure_value (pure_of name.now args.now) name.now self.old.state (all_back self.old.stack)) self.old.state.known (weight_of self.old + 2) self.new p) }
+    {
+        match run_pure(alloc, name, args) {
+            Ok(value) => {
+                self.end(Code::Done, value);
+                Ok(Pace::Moved)
+            }
+            Err(CmdFault::Unknown) => {
+                let message = invalid_command(alloc, name)?;
+                Ok(self.fail(alloc, message)?)
+            }
+            Err(CmdFault::Tcl(message)) => Ok(self.fail(alloc, message)?),
+            Err(CmdFault::TooLong) => {
+                let verdict = self.cut(alloc, b"value too long")?;
+                Ok(Pace::Over(verdict))
+            }
+            Err(CmdFault::Memory) => Err(AllocError),
+        }
+    }
+
+    /// A command that no procedure hides.
+    fn known_command(
+        &mut self,
+        alloc: Global,
+        name: &[u8],
+        args: &[Bytes],
+        depth: u32,
+    ) -> Result<Pace, AllocError>
+        requires { self.old.control ≡ Control.Go }
+        ensures { IfOk result (RunsAs (λ s k. known_command (evaluate depth) (usable s.on_board (builtin_of name.now)) name.now args.now s k) self.old self.new) }
+    {
+        match find_builtin(self.state.is_on_board(), name) {
+            Some(which) => Ok(self.builtin(alloc, which, args, depth)?),
+            None => Ok(self.pure(alloc, name, args)?),
+        }
+    }
+
+    /// The command that words name.
+    #[tactic(auto, unfolding(dg_language::specs::Language::command, crate::specs::Meaning::rest, crate::specs::Meaning::weight))]
+    fn command(&mut self, alloc: Global, words: &[Bytes], depth: u32) -> Result<Pace, AllocError>
+        requires { self.old.control ≡ Control.Go }
+        ensures { IfOk result (RunsAs (command (evaluate depth) words.now) self.old self.new) }
+    {
+        let Some((name, args)) = split(words) else {
+            self.end(Code::Done, Bytes::new(alloc));
+            return Ok(Pace::Moved);
+        };
+        let Some(procedure) = self.state.procedure(name.as_slice()) else {
+            return Ok(self.known_command(alloc, name.as_slice(), args, depth)?);
+        };
+        let bindings = bindings(alloc, procedure.parameters.as_slice(), args)?;
+        let body = procedure.body.copy(alloc)?;
+        let pace = self.call(alloc, bindings, name.as_slice(), body, depth)?;
+        Ok(pace)
+    }
+
+    /// The command of these words runs, or waits for the answer to a question.
+    #[tactic(auto, unfolding(crate::specs::Meaning::rest, crate::specs::Meaning::go))]
+    pub(crate) fn run_command(
+        &mut self,
+        alloc: Global,
+        words: Seq<Bytes>,
+        depth: u32,
+    ) -> Result<Pace, AllocError>
+        requires { self.old.control ≡ Control.Go }
+        ensures { IfOk result (λ p. Comes (command (evaluate depth) words self.old.state (all_back self.old.stack)) self.old.state.known (weight_of self.old + 2 ^ 250) self.new p) }
+    {
+        match self.command(alloc, words.as_slice(), depth)? {
+            Pace::Stands(question) => {
+                self.stack.push(Frame::Running { words, depth })?;
+                Ok(Pace::Stands(question))
+            }
+            Pace::Moved => Ok(Pace::Moved),
+            Pace::Over(verdict) => Ok(Pace::Over(verdict)),
+        }
+    }
+
+    /// Words that were made are used.
+    #[tactic(auto, unfolding(crate::specs::Meaning::rest, crate::specs::Meaning::weight, crate::specs::Meaning::budget))]
+    pub(crate) fn use_words(
+        &mut self,
+        alloc: Global,
+        making: Making,
+        depth: u32,
+    ) -> Result<Pace, AllocError>
+        requires { self.old.control ≡ Control.Go }
+        ensures { IfOk result (λ p. Comes (used (evaluate depth) making.purpose making.made self.old.state (all_back self.old.stack)) self.old.state.known (weight_of self.old + budget making.purpose + 4) self.new p) }
+    {
+        match making.purpose {
+            Purpose::Run => Ok(self.run_command(alloc, making.made, depth)?),
+            Purpose::Load => {
+                let value = first_or_empty(alloc, making.made.as_slice())?;
+                self.end(Code::Done, value);
+                Ok(Pace::Moved)
+            }
+        }
+    }
+}

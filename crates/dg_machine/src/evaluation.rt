@@ -1,0 +1,169 @@
+//! Evaluations, which stop at each question: the machine behind a door that is cheap to pass.
+ghost use Rattle.std.specs.Prelude.{◌≡◌, true, IfOk};
+ghost use Rattle.dg_world.specs.Question.{fits};
+
+use crate::frame::{Control, Frame, Opening, Stack, Stop};
+use crate::machine::Machine;
+use dg_language::State;
+use dg_results::Verdict;
+use dg_words::Seq;
+use dg_world::{Answer, Question, Read, TestId};
+use std::alloc::{AllocError, Global};
+use std::marker::Model;
+
+/// The judging of a test, between two questions. A contract sees its test, the answers so far and
+/// the steps that were taken.
+pub struct Evaluation {
+    test: TestId,
+    machine: Machine,
+}
+
+impl Model for Evaluation {
+    ghost use Rattle.dg_language.specs.State.{taken};
+    ghost use Rattle.dg_machine.specs.Evaluating.{EvaluationView, IsLeft};
+
+    ghost Value = { EvaluationView };
+
+    ghost view = { λ e. record { test = e.test; reads = e.machine.state.known; steps = taken e.machine.state } };
+
+    ghost invariant = { λ e. IsLeft e.test e.machine };
+}
+
+/// Written by hand, and so one call for whoever lets an evaluation go.
+impl Drop for Evaluation {
+    fn drop(self) {
+        let Evaluation {
+            test: _,
+            machine: _,
+        } = self;
+    }
+}
+
+/// The judging of a test, at a question that has no answer yet. A contract sees the question, and
+/// what it sees of an evaluation.
+pub struct Asking {
+    test: TestId,
+    question: Question,
+    machine: Machine,
+}
+
+impl Model for Asking {
+    ghost use Rattle.dg_language.specs.State.{taken};
+    ghost use Rattle.dg_machine.specs.Evaluating.{AskingView, IsAsking};
+
+    ghost Value = { AskingView };
+
+    ghost view = { λ a. record { test = a.test; reads = a.machine.state.known; question = a.question; steps = taken a.machine.state } };
+
+    ghost invariant = { λ a. IsAsking a.test a.question a.machine };
+}
+
+/// Written by hand, and so one call for whoever lets it go.
+impl Drop for Asking {
+    fn drop(self) {
+        let Asking {
+            test: _,
+            question: _,
+            machine: _,
+        } = self;
+    }
+}
+
+/// An evaluation that has ended.
+#[derive(Drop)]
+pub struct Ended {
+    pub test: TestId,
+    /// The questions that were answered, in order.
+    pub reads: Seq<Read>,
+    pub verdict: Verdict,
+    /// The steps that were taken.
+    pub steps: u64,
+}
+
+/// What an evaluation comes to by itself.
+#[derive(Drop)]
+pub enum Arrival {
+    /// A question that has no answer yet.
+    AtQuestion(Asking),
+    /// All has ended.
+    AtEnd(Ended),
+}
+
+impl Evaluation {
+    ghost use Rattle.dg_machine.specs.Evaluating.{begun};
+    ghost use Rattle.dg_machine.specs.Arriving.{Arrives};
+
+    /// The judging of a test begins.
+    pub fn start(alloc: Global, test: TestId) -> Result<Evaluation, AllocError>
+        ensures { IfOk result (λ e. e ≡ begun test) }
+    {
+        let mut stack = Stack::new(alloc);
+        stack.push(Frame::Opening {
+            what: Opening::Board,
+        })?;
+        let machine = Machine {
+            state: State::new(alloc, test.copy(alloc)?),
+            stack,
+            control: Control::Go,
+        };
+        Ok(Evaluation { test, machine })
+    }
+
+    /// Goes on until a question stands or all is over.
+    pub fn run_on(self, alloc: Global) -> Result<Arrival, AllocError>
+        ensures { IfOk result (Arrives self) }
+    {
+        let Evaluation { test, mut machine } = self;
+        match machine.run_on(alloc)? {
+            Stop::AtQuestion(question) => Ok(Arrival::AtQuestion(Asking {
+                test,
+                question,
+                machine,
+            })),
+            Stop::AtEnd(verdict) => {
+                let state = machine.into_state();
+                let steps = state.steps();
+                let reads = state.into_reads()?;
+                Ok(Arrival::AtEnd(Ended {
+                    test,
+                    reads,
+                    verdict,
+                    steps,
+                }))
+            }
+        }
+    }
+}
+
+impl Asking {
+    ghost use Rattle.dg_machine.specs.Evaluating.{NeedsNext, answered};
+
+    /// The question that stands. It is the one that the judging needs next.
+    pub fn question(&self) -> &Question
+        ensures question { result.now ≡ self.now.question }
+        ensures next { NeedsNext self.now.test self.now.reads self.now.question }
+    {
+        &self.question
+    }
+
+    /// The steps that were taken.
+    pub fn steps(&self) -> u64
+        ensures { result ≡ self.now.steps }
+    {
+        self.machine.state.steps()
+    }
+
+    /// Goes on with an answer of the question's kind.
+    pub fn tell(self, answer: Answer) -> Result<Evaluation, AllocError>
+        requires { fits self.question answer ≡ true }
+        ensures { IfOk result (λ e. e ≡ answered self answer) }
+    {
+        let Asking {
+            test,
+            question,
+            mut machine,
+        } = self;
+        machine.state.learn(question, answer)?;
+        Ok(Evaluation { test, machine })
+    }
+}

@@ -1,0 +1,247 @@
+//! The loops over a condition: `while` and `for`.
+ghost use Rattle.std.specs.Prelude.{◌≡◌, ◌+◌, ◌*◌, ◌^◌, ◌<◌, ◌∷◌, [], IfOk, MatchOption, None, length};
+ghost use Rattle.dg_language.specs.Choosing.{do_for, do_while, four_of, two_of};
+ghost use Rattle.dg_language.specs.Language.{evaluate};
+ghost use Rattle.dg_machine.specs.declared.frame.Control.{Control};
+ghost use Rattle.dg_machine.specs.declared.frame.Stage.{Stage};
+ghost use Rattle.dg_machine.specs.Choosing.{next_script, next_test, repeat_if, repeating, stage_weight};
+ghost use Rattle.dg_machine.specs.Meaning.{all_back, weight_of, Goes};
+
+use crate::frame::{Frame, Pace, Repetition, Stage};
+use crate::machine::Machine;
+use crate::script::Body;
+use dg_commands::truth_in;
+use dg_language::{Code, STEPS};
+use dg_words::{Bytes, TryCopy};
+use std::alloc::{AllocError, Global};
+
+/// The two words, if there are just two.
+pub(crate) fn two(words: &[Bytes]) -> Option<(&Bytes, &Bytes)>
+    ensures { MatchOption result (two_of words.now ≡ None) (λ p. words.now ≡ p.0.now ∷ p.1.now ∷ []) }
+{
+    match words {
+        [one, two] => Some((one, two)),
+        _ => None,
+    }
+}
+
+/// The four words, if there are just four.
+fn four(words: &[Bytes]) -> Option<(&Bytes, &Bytes, &Bytes, &Bytes)>
+    ensures { MatchOption result (four_of words.now ≡ None) (λ p. words.now ≡ p.0.now ∷ p.1.now ∷ p.2.now ∷ p.3.now ∷ []) }
+{
+    match words {
+        [one, two, three, four] => Some((one, two, three, four)),
+        _ => None,
+    }
+}
+
+impl Machine {
+    /// The next test of a loop begins to be computed, if a step is left for it.
+    #[tactic(auto, unfolding(crate::specs::Meaning::back, crate::specs::Meaning::all_back))]
+    fn next_test(&mut self, alloc: Global, mut repetition: Repetition) -> Result<Pace, AllocError>
+        requires { self.old.control ≡ Control.Go }
+        ensures { IfOk result (λ p. Goes (next_test repetition self.old.state (all_back self.old.stack)) self.old.state.known (weight_of self.old + 5) self.new p) }
+    {
+        if repetition.left == 0 || !self.state.has_step() {
+            let verdict = self.cut(alloc, b"step limit reached")?;
+            return Ok(Pace::Over(verdict));
+        }
+        self.state.take_step();
+        repetition.left -= 1;
+        repetition.stage = Stage::Test;
+        let test = repetition.test.copy(alloc)?;
+        let depth = repetition.depth;
+        self.stack.push(Frame::Repeating { repetition })?;
+        Ok(self.calculate(alloc, test.as_slice(), depth)?)
+    }
+
+    /// The body of a loop begins, if its condition holds.
+    #[tactic(auto, unfolding(crate::specs::Meaning::rest, crate::specs::Meaning::back, crate::specs::Meaning::all_back, crate::specs::Meaning::weight, crate::specs::Meaning::stack_weight))]
+    fn repeat_if(
+        &mut self,
+        alloc: Global,
+        mut repetition: Repetition,
+        holds: bool,
+    ) -> Result<Pace, AllocError>
+        requires { self.old.control ≡ Control.Go }
+        ensures { IfOk result (λ p. Goes (repeat_if repetition holds self.old.state (all_back self.old.stack)) self.old.state.known (weight_of self.old + 32) self.new p) }
+    {
+        if !holds {
+            self.end(Code::Done, Bytes::new(alloc));
+            return Ok(Pace::Moved);
+        }
+        repetition.stage = Stage::Body;
+        let commands = repetition.body.script(alloc)?;
+        let depth = repetition.depth;
+        self.stack.push(Frame::Repeating { repetition })?;
+        Ok(self.begin(alloc, commands, depth)?)
+    }
+
+    /// What comes behind the body of a loop: the third script of `for`, or the next test.
+    #[tactic(auto, unfolding(crate::specs::Meaning::back, crate::specs::Meaning::all_back, crate::specs::Meaning::weight, crate::specs::Meaning::stack_weight))]
+    fn next_script(&mut self, alloc: Global, mut repetition: Repetition) -> Result<Pace, AllocError>
+        requires { self.old.control ≡ Control.Go }
+        ensures { IfOk result (λ p. Goes (next_script repetition self.old.state (all_back self.old.stack)) self.old.state.known (weight_of self.old + 16) self.new p) }
+    {
+        let Some(next) = &repetition.next else {
+            return Ok(self.next_test(alloc, repetition)?);
+        };
+        let commands = next.script(alloc)?;
+        let depth = repetition.depth;
+        repetition.stage = Stage::Next;
+        self.stack.push(Frame::Repeating { repetition })?;
+        Ok(self.begin(alloc, commands, depth)?)
+    }
+
+    /// A loop goes on behind its first script.
+    #[tactic(auto, unfolding(crate::specs::Meaning::rest, crate::specs::Meaning::weight))]
+    fn behind_start(
+        &mut self,
+        alloc: Global,
+        repetition: Repetition,
+        code: Code,
+        value: Bytes,
+    ) -> Result<Pace, AllocError>
+        requires { self.old.control ≡ Control.Go }
+        ensures { IfOk result (λ p. Goes (repeating repetition Stage.Start (all_back self.old.stack) code value self.old.state) self.old.state.known (weight_of self.old + 8) self.new p) }
+    {
+        match code {
+            Code::Done => Ok(self.next_test(alloc, repetition)?),
+            Code::Failed | Code::Returned | Code::Broken | Code::Continued => {
+                Ok(self.go_up(code, value))
+            }
+        }
+    }
+
+    /// A loop goes on behind its test.
+    #[tactic(auto, unfolding(crate::specs::Meaning::rest, crate::specs::Meaning::weight))]
+    fn behind_test(
+        &mut self,
+        alloc: Global,
+        repetition: Repetition,
+        code: Code,
+        value: Bytes,
+    ) -> Result<Pace, AllocError>
+        requires { self.old.control ≡ Control.Go }
+        ensures { IfOk result (λ p. Goes (repeating repetition Stage.Test (all_back self.old.stack) code value self.old.state) self.old.state.known (weight_of self.old + 32) self.new p) }
+    {
+        match code {
+            Code::Done => match truth_in(alloc, value.as_slice())? {
+                Ok(holds) => Ok(self.repeat_if(alloc, repetition, holds)?),
+                Err(message) => Ok(self.fail(alloc, message)?),
+            },
+            Code::Failed | Code::Returned | Code::Broken | Code::Continued => {
+                Ok(self.go_up(code, value))
+            }
+        }
+    }
+
+    /// A loop goes on behind its body.
+    #[tactic(auto, unfolding(crate::specs::Meaning::rest, crate::specs::Meaning::weight))]
+    fn behind_body(
+        &mut self,
+        alloc: Global,
+        repetition: Repetition,
+        code: Code,
+        value: Bytes,
+    ) -> Result<Pace, AllocError>
+        requires { self.old.control ≡ Control.Go }
+        ensures { IfOk result (λ p. Goes (repeating repetition Stage.Body (all_back self.old.stack) code value self.old.state) self.old.state.known (weight_of self.old + 16) self.new p) }
+    {
+        match code {
+            Code::Done | Code::Continued => Ok(self.next_script(alloc, repetition)?),
+            Code::Broken => Ok(self.go_up(Code::Done, Bytes::new(alloc))),
+            Code::Failed | Code::Returned => { Ok(self.go_up(code, value)) }
+        }
+    }
+
+    /// A loop goes on behind its third script.
+    #[tactic(auto, unfolding(crate::specs::Meaning::rest, crate::specs::Meaning::weight))]
+    fn behind_next(
+        &mut self,
+        alloc: Global,
+        repetition: Repetition,
+        code: Code,
+        value: Bytes,
+    ) -> Result<Pace, AllocError>
+        requires { self.old.control ≡ Control.Go }
+        ensures { IfOk result (λ p. Goes (repeating repetition Stage.Next (all_back self.old.stack) code value self.old.state) self.old.state.known (weight_of self.old + 8) self.new p) }
+    {
+        match code {
+            Code::Done => Ok(self.next_test(alloc, repetition)?),
+            Code::Broken => Ok(self.go_up(Code::Done, Bytes::new(alloc))),
+            Code::Failed | Code::Returned | Code::Continued => { Ok(self.go_up(code, value)) }
+        }
+    }
+
+    /// A loop goes on behind what of it has ended.
+    pub(crate) fn repeat(
+        &mut self,
+        alloc: Global,
+        repetition: Repetition,
+        code: Code,
+        value: Bytes,
+    ) -> Result<Pace, AllocError>
+        requires { self.old.control ≡ Control.Go }
+        ensures { IfOk result (λ p. Goes (repeating repetition repetition.stage (all_back self.old.stack) code value self.old.state) self.old.state.known (weight_of self.old + stage_weight repetition.stage) self.new p) }
+    {
+        match repetition.stage {
+            Stage::Start => Ok(self.behind_start(alloc, repetition, code, value)?),
+            Stage::Test => Ok(self.behind_test(alloc, repetition, code, value)?),
+            Stage::Body => Ok(self.behind_body(alloc, repetition, code, value)?),
+            Stage::Next => Ok(self.behind_next(alloc, repetition, code, value)?),
+        }
+    }
+
+    /// `while test body`.
+    #[tactic(auto, unfolding(dg_language::specs::Choosing::do_while))]
+    pub(crate) fn repeat_while(
+        &mut self,
+        alloc: Global,
+        args: &[Bytes],
+        depth: u32,
+    ) -> Result<Pace, AllocError>
+        requires { self.old.control ≡ Control.Go }
+        ensures { IfOk result (λ p. Goes (do_while (evaluate depth) args.now self.old.state (all_back self.old.stack)) self.old.state.known (weight_of self.old + 5) self.new p) }
+    {
+        let Some((test, body)) = two(args) else {
+            return Ok(self.wrong_count(alloc, b"while")?);
+        };
+        let repetition = Repetition {
+            stage: Stage::Start,
+            test: test.copy(alloc)?,
+            next: None,
+            body: Body::new(alloc, body)?,
+            left: STEPS,
+            depth,
+        };
+        Ok(self.next_test(alloc, repetition)?)
+    }
+
+    /// `for start test next body`.
+    #[tactic(auto, unfolding(dg_language::specs::Choosing::do_for, crate::specs::Meaning::back, crate::specs::Meaning::all_back, crate::specs::Meaning::weight, crate::specs::Meaning::stack_weight))]
+    pub(crate) fn repeat_for(
+        &mut self,
+        alloc: Global,
+        args: &[Bytes],
+        depth: u32,
+    ) -> Result<Pace, AllocError>
+        requires { self.old.control ≡ Control.Go }
+        ensures { IfOk result (λ p. Goes (do_for (evaluate depth) args.now self.old.state (all_back self.old.stack)) self.old.state.known (weight_of self.old + 16) self.new p) }
+    {
+        let Some((start, test, next, body)) = four(args) else {
+            return Ok(self.wrong_count(alloc, b"for")?);
+        };
+        let repetition = Repetition {
+            stage: Stage::Start,
+            test: test.copy(alloc)?,
+            next: Some(Body::new(alloc, next)?),
+            body: Body::new(alloc, body)?,
+            left: STEPS,
+            depth,
+        };
+        self.stack.push(Frame::Repeating { repetition })?;
+        let start = start.copy(alloc)?;
+        Ok(self.enter(alloc, start, depth)?)
+    }
+}

@@ -1,0 +1,245 @@
+//! The moves of a machine, one frame at a time.
+ghost use Rattle.std.specs.Prelude.{◌≡◌, ◌+◌, ◌*◌, ◌^◌, ◌<◌, ◌∷◌, [], IfOk, length, Some};
+ghost use Rattle.dg_language.specs.Control.{each};
+ghost use Rattle.dg_language.specs.Evaluation.{outside, if_done, loop_after};
+ghost use Rattle.dg_language.specs.Language.{sequence, evaluate};
+ghost use Rattle.dg_language.specs.Judge.{finish, close};
+ghost use Rattle.dg_language.specs.State.{departed, taken};
+ghost use Rattle.dg_machine.specs.declared.frame.Control.{Control};
+ghost use Rattle.dg_machine.specs.Meaning.{all_back, back, go, rest, weight_of, budget, frame_weight, ends_with, looping, next_round, making_with, outside_code, outside_value, Comes, ComesTo, Goes};
+
+use crate::frame::{Control, Frame, Making, Pace, Rounds, Stop};
+use crate::machine::Machine;
+use crate::script::Script;
+use dg_commands::outside_of_a_loop;
+use dg_language::Code;
+use dg_results::Verdict;
+use dg_words::Bytes;
+use std::alloc::{AllocError, Global};
+use std::mem;
+
+/// The code and the value with which a procedure or a file has ended, as they read outside of it.
+pub(crate) fn outside(alloc: Global, code: Code, value: Bytes) -> Result<(Code, Bytes), AllocError>
+    ensures { IfOk result (λ r. r ≡ (outside_code code, outside_value code value)) }
+{
+    match code {
+        Code::Done | Code::Returned => Ok((Code::Done, value)),
+        Code::Failed => Ok((Code::Failed, value)),
+        Code::Broken => Ok((Code::Failed, outside_of_a_loop(alloc, b"break")?)),
+        Code::Continued => Ok((Code::Failed, outside_of_a_loop(alloc, b"continue")?)),
+    }
+}
+
+impl Machine {
+    /// The inmost frame goes on.
+    #[tactic(auto, unfolding(crate::specs::Meaning::go, crate::specs::Meaning::rest, crate::specs::Meaning::weight))]
+    fn resume(&mut self, alloc: Global, frame: Frame) -> Result<Pace, AllocError>
+        requires { self.old.control ≡ Control.Go }
+        ensures { IfOk result (λ p. Comes (go frame self.old.state (all_back self.old.stack)) self.old.state.known (weight_of self.old + frame_weight frame) self.new p) }
+    {
+        match frame {
+            Frame::Opening { what } => Ok(self.open(alloc, what)?),
+            Frame::Sequence { commands, depth } => {
+                Ok(self.sequence(alloc, commands, Bytes::new(alloc), depth)?)
+            }
+            Frame::Gathering { making, depth } => Ok(self.gather(alloc, making, depth)?),
+            Frame::Running { words, depth } => Ok(self.run_command(alloc, words, depth)?),
+            Frame::Catching { name: _ }
+            | Frame::Calling
+            | Frame::Loading
+            | Frame::Preceding { next: _ }
+            | Frame::Writing
+            | Frame::Choosing { choice: _ }
+            | Frame::Repeating { repetition: _ } => {
+                self.end(Code::Done, Bytes::new(alloc));
+                Ok(Pace::Moved)
+            }
+            Frame::Looping { rounds } => Ok(self.go_round(alloc, rounds)?),
+            Frame::Unsetting { complains, names } => {
+                Ok(self.unset_next(alloc, complains, names)?)
+            }
+            Frame::Calculating { calculation } => Ok(self.compute(alloc, calculation)?),
+        }
+    }
+
+    /// A loop goes on, between two rounds or in the beginning of one.
+    fn go_round(&mut self, alloc: Global, rounds: Rounds) -> Result<Pace, AllocError>
+        requires { self.old.control ≡ Control.Go }
+        ensures { IfOk result (λ p. Comes (looping rounds rounds.given self.old.state (all_back self.old.stack)) self.old.state.known (weight_of self.old + frame_weight (Frame.Looping rounds)) self.new p) }
+    {
+        match rounds.given {
+            None => Ok(self.next_round(alloc, rounds)?),
+            Some(at) => Ok(self.give_next(alloc, rounds, at)?),
+        }
+    }
+
+    /// What has ended inside goes on up.
+    #[tactic(auto, unfolding(crate::specs::Meaning::rest, crate::specs::Meaning::weight))]
+    pub(crate) fn go_up(&mut self, code: Code, value: Bytes) -> Pace
+        requires { self.old.control ≡ Control.Go }
+        ensures { Goes (all_back self.old.stack code value self.old.state) self.old.state.known (weight_of self.old + 2) self.new result }
+    {
+        self.end(code, value);
+        Pace::Moved
+    }
+
+    /// A command has ended in front of those that are left.
+    fn after_command(
+        &mut self,
+        alloc: Global,
+        commands: Script,
+        depth: u32,
+        code: Code,
+        value: Bytes,
+    ) -> Result<Pace, AllocError>
+        requires { self.old.control ≡ Control.Go }
+        ensures { IfOk result (λ p. Goes (if_done (λ v s. sequence (evaluate depth) commands v s (all_back self.old.stack)) (all_back self.old.stack) code value self.old.state) self.old.state.known (weight_of self.old + 3) self.new p) }
+    {
+        match code {
+            Code::Done => Ok(self.sequence(alloc, commands, value, depth)?),
+            Code::Failed | Code::Returned | Code::Broken | Code::Continued => {
+                Ok(self.go_up(code, value))
+            }
+        }
+    }
+
+    /// A script in a word has ended.
+    fn after_script(
+        &mut self,
+        alloc: Global,
+        making: Making,
+        depth: u32,
+        code: Code,
+        value: Bytes,
+    ) -> Result<Pace, AllocError>
+        requires { self.old.control ≡ Control.Go }
+        ensures { IfOk result (λ p. Goes (if_done (λ v s. making_with making depth v s (all_back self.old.stack)) (all_back self.old.stack) code value self.old.state) self.old.state.known (weight_of self.old + budget making.purpose + 5 + 4 * length making.left) self.new p) }
+    {
+        match code {
+            Code::Done => Ok(self.add_value(alloc, making, value, depth)?),
+            Code::Failed | Code::Returned | Code::Broken | Code::Continued => {
+                Ok(self.go_up(code, value))
+            }
+        }
+    }
+
+    /// The body of a procedure has ended.
+    #[tactic(auto, unfolding(crate::specs::Meaning::rest, crate::specs::Meaning::weight, dg_language::specs::State::departed))]
+    fn after_call(&mut self, alloc: Global, code: Code, value: Bytes) -> Result<Pace, AllocError>
+        requires { self.old.control ≡ Control.Go }
+        ensures { IfOk result (λ p. Goes (outside (all_back self.old.stack) code value (departed self.old.state)) self.old.state.known (weight_of self.old + 4) self.new p) }
+    {
+        let (code, value) = outside(alloc, code, value)?;
+        self.state.leave();
+        self.end(code, value);
+        Ok(Pace::Moved)
+    }
+
+    /// The body of a loop has ended.
+    #[tactic(auto, unfolding(crate::specs::Meaning::rest, crate::specs::Meaning::weight))]
+    fn after_body(
+        &mut self,
+        alloc: Global,
+        rounds: Rounds,
+        code: Code,
+        value: Bytes,
+    ) -> Result<Pace, AllocError>
+        requires { self.old.control ≡ Control.Go }
+        ensures { IfOk result (λ p. Goes (loop_after (λ s. next_round rounds rounds.values s (all_back self.old.stack)) (all_back self.old.stack) code value self.old.state) self.old.state.known (weight_of self.old + 5) self.new p) }
+    {
+        match code {
+            Code::Done | Code::Continued => Ok(self.next_round(alloc, rounds)?),
+            Code::Broken => Ok(self.go_up(Code::Done, Bytes::new(alloc))),
+            Code::Failed | Code::Returned => Ok(self.go_up(code, value)),
+        }
+    }
+
+    /// The inmost frame gets what ended inside of it.
+    #[tactic(auto, unfolding(crate::specs::Meaning::back))]
+    fn give_back(
+        &mut self,
+        alloc: Global,
+        frame: Frame,
+        code: Code,
+        value: Bytes,
+    ) -> Result<Pace, AllocError>
+        requires { self.old.control ≡ Control.Go }
+        ensures { IfOk result (λ p. Comes (back frame (all_back self.old.stack) code value self.old.state) self.old.state.known (weight_of self.old + frame_weight frame + 1) self.new p) }
+    {
+        match frame {
+            Frame::Opening { what: _ } => Ok(self.go_up(code, value)),
+            Frame::Preceding { next } => Ok(self.after_file(alloc, next, code, value)?),
+            Frame::Sequence { commands, depth } => {
+                Ok(self.after_command(alloc, commands, depth, code, value)?)
+            }
+            Frame::Gathering { making, depth } => {
+                Ok(self.after_script(alloc, making, depth, code, value)?)
+            }
+            Frame::Running { words: _, depth: _ } => Ok(self.go_up(code, value)),
+            Frame::Catching { name } => Ok(self.caught(alloc, name, code, value)?),
+            Frame::Calling => Ok(self.after_call(alloc, code, value)?),
+            Frame::Loading => Ok(self.after_library(alloc, code, value)?),
+            Frame::Looping { rounds } => Ok(self.after_body(alloc, rounds, code, value)?),
+            Frame::Unsetting {
+                complains: _,
+                names: _,
+            } => Ok(self.go_up(code, value)),
+            Frame::Calculating { calculation } => {
+                Ok(self.after_operand(calculation, code, value)?)
+            }
+            Frame::Writing => Ok(self.write_value(alloc, code, value)?),
+            Frame::Choosing { choice } => Ok(self.after_condition(alloc, choice, code, value)?),
+            Frame::Repeating { repetition } => Ok(self.repeat(alloc, repetition, code, value)?),
+        }
+    }
+
+    /// All has ended.
+    #[tactic(auto, unfolding(dg_language::specs::Evaluation::ended, dg_language::specs::Evaluation::aborted))]
+    fn finish(&mut self, alloc: Global, code: Code, value: Bytes) -> Result<Verdict, AllocError>
+        ensures ends { IfOk result (λ v. finish code value self.old.state ≡ ends_with v (taken self.old.state)) }
+        ensures same { self.new ≡ self.old }
+    {
+        let judging = self.state.judged(alloc)?;
+        let (code, value) = outside(alloc, code, value)?;
+        match code {
+            Code::Failed => {
+                let name = self.state.test().script.as_slice();
+                let verdict = judging.abort(alloc, name, value.as_slice())?;
+                Ok(verdict)
+            }
+            _ => Ok(judging.finish()),
+        }
+    }
+
+    /// One move.
+    #[tactic(auto, unfolding(crate::specs::Meaning::rest, crate::specs::Meaning::all_back, crate::specs::Meaning::weight, crate::specs::Meaning::stack_weight))]
+    fn step(&mut self, alloc: Global) -> Result<Pace, AllocError>
+        ensures { IfOk result (Comes (rest self.old) self.old.state.known (weight_of self.old) self.new) }
+    {
+        let control = mem::replace(&mut self.control, Control::Go);
+        let Some(frame) = self.stack.pop() else {
+            let verdict = match control {
+                Control::Go => self.finish(alloc, Code::Done, Bytes::new(alloc))?,
+                Control::Ended { code, value } => self.finish(alloc, code, value)?,
+            };
+            return Ok(Pace::Over(verdict));
+        };
+        match control {
+            Control::Go => Ok(self.resume(alloc, frame)?),
+            Control::Ended { code, value } => Ok(self.give_back(alloc, frame, code, value)?),
+        }
+    }
+
+    /// Moves until a question stands or all is over.
+    pub fn run_on(&mut self, alloc: Global) -> Result<Stop, AllocError>
+        ensures { IfOk result (ComesTo self.old self.new) }
+    {
+        'moves: loop {
+            match self.step(alloc)? {
+                Pace::Moved => {}
+                Pace::Stands(question) => return Ok(Stop::AtQuestion(question)),
+                Pace::Over(verdict) => return Ok(Stop::AtEnd(verdict)),
+            }
+        }
+    }
+}

@@ -1,0 +1,104 @@
+//! The commands on the machines' triplets, and on the flags that they decide.
+ghost use Rattle.std.specs.Prelude.{◌≡◌, ◌+◌, ◌*◌, ◌^◌, ◌<◌, ◌∷◌, [], IfOk};
+ghost use Rattle.dg_language.specs.Boards.{do_flag, do_is, do_is_native, do_target};
+ghost use Rattle.dg_machine.specs.declared.frame.Control.{Control};
+ghost use Rattle.dg_machine.specs.Meaning.{RunsAs};
+
+use crate::frame::Pace;
+use crate::machine::{Machine, only};
+use crate::variables::digit;
+use dg_commands::{any_pattern, flag_call, glob_matches, is_flagged, triplet_of};
+use dg_language::{Code, FlagCommand, TargetCommand};
+use dg_words::Bytes;
+use dg_world::{Machine as Place, Question};
+use std::alloc::{AllocError, Global};
+
+impl Machine {
+    /// `istarget pattern`, `ishost pattern`, `isbuild pattern`.
+    #[tactic(auto, unfolding(dg_language::specs::Boards::do_is))]
+    fn is_place(
+        &mut self,
+        alloc: Global,
+        place: Place,
+        name: &[u8],
+        args: &[Bytes],
+    ) -> Result<Pace, AllocError>
+        requires { self.old.control ≡ Control.Go }
+        ensures { IfOk result (RunsAs (do_is place name.now args.now) self.old self.new) }
+    {
+        let Some(pattern) = only(args) else {
+            return Ok(self.wrong_count(alloc, name)?);
+        };
+        let question = Question::Triplet(place);
+        let Some(answer) = self.state.answer_to(&question) else {
+            return Ok(Pace::Stands(question));
+        };
+        let holds = glob_matches(pattern.as_slice(), triplet_of(answer));
+        let value = Bytes::from_slice(alloc, digit(holds))?;
+        Ok(self.go_up(Code::Done, value))
+    }
+
+    /// `isnative`.
+    #[tactic(auto, unfolding(dg_language::specs::Boards::do_is_native))]
+    fn is_native(&mut self, alloc: Global, args: &[Bytes]) -> Result<Pace, AllocError>
+        requires { self.old.control ≡ Control.Go }
+        ensures { IfOk result (RunsAs (do_is_native args.now) self.old self.new) }
+    {
+        if !args.is_empty() {
+            return Ok(self.wrong_count(alloc, b"isnative")?);
+        }
+        let question = Question::Triplet(Place::Build);
+        let Some(build) = self.state.answer_to(&question) else {
+            return Ok(Pace::Stands(question));
+        };
+        let question = Question::Triplet(Place::Target);
+        let Some(target) = self.state.answer_to(&question) else {
+            return Ok(Pace::Stands(question));
+        };
+        let holds = triplet_of(build) == triplet_of(target);
+        let value = Bytes::from_slice(alloc, digit(holds))?;
+        Ok(self.go_up(Code::Done, value))
+    }
+
+    /// A command on the machines' triplets.
+    pub(crate) fn target(
+        &mut self,
+        alloc: Global,
+        which: TargetCommand,
+        args: &[Bytes],
+    ) -> Result<Pace, AllocError>
+        requires { self.old.control ≡ Control.Go }
+        ensures { IfOk result (RunsAs (do_target which args.now) self.old self.new) }
+    {
+        match which {
+            TargetCommand::IsTarget => Ok(self.is_place(alloc, Place::Target, b"istarget", args)?),
+            TargetCommand::IsHost => Ok(self.is_place(alloc, Place::Host, b"ishost", args)?),
+            TargetCommand::IsBuild => Ok(self.is_place(alloc, Place::Build, b"isbuild", args)?),
+            TargetCommand::IsNative => Ok(self.is_native(alloc, args)?),
+        }
+    }
+
+    /// `setup_xfail`, `setup_kfail`, `clear_xfail` and `clear_kfail`.
+    pub(crate) fn flag(
+        &mut self,
+        alloc: Global,
+        which: FlagCommand,
+        args: &[Bytes],
+    ) -> Result<Pace, AllocError>
+        requires { self.old.control ≡ Control.Go }
+        ensures { IfOk result (RunsAs (do_flag which args.now) self.old self.new) }
+    {
+        if !any_pattern(args) {
+            return Ok(self.go_up(Code::Done, Bytes::new(alloc)));
+        }
+        let question = Question::Triplet(Place::Target);
+        let Some(answer) = self.state.answer_to(&question) else {
+            return Ok(Pace::Stands(question));
+        };
+        if !is_flagged(triplet_of(answer), args) {
+            return Ok(self.go_up(Code::Done, Bytes::new(alloc)));
+        }
+        self.state.add_call(flag_call(which))?;
+        Ok(self.go_up(Code::Done, Bytes::new(alloc)))
+    }
+}
