@@ -4,7 +4,7 @@ PREFIX ?= /usr/local
 
 PROGRAM = crates/runtest/out/runtest
 
-.PHONY: all demo check install clean
+.PHONY: all demo check bench install clean
 
 # Proves the program and all that it stands on, and builds it.
 all: $(PROGRAM)
@@ -20,6 +20,10 @@ demo: $(PROGRAM)
 # The merge gate: every proof from nothing, the edits that must fail, the tests and the program.
 check:
 	$(RT) ci
+
+# Times this program and its crates beside tclsh and Expect; all of these have to be on the path.
+bench: $(PROGRAM)
+	for it in bench/*/run.sh; do echo "== $$it"; sh $$it || exit 1; done
 
 install: $(PROGRAM)
 	install -d $(DESTDIR)$(PREFIX)/bin

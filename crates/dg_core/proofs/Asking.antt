@@ -1,21 +1,22 @@
 -- A job that is told what a world answers.
-use Rattle.std.proofs.Common.{◌≡◌, ◌≤◌, ◌<◌, ◌+◌, ◌-◌, ℕ, Bool, true, false, List, [], ◌∷◌, ◌++◌, length, length-append, true≢false, refl, ap, sym, ◌∙◌, subst, arith}
-use Rattle.std.proofs.lemmas.List.{append_assoc, append-nil}
+use Rattle.std.proofs.Common.{◌≡◌, ◌<◌, ◌+◌, ℕ, true, false, List, [], ◌∷◌, ◌++◌, length, length-append, true≢false, refl, ap, sym, ◌∙◌, subst, arith}
+use Rattle.std.proofs.lemmas.List.{append-nil}
 use Rattle.std.specs.Prelude.{Option, Some, None}
-use Rattle.dg_world.specs.World.{WorldView, look, content_of, answer_of}
+use Rattle.dg_world.specs.World.{WorldView, look, content_of, answer_of, setting_answer}
+use Rattle.dg_world.specs.Setting.{value_of}
 use Rattle.dg_world.specs.Question.{fits}
 use Rattle.dg_world.specs.declared.question.Question.{Question}
-use Rattle.dg_world.specs.declared.question.Question.TheVariants.{File, Variable}
+use Rattle.dg_world.specs.declared.question.Question.TheVariants.{File, Tool, Triplet, Variable}
 use Rattle.dg_world.specs.declared.question.Answer.{Answer}
 use Rattle.dg_world.specs.declared.question.Read.{Read}
 use Rattle.dg_world.specs.declared.test_id.TestId.{TestId}
-use Rattle.dg_records.specs.Play.{Play, Ends, Asks, Source, heard, run, end_of, on_answer, Over, Gives, Leads, reads_in, read_on}
-use Rattle.dg_records.specs.Language.{Ending}
-use Rattle.dg_records.specs.Judge.{judge, verdict_in, verdict_of}
+use Rattle.dg_language.specs.Play.{Play, Ends, Asks, Source, heard, end_of, Gives, Leads, reads_in, read_on}
+use Rattle.dg_language.specs.Evaluation.{Ending}
+use Rattle.dg_language.specs.Judge.{judge, verdict_in, verdict_of}
 use Rattle.dg_records.specs.Truth.{RecordView, answers_of}
-use Rattle.dg_records.proofs.Sources.{run-leads}
+use Rattle.dg_language.proofs.Sources.{run-leads}
 use Rattle.dg_eval.specs.Truth.{JobView}
-use Rattle.dg_eval.specs.Advance.{NeedsNext, HasEnded}
+use Rattle.dg_eval.specs.Evaluating.{NeedsNext, HasEnded}
 use Rattle.dg_core.specs.Core.{record_in, lines_or_none}
 use Rattle.dg_core.specs.Asking.{IsTold, Takes, all_reads}
 use Rattle.dg_eval.specs.Advance.{Advances, Tells, Halts, Refuses}
@@ -33,7 +34,13 @@ fits-look w (File n) = kind (content_of w n)
     kind : (o : Option (List ℕ)) → fits (File n) (answer_of o) ≡ true
     kind None = refl
     kind (Some t) = refl
-fits-look w (Variable n) = refl
+fits-look w Tool = refl
+fits-look w (Triplet m) = refl
+fits-look w (Variable n) = kind (value_of w.selection.variables n)
+  where
+    kind : (o : Option (List ℕ)) → fits (Variable n) (setting_answer o) ≡ true
+    kind None = refl
+    kind (Some v) = refl
 
 pub heard-look : (w : WorldView) (q : Question) → heard q (answers_of w q) ≡ Some (look w q)
 heard-look w q = ap (λ b. elim b as (λ _. Option Answer) [ true ↦ Some (look w q) | false ↦ None ]) (fits-look w q)

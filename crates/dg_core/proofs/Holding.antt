@@ -1,42 +1,34 @@
 -- When a record holds in a world.
-use Rattle.std.proofs.Common.{◌≡◌, ◌&&◌, ◌↔◌, ℕ, Bool, true, false, List, [], ◌∷◌, refl, ap, sym, ◌∙◌, subst, IsTrue}
-use Rattle.std.specs.Prelude.{Option, Some, None, nat_eq}
+use Rattle.std.proofs.Common.{◌≡◌, ◌&&◌, ◌↔◌, Bool, true, false, List, [], ◌∷◌, refl, ap, sym, subst, IsTrue}
 use Rattle.std.specs.List.{list_all}
-use Rattle.std.specs.Cmp.Lexicographic.{pointwise, bytes_decides}
+use Rattle.std.specs.Cmp.Lexicographic.{bytes_decides}
 use Rattle.std.proofs.lemmas.List.Elements.{All-nil, All-cons, All-head, All-tail}
 use Rattle.dg_world.specs.World.{WorldView, look}
 use Rattle.dg_world.specs.declared.question.Answer.{Answer}
-use Rattle.dg_world.specs.declared.question.Answer.TheVariants.{Absent, Content, Unset, Value}
+use Rattle.dg_world.specs.declared.question.Answer.TheVariants as answer
 use Rattle.dg_world.specs.declared.question.Read.{Read}
-use Rattle.dg_records.specs.Truth.{RecordView, Agree}
-use Rattle.dg_core.specs.Core.{same_answer, holds}
+use Rattle.dg_records.specs.Truth.{Agree}
+use Rattle.dg_core.specs.Core.{same_answer}
 
 pub same_answer-refl : (a b : Answer) → a ≡ b → same_answer a b ≡ true
 same_answer-refl a b e = subst (λ x. same_answer a x ≡ true) e (itself a)
   where
     itself : (a : Answer) → same_answer a a ≡ true
-    itself Absent = refl
-    itself (Content t) = (bytes_decides t t).1 refl
-    itself Unset = refl
-    itself (Value t) = (bytes_decides t t).1 refl
+    itself answer.Absent = refl
+    itself (answer.Content t) = (bytes_decides t t).1 refl
+    itself (answer.Tool t) = (bytes_decides t t).1 refl
+    itself (answer.Triplet t) = (bytes_decides t t).1 refl
+    itself answer.Unset = refl
+    itself (answer.Value t) = (bytes_decides t t).1 refl
 
 pub same_answer-true : (a b : Answer) → same_answer a b ≡ true → a ≡ b
-same_answer-true Absent Absent h = refl
-same_answer-true Absent (Content b) h = cc
-same_answer-true Absent Unset h = cc
-same_answer-true Absent (Value b) h = cc
-same_answer-true (Content a) Absent h = cc
-same_answer-true (Content a) (Content b) h = ap Content ((bytes_decides a b).0 h)
-same_answer-true (Content a) Unset h = cc
-same_answer-true (Content a) (Value b) h = cc
-same_answer-true Unset Absent h = cc
-same_answer-true Unset (Content b) h = cc
-same_answer-true Unset Unset h = refl
-same_answer-true Unset (Value b) h = cc
-same_answer-true (Value a) Absent h = cc
-same_answer-true (Value a) (Content b) h = cc
-same_answer-true (Value a) Unset h = cc
-same_answer-true (Value a) (Value b) h = ap Value ((bytes_decides a b).0 h)
+same_answer-true answer.Absent answer.Absent h = refl
+same_answer-true (answer.Content a) (answer.Content b) h = ap answer.Content ((bytes_decides a b).0 h)
+same_answer-true (answer.Tool a) (answer.Tool b) h = ap answer.Tool ((bytes_decides a b).0 h)
+same_answer-true (answer.Triplet a) (answer.Triplet b) h = ap answer.Triplet ((bytes_decides a b).0 h)
+same_answer-true answer.Unset answer.Unset h = refl
+same_answer-true (answer.Value a) (answer.Value b) h = ap answer.Value ((bytes_decides a b).0 h)
+same_answer-true _ _ h = cc
 
 pub both : (a b : Bool) → (a && b) ≡ true → (a ≡ true) × (b ≡ true)
 both true b h = (refl, h)

@@ -1,21 +1,19 @@
 -- What settling leaves: every selected test held.
-use Rattle.std.proofs.Common.{◌≡◌, ◌≢◌, ◌≤◌, ◌<◌, ◌+◌, ◌-◌, ◌^◌, ℕ, suc, zero, Bool, true, false, cond, List, [], ◌∷◌, ◌++◌, length, take, get_or, min, true≢false, refl, ap, sym, ◌∙◌, subst, arith}
-use Rattle.std.proofs.lemmas.List.{take_more, take_all, append-nil}
-use Rattle.std.specs.Prelude.{Option, Some, None, Result, Ok, Err, OnErr, not, find}
-use Rattle.std.specs.List.{list_all, filter}
+use Rattle.std.proofs.Common.{◌≡◌, ◌≤◌, ◌<◌, ◌+◌, ◌-◌, ◌^◌, ℕ, suc, zero, Bool, true, false, cond, List, [], ◌∷◌, ◌++◌, length, take, get_or, min, true≢false, refl, ap, sym, ◌∙◌, subst, arith}
+use Rattle.std.proofs.lemmas.List.{take_more, take_all}
+use Rattle.std.specs.Prelude.{Option, Some, None, Result, Ok, Err, OnErr, not}
+use Rattle.std.specs.List.{filter}
 use Rattle.dg_world.specs.World.{WorldView, look, selected}
-use Rattle.dg_world.specs.declared.question.Question.{Question}
-use Rattle.dg_world.specs.declared.question.Answer.{Answer}
 use Rattle.dg_world.specs.declared.question.Read.{Read}
 use Rattle.dg_world.specs.declared.test_id.TestId.{TestId}
 use Rattle.dg_results.specs.declared.verdict.Line.{Line}
 use Rattle.dg_sum.specs.declared.judged.Judged.{Judged}
-use Rattle.dg_records.specs.Play.{Play, Ends, Asks, Source, Gives, heard, reads_in, read_on}
-use Rattle.dg_records.specs.Judge.{judge, verdict_in}
-use Rattle.dg_records.specs.Truth.{RecordView, IsTrueRecord, Agree, answers_of}
+use Rattle.dg_language.specs.Play.{Play, Ends, Asks, Source, Gives, reads_in, read_on}
+use Rattle.dg_language.specs.Judge.{judge, verdict_in}
+use Rattle.dg_records.specs.Truth.{RecordView, IsTrueRecord, answers_of}
 use Rattle.dg_records.specs.Shelf.{same_test, kept, with_record}
 use Rattle.dg_records.proofs.ShelfLemmas.{same_test-true, same_test-refl}
-use Rattle.dg_core.specs.Core.{CoreView, same_answer, holds, holds_if_kept, is_held, pending, record_in, shelf_with, counted, settled, settled_up_to, with_judged, IsPartlySettled}
+use Rattle.dg_core.specs.Core.{CoreView, holds, holds_if_kept, is_held, pending, record_in, shelf_with, counted, settled, settled_up_to, with_judged, IsPartlySettled}
 use Rattle.dg_core.specs.Scratch.{judged, and_judged, all_judged, IsJudged}
 use Rattle.std.proofs.lemmas.List.Elements.{filter_more}
 use Rattle.dg_core.specs.Core.{unheld}

@@ -1,10 +1,10 @@
 -- A job that is told what a world answers.
-use Rattle.std.specs.Prelude.{◌≡◌, ◌<◌, ◌+◌, ℕ, true, false, length, Option, Some, None, List}
+use Rattle.std.specs.Prelude.{◌≡◌, ◌<◌, ◌+◌, true, false, length, Option, Some, None, List}
 use Rattle.dg_world.specs.World.{WorldView}
 use Rattle.dg_world.specs.declared.question.Read.{Read}
 use Rattle.dg_world.specs.declared.test_id.TestId.{TestId}
-use Rattle.dg_records.specs.Play.{Gives, reads_in}
-use Rattle.dg_records.specs.Judge.{judge}
+use Rattle.dg_language.specs.Play.{Gives, reads_in}
+use Rattle.dg_language.specs.Judge.{judge}
 use Rattle.dg_records.specs.Truth.{RecordView, answers_of}
 use Rattle.dg_eval.specs.Truth.{JobView}
 use Rattle.dg_core.specs.Core.{record_in}

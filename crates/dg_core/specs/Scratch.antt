@@ -3,8 +3,8 @@ use Rattle.std.specs.Prelude.{◌≡◌, ℕ, Option, Some, None, List, [], ◌�
 use Rattle.dg_world.specs.World.{WorldView, selected}
 use Rattle.dg_world.specs.declared.test_id.TestId.{TestId}
 use Rattle.dg_results.specs.declared.verdict.Line.{Line}
-use Rattle.dg_records.specs.Play.{Source}
-use Rattle.dg_records.specs.Judge.{verdict_in}
+use Rattle.dg_language.specs.Play.{Source}
+use Rattle.dg_language.specs.Judge.{verdict_in}
 use Rattle.dg_records.specs.Truth.{answers_of}
 use Rattle.dg_sum.specs.declared.judged.Judged.{Judged}
 use Rattle.dg_sum.specs.Report.{report, status}

@@ -26,11 +26,21 @@ pub enum CoreFault {
 }
 
 /// A world, one record for each test that had one, and the number of evaluations begun.
-#[derive(Drop)]
 pub struct Core {
     world: World,
     shelf: Shelf,
     evaluations: u64,
+}
+
+/// Written by hand, and so one call for whoever lets a core go.
+impl Drop for Core {
+    fn drop(self) {
+        let Core {
+            world: _,
+            shelf: _,
+            evaluations: _,
+        } = self;
+    }
 }
 
 impl Model for Core {
@@ -61,6 +71,13 @@ impl Core {
     {
         self.world.edit(alloc, edit)?;
         Ok(())
+    }
+
+    /// The selected tests: board by board in the selection's order, and on each the scripts in byte order of their names.
+    pub fn selected(&self, alloc: Global) -> Result<Seq<TestId>, AllocError>
+        ensures { IfOk result (λ l. l ≡ selected self.now.world) }
+    {
+        self.world.selected(alloc)
     }
 
     /// How many evaluations were begun; the count stays at its last value.

@@ -1,11 +1,13 @@
-//! A core over one script, from its first report to a mended one.
+//! A core over one script, from its first report to a mended one, and over what a line sets.
 
 mod growth;
+mod selections;
+mod suites;
 
 use crate::judging_core::Core;
 use crate::reply::Reply;
-use dg_words::Bytes;
-use dg_world::{Edit, Refusal};
+use dg_words::{Bytes, Seq};
+use dg_world::{Edit, Refusal, Selection, Setting};
 use std::alloc::{AllocError, Global};
 use std::test::Fail;
 
@@ -76,5 +78,50 @@ fn refuses_an_absent_file(rt: HostRuntime) -> Result<(), Fail> {
     let mut core = core_with(alloc, b"pass \"one\"\n")?;
     let absent = Edit::RemoveFile(Bytes::from_slice(alloc, b"t/b.exp")?);
     assert!(rt; core.edit(alloc, absent) == Err(Refusal::NoSuchFile));
+    Ok(())
+}
+
+/// What a line sets.
+fn settings(alloc: Global, pairs: &[(&[u8], &[u8])]) -> Result<Seq<Setting>, AllocError> {
+    let mut settings = Seq::new(alloc);
+    for (name, value) in pairs {
+        let name = Bytes::from_slice(alloc, name)?;
+        let value = Bytes::from_slice(alloc, value)?;
+        settings.push(Setting { name, value })?;
+    }
+    Ok(settings)
+}
+
+/// Selects what a new world does, with these settings, and answers whether that was taken.
+fn select(alloc: Global, core: &mut Core, pairs: &[(&[u8], &[u8])]) -> Result<bool, AllocError> {
+    let variables = settings(alloc, pairs)?;
+    let mut selection = Selection::of_new_world(alloc)?;
+    selection.variables = variables;
+    Ok(core.edit(alloc, Edit::Select(selection)).is_ok())
+}
+
+/// Whether a core's report has this line, once it is settled.
+fn reports(alloc: Global, core: &mut Core, wanted: &[u8]) -> Result<bool, AllocError> {
+    let (text, _status) = settled(alloc, core)?;
+    Ok(
+        text.as_slice()
+            .split(|byte| *byte == b'\n')
+            .any(|line| line == wanted),
+    )
+}
+
+#[test]
+fn reads_what_the_line_sets(rt: HostRuntime) -> Result<(), Fail> {
+    let alloc = rt.alloc();
+    let mut core = core_with(alloc, b"pass $CC\n")?;
+    assert!(rt; select(alloc, &mut core, &[(b"CC", b"gcc")])?);
+    assert!(rt; reports(alloc, &mut core, b"PASS: gcc")?);
+    assert_eq!(rt; core.evaluations(), 1);
+    assert!(rt; select(alloc, &mut core, &[(b"CC", b"cc")])?);
+    assert!(rt; reports(alloc, &mut core, b"PASS: cc")?);
+    assert_eq!(rt; core.evaluations(), 2);
+    assert!(rt; select(alloc, &mut core, &[(b"CC", b"cc"), (b"D", b"1")])?);
+    assert!(rt; reports(alloc, &mut core, b"PASS: cc")?);
+    assert_eq!(rt; core.evaluations(), 2);
     Ok(())
 }

@@ -5,9 +5,7 @@ use Rattle.dg_world.specs.declared.question.Answer.{Answer}
 use Rattle.dg_world.specs.declared.question.Read.{Read}
 use Rattle.dg_world.specs.declared.test_id.TestId.{TestId}
 use Rattle.dg_world.specs.Question.{fits}
-use Rattle.dg_records.specs.Play.{Play, Ends, Asks, run, Over, Needs, lookup, source_of, Leads}
-use Rattle.dg_records.specs.Language.{Ending}
-use Rattle.dg_records.specs.Judge.{judge}
+use Rattle.dg_machine.specs.Evaluating.{NeedsNext, HasEnded}
 use Rattle.dg_eval.specs.declared.job.Turn.{Turn}
 use Rattle.dg_eval.specs.declared.job.Turn.TheVariants.{Need, Done}
 use Rattle.dg_eval.specs.declared.job.JobFault.{JobFault}
@@ -25,18 +23,6 @@ going old reads = record { test = old.test; reads = reads; asked = None; live = 
 -- the job that is done
 abbrev pub over : TestId → ℕ → JobView
 over test steps = record { test = test; reads = []; asked = None; live = false; failed = false; steps = steps }
-
--- The judging needs this question next: down its tree, along the answers so far, it stands, and with just these answers
--- as the source the evaluation comes to it. It was not asked before.
-pub record NeedsNext (test : TestId) (reads : List Read) (q : Question) : Type 0 where
-  pub leads : (k : Answer → Play Ending) × Leads (judge test) reads (Asks q k)
-  pub comes : run (source_of reads) (judge test) ≡ Needs q
-  pub new : lookup q reads ≡ None
-
--- the judging has ended like this, with just these answers as the source
-pub record HasEnded (test : TestId) (reads : List Read) (e : Ending) : Type 0 where
-  pub leads : Leads (judge test) reads (Ends e)
-  pub comes : run (source_of reads) (judge test) ≡ Over e
 
 -- What a turn comes to with the answers so far: to the question that the judging needs next, which then stands, or to a
 -- record of its verdict, with just these answers as the reads.

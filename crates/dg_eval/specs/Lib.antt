@@ -1,6 +1,3 @@
-pub mod Calls
-pub mod Script
-pub mod Meaning
-pub mod Starting
+pub use Rattle.dg_machine.specs.Evaluating
 pub mod Truth
 pub mod Advance

@@ -2,9 +2,8 @@
 ghost use Rattle.std.specs.Prelude.{◌≡◌, true, IfOk, MatchResult};
 ghost use Rattle.dg_eval.specs.Advance.{Advances, Halts, HasFailed, Tells, Refuses, started, going};
 
-use crate::evaluation::Evaluation;
-use crate::frame::Stop;
 use crate::stage::Stage;
+use dg_machine::{Arrival, Evaluation};
 use dg_records::Record;
 use dg_world::{Answer, Question, TestId};
 use std::alloc::{AllocError, Global};
@@ -40,11 +39,21 @@ pub enum JobFault {
 
 /// The judging of a test, which stops at each question that has no answer yet. It is never begun
 /// again, and asks no question twice.
-#[derive(Drop)]
 pub struct Job {
     test: TestId,
     stage: Stage,
-    steps: u32,
+    steps: u64,
+}
+
+/// Written by hand, and so one call for whoever lets a job go.
+impl Drop for Job {
+    fn drop(self) {
+        let Job {
+            test: _,
+            stage: _,
+            steps: _,
+        } = self;
+    }
 }
 
 impl Model for Job {
@@ -58,8 +67,6 @@ impl Model for Job {
 }
 
 impl Job {
-    ghost use Rattle.dg_eval.specs.Truth.{IsLeft};
-
     /// Begins the judging of a test.
     pub fn start(alloc: Global, test: TestId) -> Result<Job, AllocError>
         ensures { IfOk result (λ j. j ≡ started test) }
@@ -77,7 +84,7 @@ impl Job {
     pub fn steps(&self) -> u64
         ensures { result ≡ self.now.steps }
     {
-        self.steps as u64
+        self.steps
     }
 
     /// Goes on to the next question or to the end. While a question stands it is given again.
@@ -90,9 +97,9 @@ impl Job {
     {
         match mem::replace(&mut self.stage, Stage::Failed) {
             Stage::Running(evaluation) => Ok(self.go_on(alloc, evaluation)?),
-            Stage::Asking(evaluation, question) => {
-                let copy = question.copy(alloc)?;
-                self.stage.set(Stage::Asking(evaluation, question));
+            Stage::Asking(asking) => {
+                let copy = asking.question().copy(alloc)?;
+                self.stage.set(Stage::Asking(asking));
                 Ok(Turn::Need(copy))
             }
             Stage::Finished => {
@@ -104,23 +111,23 @@ impl Job {
     }
 
     /// The evaluation moves up to a question, or to the end.
-    fn go_on(&mut self, alloc: Global, mut evaluation: Evaluation) -> Result<Turn, AllocError>
-        requires left { IsLeft self.old.test evaluation }
+    fn go_on(&mut self, alloc: Global, evaluation: Evaluation) -> Result<Turn, AllocError>
+        requires test { evaluation.test ≡ self.old.test }
         requires failed { HasFailed self.old }
-        ensures { MatchResult result (Advances (going self.old evaluation.state.known) self.new) (λ _. HasFailed self.new) }
+        ensures { MatchResult result (Advances (going self.old evaluation.reads) self.new) (λ _. HasFailed self.new) }
     {
         match evaluation.run_on(alloc)? {
-            Stop::AtQuestion(question) => {
-                let copy = question.copy(alloc)?;
-                self.steps = evaluation.steps();
-                self.stage.set(Stage::Asking(evaluation, question));
+            Arrival::AtQuestion(asking) => {
+                let copy = asking.question().copy(alloc)?;
+                self.steps = asking.steps();
+                self.stage.set(Stage::Asking(asking));
                 Ok(Turn::Need(copy))
             }
-            Stop::AtEnd(verdict) => {
-                let test = self.test.copy(alloc)?;
-                self.steps = evaluation.steps();
+            Arrival::AtEnd(ended) => {
+                self.steps = ended.steps;
                 self.stage.set(Stage::Finished);
-                Ok(Turn::Done(Record::from_parts(test, evaluation.into_reads(), verdict)))
+                let record = Record::from_parts(ended.test, ended.reads, ended.verdict);
+                Ok(Turn::Done(record))
             }
         }
     }
@@ -135,12 +142,12 @@ impl Job {
         ensures { MatchResult result (λ _. Tells self.old self.new answer self.old.asked) (Refuses self.old self.new answer) }
     {
         match mem::replace(&mut self.stage, Stage::Failed) {
-            Stage::Asking(mut evaluation, question) => {
-                if !question.fits(&answer) {
-                    self.stage.set(Stage::Asking(evaluation, question));
+            Stage::Asking(asking) => {
+                if !asking.question().fits(&answer) {
+                    self.stage.set(Stage::Asking(asking));
                     return Err(JobFault::WrongKind);
                 }
-                evaluation.learn(question, answer)?;
+                let evaluation = asking.tell(answer)?;
                 self.stage.set(Stage::Running(evaluation));
                 Ok(())
             }

@@ -1,15 +1,9 @@
 //! Jobs: evaluations that stop at each question and go on from there.
 #![tactic(auto)]
 
-mod calls;
-mod evaluation;
-mod frame;
 mod job;
-mod machine;
-mod script;
 mod stage;
-mod state;
-mod step;
-mod values;
+#[cfg(test)]
+mod tests;
 
 pub use crate::job::{Job, JobFault, Turn};

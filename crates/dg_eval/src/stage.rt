@@ -1,8 +1,7 @@
 //! How far a job is.
 ghost use Rattle.std.specs.Prelude.{◌≡◌};
 
-use crate::evaluation::Evaluation;
-use dg_world::Question;
+use dg_machine::{Asking, Evaluation};
 use std::mem;
 
 /// How far a job is.
@@ -11,7 +10,7 @@ pub enum Stage {
     /// The evaluation goes on at the next turn.
     Running(Evaluation),
     /// A question stands.
-    Asking(Evaluation, Question),
+    Asking(Asking),
     /// The record was handed out.
     Finished,
     /// A growth was refused.

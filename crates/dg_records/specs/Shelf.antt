@@ -1,5 +1,5 @@
 -- Records that are kept, one for each test, in the order in which the tests first had one.
-use Rattle.std.specs.Prelude.{◌≡◌, ◌&&◌, Bool, true, false, if◌then◌else◌, Option, Some, None, List, [], ◌∷◌, find, nat_eq}
+use Rattle.std.specs.Prelude.{◌&&◌, Bool, if◌then◌else◌, Option, List, [], ◌∷◌, find, nat_eq}
 use Rattle.std.specs.Cmp.Lexicographic.{pointwise}
 use Rattle.dg_world.specs.declared.test_id.TestId.{TestId}
 use Rattle.dg_records.specs.Truth.{RecordView}

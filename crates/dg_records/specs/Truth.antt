@@ -1,14 +1,14 @@
 -- When a record is true, and when it holds in a world.
-use Rattle.std.specs.Prelude.{◌≡◌, ℕ, Option, Some, List, All}
+use Rattle.std.specs.Prelude.{◌≡◌, Some, List, All}
 use Rattle.dg_world.specs.declared.question.Question.{Question}
 use Rattle.dg_world.specs.declared.question.Answer.{Answer}
 use Rattle.dg_world.specs.declared.question.Read.{Read}
 use Rattle.dg_world.specs.declared.test_id.TestId.{TestId}
 use Rattle.dg_world.specs.World.{WorldView, look}
 use Rattle.dg_results.specs.declared.verdict.Line.{Line}
-use Rattle.dg_records.specs.Play.{Source, Gives, run, Over, reads_in}
-use Rattle.dg_records.specs.Language.{Ending}
-use Rattle.dg_records.specs.Judge.{judge, verdict_in}
+use Rattle.dg_language.specs.Play.{Source, Gives, run, Over}
+use Rattle.dg_language.specs.Evaluation.{Ending}
+use Rattle.dg_language.specs.Judge.{judge, verdict_in}
 
 -- a test, what was read, and the lines
 pub record RecordView : Type 0 where

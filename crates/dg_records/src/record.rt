@@ -10,11 +10,20 @@ use std::marker::Model;
 
 /// A test, what was read in judging it, and its verdict. It is the verdict in every source that
 /// gives these answers.
-#[derive(Drop)]
 pub struct Record {
     test: TestId,
     reads: Seq<Read>,
     verdict: Verdict,
+}
+
+impl Drop for Record {
+    fn drop(self) {
+        let Record {
+            test: _,
+            reads: _,
+            verdict: _,
+        } = self;
+    }
 }
 
 impl Model for Record {

@@ -11,9 +11,14 @@ use std::marker::Model;
 
 /// One record for each test, the newest. A contract sees the list of them, in the order in which
 /// the tests first had one.
-#[derive(Drop)]
 pub struct Shelf {
     records: IndexMap<TestId, Record>,
+}
+
+impl Drop for Shelf {
+    fn drop(self) {
+        let Shelf { records: _ } = self;
+    }
 }
 
 impl Model for Shelf {

@@ -1,5 +1,6 @@
 //! Lines, and readers and writers that fail in mid-stream.
 mod growth;
+mod hostile;
 mod requests;
 mod rows;
 mod sessions;

@@ -1,4 +1,4 @@
-use Rattle.std.proofs.Common.{◌≡◌, ◌-◌, length}
+use Rattle.std.proofs.Common.{◌-◌, length}
 use Rattle.dg_core.specs.Asking.{IsTold, all_reads}
 use Rattle.dg_core.proofs.evaluate.evaluate.Given as goal
 

@@ -1,4 +1,4 @@
-use Rattle.std.proofs.Common.{rules, ◌≡◌, ◌∙◌, sym, ap}
+use Rattle.std.proofs.Common.{rules}
 use Rattle.dg_core.proofs.Asking.{told-done, halts-memory, refuses-memory, told-more}
 use Rattle.dg_core.proofs.evaluate.take_turn.Goals as goal
 

@@ -1,6 +1,5 @@
-use Rattle.std.proofs.Common.{◌≡◌}
-use Rattle.dg_records.specs.Judge.{judge}
-use Rattle.dg_records.proofs.Sources.{run_more}
+use Rattle.dg_language.specs.Judge.{judge}
+use Rattle.dg_language.proofs.Sources.{run_more}
 use Rattle.dg_records.proofs.law.more_answers_keep_the_verdict.Goals as goal
 
 pub returns : goal.returns

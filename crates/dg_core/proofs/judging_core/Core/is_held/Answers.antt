@@ -1,4 +1,4 @@
-use Rattle.std.proofs.Common.{◌≡◌, ◌∙◌, ap, sym}
+use Rattle.std.proofs.Common.{◌∙◌, ap}
 use Rattle.dg_core.specs.Core.{holds_if_kept, is_held}
 use Rattle.dg_core.proofs.Holding.{told-agree}
 use Rattle.dg_core.proofs.judging_core.Core.is_held.Goals as goal

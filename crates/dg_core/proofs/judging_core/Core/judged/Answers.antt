@@ -1,4 +1,4 @@
-use Rattle.std.proofs.Common.{◌≡◌, ◌∙◌, ◌<◌, length, get_or, ap, sym, subst}
+use Rattle.std.proofs.Common.{◌∙◌, ◌<◌, length, get_or, ap, sym, subst}
 use Rattle.std.specs.Prelude.{Some}
 use Rattle.dg_world.specs.World.{selected}
 use Rattle.dg_core.proofs.Settling.{selected-held, judged-one-more}

@@ -1,4 +1,4 @@
-use Rattle.std.proofs.Common.{◌≡◌, ◌∙◌, ap, sym}
+use Rattle.std.proofs.Common.{◌∙◌, ap}
 use Rattle.dg_records.specs.Shelf.{kept}
 use Rattle.dg_core.proofs.Settling.{judged-held}
 use Rattle.dg_core.proofs.judging_core.Core.judged_test.Goals as goal

@@ -1,5 +1,5 @@
-use Rattle.std.proofs.Common.{◌≡◌, ◌∙◌, ◌<◌, ◌≤◌, ◌+◌, ◌^◌, length, get_or, ap, sym, subst, arith, rules}
-use Rattle.dg_core.specs.Core.{CoreView, pending, with_judged, counted, settled, settled_up_to}
+use Rattle.std.proofs.Common.{◌∙◌, ◌<◌, ◌≤◌, ◌+◌, ◌^◌, length, get_or, ap, subst, arith}
+use Rattle.dg_core.specs.Core.{CoreView, pending, with_judged, counted}
 use Rattle.dg_core.proofs.Settling.{settled-zero, settled-more, settled-begun, settled-all, pending-settled, partly, on_err}
 use Rattle.dg_core.proofs.judging_core.Core.settle.Goals as goal
 

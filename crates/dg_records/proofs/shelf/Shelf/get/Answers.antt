@@ -1,4 +1,4 @@
-use Rattle.std.proofs.Common.{◌≡◌, ◌∙◌, ap}
+use Rattle.std.proofs.Common.{◌∙◌, ap}
 use Rattle.dg_records.specs.Shelf.{kept}
 use Rattle.dg_records.proofs.ShelfLemmas.{lookup-kept}
 use Rattle.dg_records.proofs.shelf.Shelf.get.Goals as goal

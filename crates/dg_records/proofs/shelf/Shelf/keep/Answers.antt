@@ -1,4 +1,4 @@
-use Rattle.std.proofs.Common.{◌≡◌, ◌∙◌, ap, sym, map, true}
+use Rattle.std.proofs.Common.{◌∙◌, ap, map}
 use Rattle.std.specs.List.{list_all}
 use Rattle.dg_records.specs.Shelf.{with_record}
 use Rattle.dg_records.proofs.ShelfLemmas.{keyed, insert-with_record, insert-keyed}

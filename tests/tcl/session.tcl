@@ -1,0 +1,90 @@
+# Writes a session in which each script of files of cases is put and reported, and the answers that it must give.
+#
+#     tclsh session.tcl STDIN STDOUT words.cases ..
+#
+# Both files begin with what stands in `first.session` and `first.answers`. A script is not put twice in turn. In a script a line
+# `+++ NAME` begins the text of another file, which is put before it and removed after its report.
+source [file join [file dirname [info script]] cases.tcl]
+
+# The counts of a report in their order: the class, and what the report calls it.
+set counts {
+    PASS "expected passes" FAIL "unexpected failures" XPASS "unexpected successes" XFAIL "expected failures"
+    KPASS "unknown successes" KFAIL "known failures" UNRESOLVED "unresolved testcases"
+    UNTESTED "untested testcases" UNSUPPORTED "unsupported tests"
+}
+
+# The count lines of a report, and whether all is as expected.
+proc summary {lines} {
+    global counts
+    set text ""
+    foreach {class what} $counts {
+        set found [regexp -all -line "^$class: " $lines]
+        if {$found > 0} {
+            set label "# of $what"
+            set tabs [expr {[string length $label] < 24 ? "\t\t" : "\t"}]
+            append text $label $tabs $found \n
+        }
+    }
+    return $text
+}
+
+# The report of the script `t/a.exp` with these lines, as bytes.
+proc report {lines} {
+    set text "\t\t=== t tests ===\n\nSchedule of variations:\n    unix\n\nRunning target unix\n"
+    append text "Running t/a.exp ...\n" $lines "\n\t\t=== t Summary ===\n\n" [summary $lines]
+    return [encoding convertto utf-8 $text]
+}
+
+# 1 where a report has a result that is not expected.
+proc status {lines} {
+    return [regexp -line {^(FAIL|XPASS|KPASS|UNRESOLVED): } $lines]
+}
+
+# The bytes of a text in hexadecimal digits, `-` where there are none.
+proc hex {text} {
+    set digits [binary encode hex [encoding convertto utf-8 $text]]
+    return [expr {$digits eq "" ? "-" : $digits}]
+}
+
+# The script of a case, and the names and texts of the other files that it has.
+proc parts {script} {
+    set parts {}
+    while {[regexp -indices -line {^\+\+\+ ([^\n]*)$} $script line name]} {
+        lappend parts [string range $script 0 [lindex $line 0]-1] [string range $script {*}$name]
+        set script [string range $script [lindex $line 1]+2 end]
+    }
+    lappend parts $script
+    return [list [lindex $parts 0] [lrange $parts 1 end]]
+}
+
+proc read_bytes {file} {
+    set channel [open $file rb]
+    set bytes [read $channel]
+    close $channel
+    return $bytes
+}
+
+set here [file dirname [info script]]
+set input [open [lindex $argv 0] wb]
+set output [open [lindex $argv 1] wb]
+puts -nonewline $input [read_bytes [file join $here first.session]]
+puts -nonewline $output [read_bytes [file join $here first.answers]]
+foreach file [lrange $argv 2 end] {
+    foreach {name script lines} [read_cases $file] {
+        lassign [parts $script] script files
+        foreach {other text} $files {
+            puts $input "put $other [hex $text]"
+            puts $output ok
+        }
+        puts $input "put t/a.exp [hex $script]"
+        puts $input report
+        set bytes [report $lines]
+        puts -nonewline $output "ok\nsum [status $lines] [string length $bytes] 1\n$bytes"
+        foreach {other text} $files {
+            puts $input "remove $other"
+            puts $output ok
+        }
+    }
+}
+close $input
+close $output
