@@ -1,0 +1,9 @@
+pub mod Trees
+pub mod Steps
+pub mod VariableCommands
+pub mod CourseCommands
+pub mod WordMaking
+pub mod ExpressionValues
+pub mod ChoiceCommands
+pub mod BoardCommands
+pub mod Texts
