@@ -7,3 +7,8 @@ pub mod ExpressionValues
 pub mod ChoiceCommands
 pub mod BoardCommands
 pub mod Texts
+pub mod Judging
+pub mod Outcomes
+pub mod Telling
+pub mod ToldStates
+pub mod OnlyTree

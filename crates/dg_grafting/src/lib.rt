@@ -3,4 +3,7 @@
 
 mod law;
 
-pub use crate::law::texts_do_not_see_what_comes_after;
+pub use crate::law::{
+    each_text_comes_to_an_outcome, each_text_is_grafted, no_peek_is_grafted,
+    the_judging_is_grafted, trees_are_known_by_what_grows_on_them,
+};
