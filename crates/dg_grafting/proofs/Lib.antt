@@ -1,0 +1,14 @@
+pub mod Trees
+pub mod Steps
+pub mod VariableCommands
+pub mod CourseCommands
+pub mod WordMaking
+pub mod ExpressionValues
+pub mod ChoiceCommands
+pub mod BoardCommands
+pub mod Texts
+pub mod Judging
+pub mod Outcomes
+pub mod Telling
+pub mod ToldStates
+pub mod OnlyTree

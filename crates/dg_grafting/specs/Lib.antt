@@ -1,0 +1,2 @@
+pub mod Grafting
+pub mod Law
