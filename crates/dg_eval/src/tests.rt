@@ -8,6 +8,7 @@ use dg_words::Bytes;
 use dg_world::{Answer, Question, TestId};
 use std::alloc::{AllocError, Global};
 use std::test::Fail;
+use std::thread;
 
 /// A job that has just begun, of the script t/a.exp.
 fn begun(alloc: Global) -> Result<Job, AllocError> {
@@ -103,6 +104,34 @@ fn a_job_ends_once(rt: HostRuntime) -> Result<(), Fail> {
     assert_eq!(rt; job.steps(), 1);
     assert!(rt; matches!(job.advance(alloc), Err(JobFault::Failed)));
     assert!(rt; job.answer(Answer::Absent) == Err(JobFault::NotAsked));
+    Ok(())
+}
+
+/// The job, if its next turn asks for the board's file.
+fn at_its_first_question(alloc: Global, mut job: Job) -> Option<Job> {
+    if asks_for_file(alloc, &mut job, b"boards/unix.exp") {
+        return Some(job);
+    }
+    None
+}
+
+/// Whether a job at its first question is told all that it asks, and ends with one line, which passes with the message `one`.
+fn is_told_to_its_end(alloc: Global, mut job: Job, tool: Bytes, script: Bytes) -> bool {
+    comes_to_its_script(alloc, &mut job, tool)
+        && job.answer(Answer::Content(script)).is_ok()
+        && ends_with_pass(alloc, &mut job, b"one")
+}
+
+#[test]
+fn a_job_goes_to_another_thread(rt: HostRuntime) -> Result<(), Fail> {
+    let alloc = rt.alloc();
+    let begun = begun(alloc)?;
+    let tool = Bytes::from_slice(alloc, b"t")?;
+    let script = Bytes::from_slice(alloc, b"pass one")?;
+    let asker = thread::spawn(&rt, move || at_its_first_question(alloc, begun))?;
+    let asked = asker.join(&rt).ok_or("no question")?;
+    let teller = thread::spawn(&rt, move || is_told_to_its_end(alloc, asked, tool, script))?;
+    assert!(rt; teller.join(&rt));
     Ok(())
 }
 

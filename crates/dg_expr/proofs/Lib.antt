@@ -10,3 +10,4 @@ pub mod Low
 pub mod Tokens
 pub mod Running
 pub mod Spelling
+pub mod Crosses

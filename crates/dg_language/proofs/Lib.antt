@@ -6,3 +6,4 @@ pub mod CallLemmas
 pub mod TouchLemmas
 pub mod StateLemmas
 pub mod Commands
+pub mod Crosses

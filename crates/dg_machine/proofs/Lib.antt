@@ -11,3 +11,4 @@ pub mod ChoiceLemmas
 pub mod OpeningLemmas
 pub mod BoardLemmas
 pub mod EvaluationLemmas
+pub mod Crosses

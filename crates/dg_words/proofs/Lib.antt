@@ -8,3 +8,4 @@ pub mod Advance
 pub mod Listing
 pub mod RoundTrip
 pub mod First
+pub mod Crosses
