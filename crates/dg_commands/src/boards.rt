@@ -6,8 +6,8 @@ ghost use Rattle.dg_language.specs.Boards.{content_of, flag_call, is_pattern, li
 ghost use Rattle.dg_language.specs.Calls.{call_of};
 ghost use Rattle.dg_language.specs.Judge.{board_file, tool_library, tool_of};
 
-use crate::switch::glob_matches;
 use crate::values::with_quoted;
+use dg_cmds::glob_matches;
 use dg_language::{FlagCommand, ResultCall, State};
 use dg_words::{Bytes, TryCopy};
 use dg_world::Answer;

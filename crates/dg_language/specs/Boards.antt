@@ -20,9 +20,8 @@ use Rattle.dg_language.specs.declared.command.FlagCommand.{FlagCommand}
 use Rattle.dg_language.specs.declared.command.FlagCommand.TheVariants.{SetupXfail, SetupKfail, ClearXfail, ClearKfail}
 use Rattle.dg_language.specs.Play.{Play}
 use Rattle.dg_language.specs.State.{State, with_call, in_library, setting_of, with_setting, without_setting, departed}
-use Rattle.dg_language.specs.Evaluation.{Ending, Then, Nested, ask, fail, if_done, on, one_of, first_of, outside, quoted, wrong_count}
+use Rattle.dg_language.specs.Evaluation.{Ending, Then, Nested, ask, fail, if_done, on, one_of, two_of, first_of, outside, quoted, wrong_count}
 use Rattle.dg_language.specs.Variables.{or_empty, digit}
-use Rattle.dg_language.specs.Choosing.{two_of}
 
 -- `set_board_info key value`: a key that has a setting keeps it
 unfoldable pub do_set_board_info : List (List ℕ) → State → Then → Play Ending

@@ -11,13 +11,14 @@ ghost use Rattle.dg_machine.specs.Choosing.{calculating, calculating_on, calcula
 ghost use Rattle.dg_machine.specs.Meaning.{all_back, weight_of, Goes};
 
 use crate::frame::{Calculation, Frame, Making, Pace, Stack};
-use crate::machine::{Machine, VALUE, split};
+use crate::machine::Machine;
 use dg_commands::{
-    code_of, in_decimal, operand_of, syntax_error, truth_in, value_behind, value_between,
+    code_of, in_decimal, operand_of, split, syntax_error, truth_in, value_behind, value_between,
     with_spaces,
 };
 use dg_expr::{Infix, Instruction, Prefix};
 use dg_language::{Code, Purpose};
+use dg_scope::LONGEST_VALUE;
 use dg_words::{Bytes, Parts, Seq};
 use std::alloc::{AllocError, Global};
 
@@ -334,7 +335,7 @@ impl Machine {
             return Ok(self.wrong_count(alloc, b"expr")?);
         };
         let text = with_spaces(alloc, first.as_slice(), others)?;
-        if text.len() > VALUE {
+        if text.len() > LONGEST_VALUE {
             let verdict = self.cut(alloc, b"value too long")?;
             return Ok(Pace::Over(verdict));
         }

@@ -5,9 +5,10 @@ ghost use Rattle.dg_machine.specs.declared.frame.Control.{Control};
 ghost use Rattle.dg_machine.specs.Meaning.{RunsAs};
 
 use crate::frame::Pace;
-use crate::machine::{Machine, only};
+use crate::machine::Machine;
 use crate::variables::digit;
-use dg_commands::{any_pattern, flag_call, glob_matches, is_flagged, triplet_of};
+use dg_cmds::glob_matches;
+use dg_commands::{any_pattern, flag_call, is_flagged, only, triplet_of};
 use dg_language::{Code, FlagCommand, TargetCommand};
 use dg_words::Bytes;
 use dg_world::{Machine as Place, Question};

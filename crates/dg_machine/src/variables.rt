@@ -8,8 +8,8 @@ ghost use Rattle.dg_machine.specs.declared.frame.Control.{Control};
 ghost use Rattle.dg_machine.specs.Meaning.{all_back, weight_of, Comes, Goes, RunsAs};
 
 use crate::frame::{Frame, Pace};
-use crate::machine::{Machine, only, split};
-use dg_commands::{addend, cannot_unset, elements_in, increased, text_of};
+use crate::machine::Machine;
+use dg_commands::{addend, cannot_unset, elements_in, increased, only, split, text_of};
 use dg_language::{Code, Queue, VariableCommand};
 use dg_words::{Bytes, Seq, TryCopy};
 use std::alloc::{AllocError, Global};
