@@ -1,6 +1,6 @@
 //! How an expression is computed, an instruction at a time.
 ghost use Rattle.std.specs.Prelude.{◌≡◌, ◌+◌, ◌*◌, ◌^◌, ◌<◌, ◌∷◌, [], IfOk, length};
-ghost use Rattle.dg_expr.specs.Code.{below, top, truth_text};
+ghost use Rattle.dg_expr.specs.Code.{below, top};
 ghost use Rattle.dg_expr.specs.Truth.{truth_of};
 ghost use Rattle.dg_expr.specs.declared.code.Instruction.{Instruction as Step};
 ghost use Rattle.dg_language.specs.Evaluation.{if_done};
@@ -40,13 +40,6 @@ fn take_truth(alloc: Global, values: &mut Stack<Bytes>) -> Result<Result<bool, B
 {
     let value = take_top(alloc, values);
     truth_in(alloc, value.as_slice())
-}
-
-/// `1` or `0`.
-fn truth_text(holds: bool) -> &'static [u8]
-    ensures { result.now ≡ truth_text holds }
-{
-    if holds { b"1" } else { b"0" }
 }
 
 impl Machine {
