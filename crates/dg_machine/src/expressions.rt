@@ -16,7 +16,7 @@ use dg_commands::{
     code_of, in_decimal, operand_of, split, syntax_error, truth_in, value_behind, value_between,
     with_spaces,
 };
-use dg_expr::{Infix, Instruction, Prefix};
+use dg_expr::{Infix, Instruction, Prefix, truth_text};
 use dg_language::{Code, Purpose};
 use dg_scope::LONGEST_VALUE;
 use dg_words::{Bytes, Parts, Seq};
