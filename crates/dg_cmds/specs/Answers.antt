@@ -1,5 +1,5 @@
 -- What a command gives for its words.
-use Rattle.std.specs.Prelude.{◌≡◌, ℕ, List, [], ◌∷◌, ◌++◌, length, nat_le, codes, Bool, true, false, Option, None, Some, Result, Ok, Err, MatchResult, ◌⊎◌, if◌then◌else◌}
+use Rattle.std.specs.Prelude.{◌≡◌, ℕ, List, [], ◌∷◌, ◌++◌, length, nat_le, codes, Option, None, Some, Result, Ok, Err, MatchResult, ◌⊎◌, if◌then◌else◌}
 use Rattle.std.specs.Fmt.{decimal}
 use Rattle.dg_cmds.specs.declared.fault.CmdFault.{CmdFault}
 use Rattle.dg_cmds.specs.declared.fault.CmdFault.TheVariants.{Tcl, TooLong, Memory}
@@ -37,10 +37,6 @@ wrong_count name = Err (Tcl (codes "wrong # args: " ++ name))
 abbrev pub place_text : Option ℕ → List ℕ
 place_text None = codes "-1"
 place_text (Some n) = decimal n
-
-abbrev pub truth_text : Bool → List ℕ
-truth_text false = codes "0"
-truth_text true = codes "1"
 
 -- Bytes were added at the end of a value, which stays within the limit if it was; or they couldn't be.
 abbrev pub Adds : Result (Unit {0}) CmdFault → List ℕ → List ℕ → List ℕ → Type 0

@@ -4,8 +4,8 @@ use Rattle.std.specs.List.{ends_with, join_by, slice_split}
 use Rattle.std.specs.Fmt.{decimal}
 use Rattle.std.specs.Cmp.Lexicographic.{pointwise}
 use Rattle.dg_words.specs.declared.fault.WordFault.{WordFault}
-use Rattle.dg_words.specs.declared.fault.WordFault.TheVariants as word
 use Rattle.dg_words.specs.Elements.{elements_of}
+use Rattle.dg_words.specs.Faults.{fault_text}
 use Rattle.dg_words.specs.Canonical.{text_of_list}
 use Rattle.dg_cmds.specs.declared.fault.CmdFault.{CmdFault}
 use Rattle.dg_cmds.specs.declared.fault.CmdFault.TheVariants.{Tcl}
@@ -15,19 +15,6 @@ use Rattle.dg_cmds.specs.Answers.{Answer, ◌>>=◌, failed, limited, place_text
 use Rattle.dg_cmds.specs.Bytes.{blanks, member, trimmed_left, trimmed_right}
 use Rattle.dg_cmds.specs.Indices.{part_of, read_index}
 use Rattle.dg_cmds.specs.Places.{glob_matches}
-
-abbrev pub fault_text : WordFault → List ℕ
-fault_text word.MissingBrace = codes "missing close-brace"
-fault_text word.MissingBracket = codes "missing close-bracket"
-fault_text word.MissingQuote = codes "missing \""
-fault_text word.AfterBrace = codes "extra characters after close-brace"
-fault_text word.AfterQuote = codes "extra characters after close-quote"
-fault_text word.ListBrace = codes "unmatched open brace in list"
-fault_text word.ListQuote = codes "unmatched open quote in list"
-fault_text word.ListAfter = codes "list element followed by more text"
-fault_text word.Memory = codes "out of memory"
-fault_text word.MissingParen = codes "missing )"
-fault_text word.BadCodePoint = codes "bad code point"
 
 -- the elements of a list, or the script error of a text that is none
 abbrev pub or_error : Result (List (List ℕ)) WordFault → Result (List (List ℕ)) CmdFault

@@ -1,10 +1,12 @@
 //! Values within the limit, and script errors.
 ghost use Rattle.std.specs.Prelude.{◌≡◌, ◌++◌, Err, Ok};
 ghost use Rattle.std.specs.Fmt.{decimal};
-ghost use Rattle.dg_cmds.specs.Answers.{Adds, Gives, Makes, failed, limited, place_text, quoted, truth_text, wrong_count};
+ghost use Rattle.dg_cmds.specs.Answers.{Adds, Gives, Makes, failed, limited, place_text, quoted, wrong_count};
+ghost use Rattle.dg_expr.specs.Truth.{truth_text};
 ghost use Rattle.dg_cmds.specs.declared.fault.CmdFault.TheVariants.{Tcl};
 
 use crate::fault::CmdFault;
+use dg_expr::truth_text;
 use dg_words::Bytes;
 use std::alloc::Global;
 
@@ -87,8 +89,7 @@ pub(crate) fn give_place(alloc: Global, place: Option<usize>) -> Result<Bytes, C
 pub(crate) fn give_truth(alloc: Global, truth: bool) -> Result<Bytes, CmdFault>
     ensures { Gives result (Ok (truth_text truth)) }
 {
-    let text: &[u8] = if truth { b"1" } else { b"0" };
-    Ok(Bytes::from_slice(alloc, text)?)
+    Ok(Bytes::from_slice(alloc, truth_text(truth))?)
 }
 
 /// Adds bytes at the end of a value, if it may have so many.

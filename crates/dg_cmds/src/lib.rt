@@ -9,7 +9,6 @@ mod field;
 mod format;
 mod index;
 mod lists;
-mod measure;
 mod numbers;
 mod places;
 mod strings;
@@ -17,6 +16,7 @@ mod strings;
 pub use crate::command::run_pure;
 pub use crate::fault::CmdFault;
 pub use crate::format::run_format;
+pub use crate::places::glob_matches;
 pub use crate::strings::run_string;
 
 #[cfg(test)]

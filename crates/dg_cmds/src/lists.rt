@@ -4,35 +4,15 @@ ghost use Rattle.std.specs.List.{flat_map, slice_split};
 ghost use Rattle.dg_words.specs.Canonical.{text_of_list};
 ghost use Rattle.dg_cmds.specs.Answers.{Adds, Gives, limited};
 ghost use Rattle.dg_cmds.specs.Bytes.{member};
-ghost use Rattle.dg_cmds.specs.Lists.{concat_of, fault_text, is_some_text, join_of, joined, lindex_of, list_of, llength_of, lrange_of, lsearch_of, parts_of, passes, read_list, search_named, search_of, split_of, without_blanks};
+ghost use Rattle.dg_cmds.specs.Lists.{concat_of, is_some_text, join_of, joined, lindex_of, list_of, llength_of, lrange_of, lsearch_of, parts_of, passes, read_list, search_named, search_of, split_of, without_blanks};
 
-use crate::answer::{add, fail, fail_about, give, give_count, give_place, wrong_count};
+use crate::answer::{LONGEST, add, fail, fail_about, give, give_count, give_place, wrong_count};
 use crate::bytes::{BLANKS, set_of, trimmed_left, trimmed_right};
 use crate::fault::CmdFault;
 use crate::index::{part, read_index};
-use crate::measure::list_fits;
 use crate::places::glob_matches;
-use dg_words::{Bytes, Seq, WordFault, list_text, split_list};
+use dg_words::{Bytes, Seq, WordFault, fault_text, list_fits, list_text, split_list};
 use std::alloc::{AllocError, Global};
-
-/// The message of a text that can't be read.
-fn fault_text(fault: WordFault) -> &'static [u8]
-    ensures { result.now ≡ fault_text fault }
-{
-    match fault {
-        WordFault::MissingBrace => b"missing close-brace",
-        WordFault::MissingBracket => b"missing close-bracket",
-        WordFault::MissingQuote => b"missing \"",
-        WordFault::AfterBrace => b"extra characters after close-brace",
-        WordFault::AfterQuote => b"extra characters after close-quote",
-        WordFault::ListBrace => b"unmatched open brace in list",
-        WordFault::ListQuote => b"unmatched open quote in list",
-        WordFault::ListAfter => b"list element followed by more text",
-        WordFault::Memory => b"out of memory",
-        WordFault::MissingParen => b"missing )",
-        WordFault::BadCodePoint => b"bad code point",
-    }
-}
 
 /// The elements of a list.
 pub(crate) fn read_list(alloc: Global, text: &Bytes) -> Result<Seq<Bytes>, CmdFault>
@@ -50,7 +30,7 @@ pub(crate) fn read_list(alloc: Global, text: &Bytes) -> Result<Seq<Bytes>, CmdFa
 pub(crate) fn give_list(alloc: Global, elements: &[Bytes]) -> Result<Bytes, CmdFault>
     ensures { Gives result (limited (text_of_list elements.now)) }
 {
-    if !list_fits(elements) {
+    if !list_fits(elements, LONGEST) {
         return Err(CmdFault::TooLong);
     }
     match list_text(alloc, elements) {

@@ -28,7 +28,7 @@ pub(crate) fn last_place(needle: &[u8], text: &[u8]) -> Option<usize>
 }
 
 /// Whether a glob matches the whole text.
-pub(crate) fn glob_matches(pattern: &[u8], text: &[u8]) -> bool
+pub fn glob_matches(pattern: &[u8], text: &[u8]) -> bool
     ensures value { result ≡ glob_matches pattern.now text.now }
     ensures relation { IsTrue result ↔ Matches pattern.now text.now }
 {

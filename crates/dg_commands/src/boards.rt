@@ -6,8 +6,9 @@ ghost use Rattle.dg_language.specs.Boards.{content_of, flag_call, is_pattern, li
 ghost use Rattle.dg_language.specs.Calls.{call_of};
 ghost use Rattle.dg_language.specs.Judge.{board_file, tool_library, tool_of};
 
-use crate::switch::glob_matches;
 use crate::values::with_quoted;
+use dg_cmds::glob_matches;
+use dg_expr::truth_text;
 use dg_language::{FlagCommand, ResultCall, State};
 use dg_words::{Bytes, TryCopy};
 use dg_world::Answer;
@@ -101,12 +102,8 @@ pub fn told_of(alloc: Global, state: &State, words: &[Bytes]) -> Result<Option<B
             Ok(Some(Bytes::from_slice(alloc, setting)?))
         }
         [word, key] if word.as_slice() == b"exists".as_slice() => {
-            let digit = if state.setting(key).is_some() {
-                b"1"
-            } else {
-                b"0"
-            };
-            Ok(Some(Bytes::from_slice(alloc, digit)?))
+            let exists = state.setting(key).is_some();
+            Ok(Some(Bytes::from_slice(alloc, truth_text(exists))?))
         }
         _ => Ok(None),
     }

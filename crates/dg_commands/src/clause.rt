@@ -1,32 +1,12 @@
 //! The clauses of `if`.
 ghost use Rattle.std.specs.Prelude.{◌≡◌, ◌∷◌, [], ◌<◌, length, nat_eq, codes, IfOk, MatchOption, None, Some};
 ghost use Rattle.std.specs.Cmp.Lexicographic.{pointwise};
-ghost use Rattle.std.specs.Option.{option_copied};
 ghost use Rattle.dg_language.specs.Choosing.{and_clause, clauses_at, last_body, last_words, AtCondition, BehindBody};
 
+use crate::arguments::{only, split};
 use dg_language::{Clause, Clauses, Queue};
 use dg_words::{Bytes, Seq, TryCopy};
 use std::alloc::{AllocError, Global};
-
-/// The first word and the others.
-pub(crate) fn split(words: &[Bytes]) -> Option<(&Bytes, &[Bytes])>
-    ensures { MatchOption result (words.now ≡ []) (λ p. words.now ≡ p.0.now ∷ p.1.now) }
-{
-    match words {
-        [] => None,
-        [first, others @ ..] => Some((first, others)),
-    }
-}
-
-/// The only word, if there is just one.
-fn only(words: &[Bytes]) -> Option<&Bytes>
-    ensures { MatchOption result (last_body words.now ≡ None) (λ w. words.now ≡ w.now ∷ []) }
-{
-    match words {
-        [word] => Some(word),
-        _ => None,
-    }
-}
 
 /// The condition and the body of the first clause, and the words behind them.
 #[tactic(auto, unfolding(dg_language::specs::Choosing::clauses_at))]

@@ -7,13 +7,13 @@ ghost use Rattle.dg_expr.specs.Truth.{truth_of};
 ghost use Rattle.dg_language.specs.Evaluation.{quoted};
 ghost use Rattle.dg_language.specs.Expressions.{code_in, fault_message, in_decimal, on_side, operand_steps, or_fault, or_no_truth, behind_spaces};
 
-use crate::values::{fault_text, with_quoted};
+use crate::values::with_quoted;
 use dg_expr::{
     ExprFault, Infix, Instruction, Prefix, Side, apply, apply_one, compile, number, read_expr,
     truth,
 };
 use dg_language::Queue;
-use dg_words::{Bytes, Seq};
+use dg_words::{Bytes, Seq, fault_text};
 use std::alloc::{AllocError, Global};
 
 /// The operand on a side.

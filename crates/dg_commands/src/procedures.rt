@@ -2,6 +2,7 @@
 ghost use Rattle.std.specs.Prelude.{◌≡◌, ◌+◌, ◌*◌, ◌^◌, ◌<◌, ◌∷◌, ◌++◌, [], IfOk, OnOk, MatchOption, Some, None, nat_lt, length};
 ghost use Rattle.dg_language.specs.Procedures.{has_colons, name_fault, named, parameter_of, parameters, parameters_of, binding, bindings, collects, value_for, longest};
 
+use crate::arguments::split;
 use crate::values::{about_quoted, elements_in, text_of};
 use dg_language::{Binding, Parameter};
 use dg_scope::{LONGEST_VALUE, base_of, has_index};
@@ -124,7 +125,7 @@ pub fn bindings(
     let mut made = Seq::new(alloc);
     let mut left = parameters;
     let mut args = args;
-    'parameters: while let Some((parameter, others)) = first_of(left) {
+    'parameters: while let Some((parameter, others)) = split(left) {
         if collects(parameter, others) {
             made.push(bind(alloc, &parameter.name, text_of(alloc, args)?)?)?;
             return Ok(Some(made));
@@ -140,16 +141,6 @@ pub fn bindings(
         return Ok(None);
     }
     Ok(Some(made))
-}
-
-/// The first parameter, and the others.
-fn first_of(parameters: &[Parameter]) -> Option<(&Parameter, &[Parameter])>
-    ensures { MatchOption result (parameters.now ≡ []) (λ p. parameters.now ≡ p.0.now ∷ p.1.now) }
-{
-    match parameters {
-        [] => None,
-        [first, others @ ..] => Some((first, others)),
-    }
 }
 
 /// Whether a parameter, the last one, takes all arguments that are left.

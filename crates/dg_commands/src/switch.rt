@@ -1,11 +1,10 @@
 //! The pairs of `switch`, and the body that it takes.
 ghost use Rattle.std.specs.Prelude.{◌≡◌, ◌∷◌, IfOk, MatchOption, Some, None};
-ghost use Rattle.dg_cmds.specs.Places.{glob_matches};
 ghost use Rattle.dg_language.specs.Switching.{among, behind_kind, body_for, first_body, flag_in, is, is_flag, last_fault, matching_of, pairs_fault, switched, taken, takes};
 
-use crate::clause::split;
+use crate::arguments::split;
 use crate::values::{elements_in, with_quoted, wrong_count};
-use dg_glob::string_match;
+use dg_cmds::glob_matches;
 use dg_language::Matching;
 use dg_words::{Bytes, TryCopy};
 use std::alloc::{AllocError, Global};
@@ -28,13 +27,6 @@ fn takes(matching: Matching, text: &Bytes, pattern: &Bytes, others: &[Bytes]) ->
         Matching::Exact => is(pattern, text.as_slice()),
         Matching::Glob => glob_matches(pattern.as_slice(), text.as_slice()),
     }
-}
-
-/// Whether a glob matches the whole text.
-pub fn glob_matches(pattern: &[u8], text: &[u8]) -> bool
-    ensures { result ≡ glob_matches pattern.now text.now }
-{
-    string_match(pattern, text)
 }
 
 /// The first body in words of which every other is a pattern. `-` is none.

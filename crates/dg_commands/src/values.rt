@@ -1,13 +1,13 @@
 //! The messages of errors.
 ghost use Rattle.std.specs.Prelude.{◌≡◌, ◌++◌, ◌∷◌, [], codes, IfOk};
-ghost use Rattle.dg_language.specs.Evaluation.{quoted, wrong_count, fault_text, outside_of_a_loop, list_in};
+ghost use Rattle.dg_language.specs.Evaluation.{quoted, wrong_count, outside_of_a_loop, list_in};
 ghost use Rattle.dg_cmds.specs.Lists.{concat_of};
 ghost use Rattle.dg_language.specs.Switching.{text_in};
 ghost use Rattle.dg_words.specs.Canonical.{text_of_list};
 ghost use Rattle.dg_language.specs.Variables.{cannot_read, cannot_unset, expected_integer};
 
 use dg_cmds::{CmdFault, run_pure};
-use dg_words::{Bytes, Seq, WordFault, list_text, split_list};
+use dg_words::{Bytes, Seq, WordFault, fault_text, list_text, split_list};
 use std::alloc::{AllocError, Global};
 
 /// A name between quotes, behind a text.
@@ -80,25 +80,6 @@ pub fn wrong_count(alloc: Global, name: &[u8]) -> Result<Bytes, AllocError>
     let mut message = Bytes::from_slice(alloc, b"wrong # args: ")?;
     message.extend(name)?;
     Ok(message)
-}
-
-/// Why a command can't be read.
-pub fn fault_text(fault: WordFault) -> &'static [u8]
-    ensures { result.now ≡ fault_text fault }
-{
-    match fault {
-        WordFault::MissingBrace => b"missing close-brace",
-        WordFault::MissingBracket => b"missing close-bracket",
-        WordFault::MissingQuote => b"missing \"",
-        WordFault::AfterBrace => b"extra characters after close-brace",
-        WordFault::AfterQuote => b"extra characters after close-quote",
-        WordFault::ListBrace => b"unmatched open brace in list",
-        WordFault::ListQuote => b"unmatched open quote in list",
-        WordFault::ListAfter => b"list element followed by more text",
-        WordFault::Memory => b"out of memory",
-        WordFault::MissingParen => b"missing )",
-        WordFault::BadCodePoint => b"bad code point",
-    }
 }
 
 /// The message of a `break` or `continue` that leaves a procedure or a file.

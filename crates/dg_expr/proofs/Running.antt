@@ -6,9 +6,9 @@ use Rattle.dg_expr.specs.declared.code.Instruction.TheVariants as code
 use Rattle.dg_expr.specs.declared.code.Joins.{Joins}
 use Rattle.dg_expr.specs.declared.code.Joins.TheVariants as joins
 use Rattle.dg_expr.specs.declared.operator.Infix.{Infix}
-use Rattle.dg_expr.specs.Code.{Host, code_of, joining, judge, right_code, run, truth_behind, truth_text, value, value_behind}
+use Rattle.dg_expr.specs.Code.{Host, code_of, joining, judge, right_code, run, truth_behind, value, value_behind}
 use Rattle.dg_expr.specs.Tree.{Tree, Operand, One, Two, Choice}
-use Rattle.dg_expr.specs.Truth.{truth_of}
+use Rattle.dg_expr.specs.Truth.{truth_of, truth_text}
 
 module _ {S R : Type 0} (host : Host S R) where
   passes_over : (vs : List (List ℕ)) (xs is : List Instruction) (s : S) (k : List ℕ → S → R) → run host vs (length xs) (xs ++ is) s k ≡ run host vs 0 is s k

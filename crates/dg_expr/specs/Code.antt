@@ -1,5 +1,5 @@
 -- The value of a tree, and the code that computes it.
-use Rattle.std.specs.Prelude.{ℕ, zero, suc, ◌+◌, List, [], ◌∷◌, ◌++◌, length, Bool, true, false, Option, None, Some, Ok, Err, if◌then◌else◌, codes}
+use Rattle.std.specs.Prelude.{ℕ, zero, suc, ◌+◌, List, [], ◌∷◌, ◌++◌, length, Bool, true, false, Option, None, Some, Ok, Err, if◌then◌else◌}
 use Rattle.dg_words.specs.Piece.{Piece}
 use Rattle.dg_expr.specs.declared.code.Instruction.{Instruction}
 use Rattle.dg_expr.specs.declared.code.Instruction.TheVariants as code
@@ -11,7 +11,7 @@ use Rattle.dg_expr.specs.declared.operator.Infix.{Infix}
 use Rattle.dg_expr.specs.declared.operator.Infix.TheVariants as between
 use Rattle.dg_expr.specs.Operator.{Value, value_of, value_of_one}
 use Rattle.dg_expr.specs.Tree.{Tree, Operand, One, Two, Choice}
-use Rattle.dg_expr.specs.Truth.{truth_of}
+use Rattle.dg_expr.specs.Truth.{truth_of, truth_text}
 
 -- What substitutes the pieces of an operand in a state and goes on with its text, and what ends an expression with a
 -- fault: with the texts of the left and the right operand, or of the one operand and nothing.
@@ -28,10 +28,6 @@ settle host (Err f) x y s k = host.fail f x y s
 abbrev pub judge : {S R : Type 0} → Host S R → Option Bool → List ℕ → S → (Bool → R) → R
 judge host None x s k = host.fail NotTruth x [] s
 judge host (Some t) x s k = k t
-
-abbrev pub truth_text : Bool → List ℕ
-truth_text true = codes "1"
-truth_text false = codes "0"
 
 -- how an operator uses its right operand
 abbrev pub joining : Infix → Joins

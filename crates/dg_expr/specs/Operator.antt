@@ -1,5 +1,5 @@
 -- The values of operators.
-use Rattle.std.specs.Prelude.{ℕ, zero, suc, ◌^◌, ℤ, pos, negsuc, neg_ℤ, ◌+ℤ◌, ◌-ℤ◌, ◌*ℤ◌, List, Bool, true, false, not, Option, None, Some, Result, Ok, Err, nat_eq, nat_lt, codes, if◌then◌else◌}
+use Rattle.std.specs.Prelude.{ℕ, zero, suc, ◌^◌, ℤ, pos, negsuc, neg_ℤ, ◌+ℤ◌, ◌-ℤ◌, ◌*ℤ◌, List, Bool, true, false, not, Option, None, Some, Result, Ok, Err, nat_eq, nat_lt, if◌then◌else◌}
 use Rattle.std.specs.Int.{w64, int_bit_and, int_bit_or, int_bit_xor, int_bit_not, int_div_euclid, int_rem_euclid, int_shr}
 use Rattle.std.specs.List.{list_any}
 use Rattle.std.specs.declared.cmp.Ordering.{Ordering}
@@ -15,7 +15,7 @@ use Rattle.dg_expr.specs.declared.operator.Infix.TheVariants as between
 use Rattle.dg_expr.specs.declared.operator.Prefix.{Prefix}
 use Rattle.dg_expr.specs.declared.operator.Prefix.TheVariants as before
 use Rattle.dg_expr.specs.Number.{number_of, decimal_text}
-use Rattle.dg_expr.specs.Truth.{truth_of}
+use Rattle.dg_expr.specs.Truth.{truth_of, truth_text}
 
 -- a text, or one fault
 abbrev pub Value : Type 0
@@ -30,8 +30,7 @@ abbrev pub number_value : ℤ → Value
 number_value z = if fits z then Ok (decimal_text z) else Err TooLarge
 
 abbrev pub truth_value : Bool → Value
-truth_value true = Ok (codes "1")
-truth_value false = Ok (codes "0")
+truth_value holds = Ok (truth_text holds)
 
 -- division that rounds down, and what it leaves, which has the divisor's sign: the divisor isn't 0
 abbrev pub quotient : ℤ → ℤ → ℤ

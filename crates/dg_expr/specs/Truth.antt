@@ -37,3 +37,8 @@ number_or_word None w = w
 -- The truth of a text, if it has one: of a number that it isn't 0, else of a word.
 unfoldable pub truth_of : List ℕ → Option Bool
 truth_of text = number_or_word (number_of text) (word_truth text)
+
+-- a truth as a value
+abbrev pub truth_text : Bool → List ℕ
+truth_text true = codes "1"
+truth_text false = codes "0"

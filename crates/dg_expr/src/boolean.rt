@@ -1,6 +1,6 @@
 //! The truth of texts.
 ghost use Rattle.std.specs.Prelude.{◌≡◌, ◌∷◌, [], MatchResult, Some, None};
-ghost use Rattle.dg_expr.specs.Truth.{beginning, begins, told, truth_of, word_truth};
+ghost use Rattle.dg_expr.specs.Truth.{beginning, begins, told, truth_of, truth_text, word_truth};
 
 use crate::fault::ExprFault;
 use crate::whole::number;
@@ -68,4 +68,11 @@ pub fn truth(text: &[u8]) -> Result<bool, ExprFault>
         None => word_truth(text),
     };
     told.ok_or(ExprFault::NotTruth)
+}
+
+/// A truth as a value: `1` or `0`.
+pub fn truth_text(holds: bool) -> &'static [u8]
+    ensures { result.now ≡ truth_text holds }
+{
+    if holds { b"1" } else { b"0" }
 }

@@ -13,7 +13,7 @@ mod tree;
 mod value;
 mod whole;
 
-pub use crate::boolean::truth;
+pub use crate::boolean::{truth, truth_text};
 pub use crate::code::{Instruction, code_runs, compile};
 pub use crate::fault::{ExprFault, Side};
 pub use crate::operator::{Infix, Prefix};

@@ -8,7 +8,7 @@ ghost use Rattle.dg_expr.specs.Number.{decimal_text, number_of};
 ghost use Rattle.dg_expr.specs.Operator.{and_then, denied, divided, found_in, is_same, number_value, of_whole, of_wholes, or_else, order_of, quotient, remainder, shifted_left, shifted_right, truly, truth_value, value_of, value_of_one};
 ghost use Rattle.dg_expr.specs.Truth.{truth_of};
 
-use crate::boolean::truth;
+use crate::boolean::{truth, truth_text};
 use crate::fault::{ExprFault, Side};
 use crate::operator::{Infix, Prefix};
 use crate::whole::number;
@@ -35,11 +35,7 @@ fn number_value(alloc: Global, value: i128) -> Result<Bytes, ExprFault>
 fn truth_value(alloc: Global, truth: bool) -> Result<Bytes, ExprFault>
     ensures { Gives (truth_value truth) result }
 {
-    if truth {
-        Ok(Bytes::from_slice(alloc, b"1")?)
-    } else {
-        Ok(Bytes::from_slice(alloc, b"0")?)
-    }
+    Ok(Bytes::from_slice(alloc, truth_text(truth))?)
 }
 
 /// Two whole numbers, or the side of the first operand that is none.

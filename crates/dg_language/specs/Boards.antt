@@ -4,6 +4,7 @@ use Rattle.std.specs.Cmp.Lexicographic.{pointwise}
 use Rattle.std.specs.List.{list_any}
 use Rattle.std.specs.FinMap as map
 use Rattle.dg_cmds.specs.Places.{glob_matches}
+use Rattle.dg_expr.specs.Truth.{truth_text}
 use Rattle.dg_results.specs.Calls.{Call, CallSetupXfail, CallClearXfail, CallSetupKfail, CallClearKfail}
 use Rattle.dg_world.specs.Name.{is_name}
 use Rattle.dg_world.specs.declared.question.Machine.{Machine}
@@ -20,9 +21,8 @@ use Rattle.dg_language.specs.declared.command.FlagCommand.{FlagCommand}
 use Rattle.dg_language.specs.declared.command.FlagCommand.TheVariants.{SetupXfail, SetupKfail, ClearXfail, ClearKfail}
 use Rattle.dg_language.specs.Play.{Play}
 use Rattle.dg_language.specs.State.{State, with_call, in_library, setting_of, with_setting, without_setting, departed}
-use Rattle.dg_language.specs.Evaluation.{Ending, Then, Nested, ask, fail, if_done, on, one_of, first_of, outside, quoted, wrong_count}
-use Rattle.dg_language.specs.Variables.{or_empty, digit}
-use Rattle.dg_language.specs.Choosing.{two_of}
+use Rattle.dg_language.specs.Evaluation.{Ending, Then, Nested, ask, fail, if_done, on, one_of, two_of, first_of, outside, quoted, wrong_count}
+use Rattle.dg_language.specs.Variables.{or_empty}
 
 -- `set_board_info key value`: a key that has a setting keeps it
 unfoldable pub do_set_board_info : List (List ℕ) → State → Then → Play Ending
@@ -44,7 +44,7 @@ abbrev pub told_of : List (List ℕ) → State → Option (List ℕ)
 told_of [] s = None
 told_of (key ∷ []) s = Some (or_empty (setting_of key s))
 told_of (word ∷ key ∷ []) s =
-    elim (pointwise nat_eq word (codes "exists")) [ true ↦ Some (digit (is_some (setting_of key s))) | false ↦ None ]
+    elim (pointwise nat_eq word (codes "exists")) [ true ↦ Some (truth_text (is_some (setting_of key s))) | false ↦ None ]
 told_of (_ ∷ _ ∷ _ ∷ _) s = None
 
 -- `target_info key` and `target_info exists key`
@@ -116,12 +116,12 @@ triplet_of _ = []
 unfoldable pub do_is : Machine → List ℕ → List (List ℕ) → State → Then → Play Ending
 do_is m name args s k =
     on (one_of args) (fail (wrong_count name) s k) (λ p.
-    ask (Triplet m) s (λ a s'. k Done (digit (glob_matches p (triplet_of a))) s'))
+    ask (Triplet m) s (λ a s'. k Done (truth_text (glob_matches p (triplet_of a))) s'))
 
 -- `isnative`: whether the tests run where they were built
 unfoldable pub do_is_native : List (List ℕ) → State → Then → Play Ending
 do_is_native [] s k =
-    ask (Triplet Build) s (λ b s'. ask (Triplet Target) s' (λ t s''. k Done (digit (pointwise nat_eq (triplet_of b) (triplet_of t))) s''))
+    ask (Triplet Build) s (λ b s'. ask (Triplet Target) s' (λ t s''. k Done (truth_text (pointwise nat_eq (triplet_of b) (triplet_of t))) s''))
 do_is_native (_ ∷ _) s k = fail (wrong_count (codes "isnative")) s k
 
 -- a command on the machines' triplets

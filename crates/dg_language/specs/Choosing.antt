@@ -6,7 +6,7 @@ use Rattle.dg_language.specs.declared.clause.Clause.{Clause}
 use Rattle.dg_language.specs.declared.clause.Clauses.{Clauses}
 use Rattle.dg_language.specs.Play.{Play}
 use Rattle.dg_language.specs.State.{State}
-use Rattle.dg_language.specs.Evaluation.{Ending, Then, Nested, cut, tick, fail, if_done, loop_after, on, wrong_count}
+use Rattle.dg_language.specs.Evaluation.{Ending, Then, Nested, cut, tick, fail, if_done, loop_after, on, two_of, four_of, wrong_count}
 use Rattle.dg_language.specs.Expressions.{condition}
 
 -- a clause before others
@@ -83,21 +83,6 @@ unfoldable pub repeat : Nested → ℕ → List ℕ → Option (List ℕ) → Li
 repeat nested zero test next body s k = cut (codes "step limit reached") s
 repeat nested (suc r) test next body s k =
     tick s (λ t. condition nested test t (λ holds u. body_if holds nested body next (λ w. repeat nested r test next body w k) u k) k)
-
--- the only two of a list that has just two
-abbrev pub two_of : {A : Type 0} → List A → Option (A × A)
-two_of [] = None
-two_of (_ ∷ []) = None
-two_of (a ∷ b ∷ []) = Some (a, b)
-two_of (_ ∷ _ ∷ _ ∷ _) = None
-
-abbrev pub four_of : {A : Type 0} → List A → Option (A × A × A × A)
-four_of [] = None
-four_of (_ ∷ []) = None
-four_of (_ ∷ _ ∷ []) = None
-four_of (_ ∷ _ ∷ _ ∷ []) = None
-four_of (a ∷ b ∷ c ∷ d ∷ []) = Some (a, b, c, d)
-four_of (_ ∷ _ ∷ _ ∷ _ ∷ _ ∷ _) = None
 
 -- `while test body`
 unfoldable pub do_while : Nested → List (List ℕ) → State → Then → Play Ending

@@ -1,8 +1,8 @@
 -- What every evaluation is made of: its ends, its questions, its steps and its limits.
 use Rattle.std.specs.Prelude.{ℕ, true, false, Option, Some, None, List, [], ◌∷◌, ◌++◌, length, nat_lt, codes, Result, Ok, Err}
 use Rattle.dg_words.specs.Elements.{elements_of}
+use Rattle.dg_words.specs.Faults.{fault_text}
 use Rattle.dg_words.specs.declared.fault.WordFault.{WordFault}
-use Rattle.dg_words.specs.declared.fault.WordFault.TheVariants.{MissingBrace, MissingBracket, MissingQuote, AfterBrace, AfterQuote, ListBrace, ListQuote, ListAfter, Memory, MissingParen, BadCodePoint}
 use Rattle.dg_world.specs.declared.question.Question.{Question}
 use Rattle.dg_world.specs.declared.question.Answer.{Answer}
 use Rattle.dg_results.specs.declared.verdict.Line.{Line}
@@ -98,10 +98,12 @@ one_of [] = None
 one_of (a ∷ []) = Some a
 one_of (_ ∷ _ ∷ _) = None
 
--- the first of a list, and the others
-abbrev pub first_of : {A : Type 0} → List A → Option (A × List A)
-first_of [] = None
-first_of (a ∷ others) = Some (a, others)
+-- the only two of a list that has just two; three, and four
+abbrev pub two_of : {A : Type 0} → List A → Option (A × A)
+two_of [] = None
+two_of (_ ∷ []) = None
+two_of (a ∷ b ∷ []) = Some (a, b)
+two_of (_ ∷ _ ∷ _ ∷ _) = None
 
 abbrev pub three_of : {A : Type 0} → List A → Option (A × A × A)
 three_of [] = None
@@ -110,23 +112,22 @@ three_of (_ ∷ _ ∷ []) = None
 three_of (a ∷ b ∷ c ∷ []) = Some (a, b, c)
 three_of (_ ∷ _ ∷ _ ∷ _ ∷ _) = None
 
+abbrev pub four_of : {A : Type 0} → List A → Option (A × A × A × A)
+four_of [] = None
+four_of (_ ∷ []) = None
+four_of (_ ∷ _ ∷ []) = None
+four_of (_ ∷ _ ∷ _ ∷ []) = None
+four_of (a ∷ b ∷ c ∷ d ∷ []) = Some (a, b, c, d)
+four_of (_ ∷ _ ∷ _ ∷ _ ∷ _ ∷ _) = None
+
+-- the first of a list, and the others
+abbrev pub first_of : {A : Type 0} → List A → Option (A × List A)
+first_of [] = None
+first_of (a ∷ others) = Some (a, others)
+
 abbrev pub on : {A : Type 0} → Option A → Play Ending → (A → Play Ending) → Play Ending
 on None p f = p
 on (Some a) p f = f a
-
--- why a text can't be read
-abbrev pub fault_text : WordFault → List ℕ
-fault_text MissingBrace = codes "missing close-brace"
-fault_text MissingBracket = codes "missing close-bracket"
-fault_text MissingQuote = codes "missing \""
-fault_text AfterBrace = codes "extra characters after close-brace"
-fault_text AfterQuote = codes "extra characters after close-quote"
-fault_text ListBrace = codes "unmatched open brace in list"
-fault_text ListQuote = codes "unmatched open quote in list"
-fault_text ListAfter = codes "list element followed by more text"
-fault_text Memory = codes "out of memory"
-fault_text MissingParen = codes "missing )"
-fault_text BadCodePoint = codes "bad code point"
 
 abbrev pub or_message : Result (List (List ℕ)) WordFault → Result (List (List ℕ)) (List ℕ)
 or_message (Err fault) = Err (fault_text fault)

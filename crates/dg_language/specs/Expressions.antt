@@ -1,5 +1,6 @@
 -- Expressions inside an evaluation: expr(n), and the conditions of if(n), while(n) and for(n).
 use Rattle.std.specs.Prelude.{ℕ, ℤ, Bool, Option, Some, None, List, [], ◌∷◌, ◌++◌, length, map, codes, Result, Ok, Err}
+use Rattle.dg_words.specs.Faults.{fault_text}
 use Rattle.dg_words.specs.Piece.{Piece}
 use Rattle.dg_expr.specs.declared.fault.Side.{Side}
 use Rattle.dg_expr.specs.declared.fault.Side.TheVariants.{Left, Right}
@@ -16,7 +17,7 @@ use Rattle.dg_language.specs.declared.substitution.Substitution.{Substitution}
 use Rattle.dg_language.specs.declared.substitution.Substitution.TheVariants.{WordEnds}
 use Rattle.dg_language.specs.Play.{Play}
 use Rattle.dg_language.specs.State.{State}
-use Rattle.dg_language.specs.Evaluation.{Ending, Then, Nested, within, fail, if_done, quoted, wrong_count, fault_text}
+use Rattle.dg_language.specs.Evaluation.{Ending, Then, Nested, within, fail, if_done, quoted, wrong_count}
 use Rattle.dg_language.specs.Control.{head_or_empty}
 use Rattle.dg_language.specs.Words.{Act, substitution_of, gather}
 

@@ -2,6 +2,7 @@
 use Rattle.std.specs.Prelude.{ℕ, suc, zero, ◌-◌, Bool, true, false, ◌&&◌, Option, Some, None, List, [], ◌∷◌, ◌++◌, length, nat_eq, codes, Result, Ok, Err}
 use Rattle.std.specs.Cmp.Lexicographic.{pointwise}
 use Rattle.std.specs.FinMap as names
+use Rattle.dg_words.specs.Faults.{fault_text}
 use Rattle.dg_words.specs.Reading.{command_at}
 use Rattle.dg_words.specs.declared.word.Word.{Word}
 use Rattle.dg_words.specs.declared.fault.WordFault.{WordFault}
@@ -22,7 +23,7 @@ use Rattle.dg_language.specs.declared.substitution.Purpose.{Purpose}
 use Rattle.dg_language.specs.declared.substitution.Purpose.TheVariants.{Run, Load}
 use Rattle.dg_language.specs.Play.{Play}
 use Rattle.dg_language.specs.State.{State}
-use Rattle.dg_language.specs.Evaluation.{Ending, Then, Nested, cut, tick, fail, if_done, quoted, fault_text}
+use Rattle.dg_language.specs.Evaluation.{Ending, Then, Nested, cut, tick, fail, if_done, quoted}
 use Rattle.dg_language.specs.Results.{do_result}
 use Rattle.dg_language.specs.Variables.{do_variable}
 use Rattle.dg_language.specs.Procedures.{call}

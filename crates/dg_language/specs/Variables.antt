@@ -6,6 +6,7 @@ use Rattle.std.specs.FinMap as map
 use Rattle.dg_words.specs.Canonical.{text_of_list}
 use Rattle.dg_expr.specs.Number.{number_of, decimal_text}
 use Rattle.dg_expr.specs.Operator.{fits}
+use Rattle.dg_expr.specs.Truth.{truth_text}
 use Rattle.dg_scope.specs.Names.{global_name, has_index}
 use Rattle.dg_scope.specs.Scopes.{means_global, value_of}
 use Rattle.dg_world.specs.declared.question.Question.TheVariants.{Variable}
@@ -162,16 +163,12 @@ unset_names (n ∷ ns) = elim (pointwise nat_eq n (codes "-nocomplain")) [ true 
 unfoldable pub do_unset : List (List ℕ) → State → Then → Play Ending
 do_unset args s k = unset_all (unset_names args).0 (unset_names args).1 s k
 
-abbrev pub digit : Bool → List ℕ
-digit true = codes "1"
-digit false = codes "0"
-
 -- `info exists name`
 abbrev pub info_of : Bool → List (List ℕ) → State → Then → Play Ending
 info_of false args s k = fail (codes "unknown subcommand") s k
 info_of true args s k =
     on (one_of args) (fail (wrong_count (codes "info")) s k) (λ n.
-    touch n s (λ s'. k Done (digit (is_some (value_of s'.variables n))) s'))
+    touch n s (λ s'. k Done (truth_text (is_some (value_of s'.variables n))) s'))
 
 unfoldable pub do_info : List (List ℕ) → State → Then → Play Ending
 do_info args s k =

@@ -1,9 +1,10 @@
 //! What an evaluation has made so far.
-ghost use Rattle.std.specs.Prelude.{◌≡◌, ◌<◌, None, OnOk, IfOk, nat_lt};
+ghost use Rattle.std.specs.Prelude.{◌≡◌, ◌<◌, ◌≤◌, None, OnOk, IfOk, length, nat_lt};
 ghost use Rattle.std.specs.Option.{option_copied};
 ghost use Rattle.std.specs.FinMap as map;
-ghost use Rattle.dg_scope.specs.Scopes.{value_of, with_value};
+ghost use Rattle.dg_scope.specs.Scopes.{value_limit, value_of, with_value};
 ghost use Rattle.dg_language.specs.Variables.{is_to_begin, first_value, all_linked};
+ghost use Rattle.dg_language.specs.Procedures.{longest};
 ghost use Rattle.dg_language.specs.Touch.{Touches};
 ghost use Rattle.dg_language.specs.Calls.{call_of};
 ghost use Rattle.dg_results.specs.Standing.{after_calls};
@@ -13,7 +14,7 @@ use crate::procedure::{Binding, Procedure};
 use crate::reads::Reads;
 use dg_boards::BoardTable;
 use dg_results::Judging;
-use dg_scope::{LONGEST_VALUE, Scopes, Table, global_name, has_index};
+use dg_scope::{LONGEST_VALUE, ScopeFault, Scopes, Table, global_name, has_index};
 use dg_words::{Bytes, Seq, TryCopy};
 use dg_world::{Answer, Question, Read, TestId};
 use std::alloc::{AllocError, Global};
@@ -187,13 +188,24 @@ impl State {
     }
 }
 
+/// The one fault of a write whose value is no longer than a value may be: a growth was refused.
+fn refused(fault: ScopeFault) -> AllocError
+    requires { fault ≡ ScopeFault.Memory }
+{
+    match fault {
+        ScopeFault::Memory => AllocError,
+        ScopeFault::NoSuchVariable | ScopeFault::TooLong => unreachable!(),
+    }
+}
+
 /// Gives a variable a value, which is no longer than a value may be.
 fn write(variables: &mut Scopes, alloc: Global, name: &[u8], value: Bytes) -> Result<(), AllocError>
+    requires { length value ≤ value_limit }
     ensures { OnOk result (variables.new ≡ with_value variables.old name.now value) }
 {
     match variables.write(alloc, name, value) {
         Ok(()) => Ok(()),
-        Err(_) => Err(AllocError),
+        Err(fault) => Err(refused(fault)),
     }
 }
 
@@ -256,13 +268,14 @@ impl State {
 
     /// A global begins with a value, which is no longer than a value may be.
     fn begin_with(&mut self, alloc: Global, name: &[u8], value: Bytes) -> Result<(), AllocError>
+        requires { length value ≤ value_limit }
         ensures { OnOk result (self.new ≡ began_with name.now value self.old) }
     {
         self.begun.insert(alloc, name, ())?;
-        if self.variables.write_global(alloc, name, value).is_err() {
-            return Err(AllocError);
+        match self.variables.write_global(alloc, name, value) {
+            Ok(()) => Ok(()),
+            Err(fault) => Err(refused(fault)),
         }
-        Ok(())
     }
 
     /// The value of a variable, if it is set.
@@ -281,6 +294,7 @@ impl State {
 
     /// Gives a variable a value, which is no longer than a value may be.
     pub fn assign(&mut self, alloc: Global, name: &[u8], value: Bytes) -> Result<(), AllocError>
+        requires { length value ≤ value_limit }
         ensures { OnOk result (self.new ≡ assigned name.now value self.old) }
     {
         write(&mut self.variables, alloc, name, value)?;
@@ -337,6 +351,7 @@ impl State {
     /// A procedure's own scope begins, in which its parameters have these values, none longer than a value may be. Of equal
     /// names the first counts.
     pub fn enter(&mut self, alloc: Global, bindings: Seq<Binding>) -> Result<(), AllocError>
+        requires { longest bindings ≤ value_limit }
         ensures { OnOk result (self.new ≡ entered bindings self.old) }
     {
         self.variables.push(alloc)?;
@@ -400,7 +415,7 @@ impl State {
     pub fn enter_library(&mut self, alloc: Global, library: &[u8]) -> Result<(), AllocError>
         ensures { OnOk result (self.new ≡ in_library library.now self.old) }
     {
-        self.libraries.insert(alloc, library, ())?;
+        self.mark(alloc, library)?;
         self.variables.push_outermost()?;
         Ok(())
     }

@@ -17,7 +17,7 @@ use Rattle.dg_language.specs.declared.command.FlagCommand.{FlagCommand}
 use Rattle.dg_language.specs.Play.{Play, Asks, lookup}
 use Rattle.dg_language.specs.State.{State, learn, in_library, with_call}
 use Rattle.dg_language.specs.Evaluation.{Ending, Then, Nested, ask, fail, on, one_of, wrong_count}
-use Rattle.dg_language.specs.Variables.{digit}
+use Rattle.dg_expr.specs.Truth.{truth_text}
 use Rattle.dg_language.specs.Boards.{content_of, do_board_info, do_flag, do_is, do_is_native, do_load_lib, flag_call, flagged, found, is_pattern, library_file, load, load_named, told_by, told_of, triplet_of}
 use Rattle.dg_language.proofs.Asking.{ask-known, ask-asks, lookup-more}
 use Rattle.dg_machine.specs.declared.frame.FileText.TheVariants.{Unanswered, Known}
@@ -88,7 +88,7 @@ module _ (q : Question) (g : Answer → State → Then → Play Ending) (f : Sta
 
 -- what is told of a machine's triplet
 abbrev pub told_place : List ℕ → Answer → State → Then → Play Ending
-told_place p a s k = k Done (digit (glob_matches p (triplet_of a))) s
+told_place p a s k = k Done (truth_text (glob_matches p (triplet_of a))) s
 
 pub is-of : (m : Place) (name : List ℕ) (args : List (List ℕ)) (p : List ℕ) → Some p ≡ one_of args
     → do_is m name args ≡ (λ s k. ask (Triplet m) s (λ a t. told_place p a t k))
@@ -98,7 +98,7 @@ is-of m name args p e =
 
 -- whether the tests run where they were built
 abbrev pub told_native : Answer → Answer → State → Then → Play Ending
-told_native b t s k = k Done (digit (pointwise nat_eq (triplet_of b) (triplet_of t))) s
+told_native b t s k = k Done (truth_text (pointwise nat_eq (triplet_of b) (triplet_of t))) s
 
 abbrev pub native_on : Answer → State → Then → Play Ending
 native_on b s k = ask (Triplet Target) s (λ t s'. told_native b t s' k)

@@ -3,11 +3,11 @@ use Rattle.std.proofs.Common.{◌≡◌, ℕ, zero, suc, ◌+◌, ◌-◌, ◌*�
 use Rattle.std.proofs.lemmas.List.{append-nil}
 use Rattle.std.specs.Prelude.{Option, Some, None, Ok, Err, codes}
 use Rattle.dg_expr.proofs.Running.{runs}
-use Rattle.dg_expr.specs.Code.{below, code_of, judge, run, settle, top, truth_text, value}
+use Rattle.dg_expr.specs.Code.{below, code_of, judge, run, settle, top, value}
 use Rattle.dg_expr.specs.Operator.{Value, value_of, value_of_one}
 use Rattle.dg_expr.specs.Reading.{tree_in}
 use Rattle.dg_expr.specs.Tree.{Tree}
-use Rattle.dg_expr.specs.Truth.{truth_of}
+use Rattle.dg_expr.specs.Truth.{truth_of, truth_text}
 use Rattle.dg_expr.specs.declared.code.Instruction.{Instruction}
 use Rattle.dg_expr.specs.declared.code.Instruction.TheVariants as code
 use Rattle.dg_expr.specs.declared.operator.Infix.{Infix}

@@ -13,7 +13,8 @@ use Rattle.dg_world.specs.declared.question.Read.{Read}
 use Rattle.dg_language.specs.declared.command.Command.{Command}
 use Rattle.dg_language.specs.declared.substitution.Purpose.TheVariants.{Run}
 use Rattle.dg_language.specs.declared.command.Command.TheVariants.{Words, Unreadable}
-use Rattle.dg_language.specs.Evaluation.{Ending, Then, cut, aborted, fail, tick, if_done, fault_text}
+use Rattle.dg_words.specs.Faults.{fault_text}
+use Rattle.dg_language.specs.Evaluation.{Ending, Then, cut, aborted, fail, tick, if_done}
 use Rattle.dg_language.specs.Language.{command, sequence, evaluate, commands_at}
 use Rattle.dg_language.specs.Words.{gather, substitutions}
 use Rattle.dg_machine.specs.declared.frame.Frame.{Frame}

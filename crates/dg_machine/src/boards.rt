@@ -7,10 +7,9 @@ ghost use Rattle.dg_machine.specs.declared.frame.Control.{Control};
 ghost use Rattle.dg_machine.specs.Meaning.{all_back, weight_of, Goes, RunsAs};
 
 use crate::frame::{FileText, Frame, Pace};
-use crate::machine::{Machine, only, split};
-use crate::repeats::two;
+use crate::machine::Machine;
 use crate::step::outside;
-use dg_commands::{library_file, no_library, told_of};
+use dg_commands::{library_file, no_library, only, split, told_of, two};
 use dg_language::{BoardCommand, Code};
 use dg_words::{Bytes, TryCopy};
 use dg_world::{Name, is_name};

@@ -8,8 +8,8 @@ ghost use Rattle.dg_machine.specs.Choosing.{choosing};
 ghost use Rattle.dg_machine.specs.Meaning.{all_back, weight_of, Goes};
 
 use crate::frame::{Choice, Frame, Pace};
-use crate::machine::{Machine, split};
-use dg_commands::{clauses_of, concatenated, switched, truth_in};
+use crate::machine::Machine;
+use dg_commands::{clauses_of, concatenated, split, switched, truth_in};
 use dg_language::{ChoiceCommand, Clause, Clauses, Code, Queue};
 use dg_words::Bytes;
 use std::alloc::{AllocError, Global};

@@ -8,10 +8,11 @@ ghost use Rattle.dg_machine.specs.declared.frame.Control.{Control};
 ghost use Rattle.dg_machine.specs.Meaning.{all_back, weight_of, looping, Comes, Goes, RunsAs};
 
 use crate::frame::{Frame, Pace, Rounds};
-use crate::machine::{Machine, VALUE, three};
+use crate::machine::Machine;
 use crate::script::Body;
-use dg_commands::elements_in;
+use dg_commands::{elements_in, three};
 use dg_language::{Code, ControlCommand, Queue, STEPS};
+use dg_scope::LONGEST_VALUE;
 use dg_words::{Bytes, Seq, TryCopy};
 use std::alloc::{AllocError, Global};
 
@@ -140,7 +141,7 @@ impl Machine {
         requires { self.old.control ≡ Control.Go }
         ensures { IfOk result (λ p. Goes (within (length value) self.old.state (all_back self.old.stack Code.Done (digit_of code) (assigned name.now value self.old.state))) self.old.state.known (weight_of self.old + 4) self.new p) }
     {
-        if value.len() > VALUE {
+        if value.len() > LONGEST_VALUE {
             let verdict = self.cut(alloc, b"value too long")?;
             return Ok(Pace::Over(verdict));
         }

@@ -7,9 +7,9 @@ ghost use Rattle.dg_machine.specs.declared.frame.Control.{Control};
 ghost use Rattle.dg_machine.specs.Meaning.{all_back, weight_of, budget, Comes, Goes, RunsAs};
 
 use crate::frame::{Frame, Making, Pace};
-use crate::machine::{Machine, split};
+use crate::machine::Machine;
 use dg_cmds::{CmdFault, run_pure};
-use dg_commands::{bindings, find_builtin, invalid_command};
+use dg_commands::{bindings, find_builtin, invalid_command, split};
 use dg_language::{Builtin, Code, Purpose};
 use dg_words::{Bytes, Seq, TryCopy};
 use std::alloc::{AllocError, Global};

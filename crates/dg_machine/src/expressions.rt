@@ -1,6 +1,6 @@
 //! How an expression is computed, an instruction at a time.
 ghost use Rattle.std.specs.Prelude.{◌≡◌, ◌+◌, ◌*◌, ◌^◌, ◌<◌, ◌∷◌, [], IfOk, length};
-ghost use Rattle.dg_expr.specs.Code.{below, top, truth_text};
+ghost use Rattle.dg_expr.specs.Code.{below, top};
 ghost use Rattle.dg_expr.specs.Truth.{truth_of};
 ghost use Rattle.dg_expr.specs.declared.code.Instruction.{Instruction as Step};
 ghost use Rattle.dg_language.specs.Evaluation.{if_done};
@@ -11,13 +11,14 @@ ghost use Rattle.dg_machine.specs.Choosing.{calculating, calculating_on, calcula
 ghost use Rattle.dg_machine.specs.Meaning.{all_back, weight_of, Goes};
 
 use crate::frame::{Calculation, Frame, Making, Pace, Stack};
-use crate::machine::{Machine, VALUE, split};
+use crate::machine::Machine;
 use dg_commands::{
-    code_of, in_decimal, operand_of, syntax_error, truth_in, value_behind, value_between,
+    code_of, in_decimal, operand_of, split, syntax_error, truth_in, value_behind, value_between,
     with_spaces,
 };
-use dg_expr::{Infix, Instruction, Prefix};
+use dg_expr::{Infix, Instruction, Prefix, truth_text};
 use dg_language::{Code, Purpose};
+use dg_scope::LONGEST_VALUE;
 use dg_words::{Bytes, Parts, Seq};
 use std::alloc::{AllocError, Global};
 
@@ -39,13 +40,6 @@ fn take_truth(alloc: Global, values: &mut Stack<Bytes>) -> Result<Result<bool, B
 {
     let value = take_top(alloc, values);
     truth_in(alloc, value.as_slice())
-}
-
-/// `1` or `0`.
-fn truth_text(holds: bool) -> &'static [u8]
-    ensures { result.now ≡ truth_text holds }
-{
-    if holds { b"1" } else { b"0" }
 }
 
 impl Machine {
@@ -334,7 +328,7 @@ impl Machine {
             return Ok(self.wrong_count(alloc, b"expr")?);
         };
         let text = with_spaces(alloc, first.as_slice(), others)?;
-        if text.len() > VALUE {
+        if text.len() > LONGEST_VALUE {
             let verdict = self.cut(alloc, b"value too long")?;
             return Ok(Pace::Over(verdict));
         }

@@ -12,7 +12,7 @@ use std::marker::Model;
 
 /// Words in the making.
 #[derive(Drop)]
-pub struct Making {
+pub(crate) struct Making {
     /// What the words are for.
     pub purpose: Purpose,
     /// The words that are made.
@@ -27,7 +27,7 @@ pub struct Making {
 
 /// The rounds of a loop over values.
 #[derive(Drop)]
-pub struct Rounds {
+pub(crate) struct Rounds {
     /// The names that get the values of a round.
     pub names: Seq<Bytes>,
     pub body: Body,
@@ -42,7 +42,7 @@ pub struct Rounds {
 
 /// The code of an expression, on a stack of values.
 #[derive(Drop)]
-pub struct Calculation {
+pub(crate) struct Calculation {
     pub values: Stack<Bytes>,
     /// How many of the instructions that are left are passed over.
     pub passed: usize,
@@ -53,7 +53,7 @@ pub struct Calculation {
 
 /// An `if` whose condition is computed.
 #[derive(Drop)]
-pub struct Choice {
+pub(crate) struct Choice {
     /// What runs where the condition is true.
     pub body: Bytes,
     /// The clauses that are left.
@@ -65,7 +65,7 @@ pub struct Choice {
 
 /// What of a loop over a condition runs.
 #[derive(Clone, Copy, Debug, PartialEq, Eq)]
-pub enum Stage {
+pub(crate) enum Stage {
     /// The first script of `for`.
     Start,
     Test,
@@ -76,7 +76,7 @@ pub enum Stage {
 
 /// A loop over a condition.
 #[derive(Drop)]
-pub struct Repetition {
+pub(crate) struct Repetition {
     pub stage: Stage,
     pub test: Bytes,
     /// The third script of `for`.
@@ -89,7 +89,7 @@ pub struct Repetition {
 
 /// What is opened for a test, in this order.
 #[derive(Drop)]
-pub enum Opening {
+pub(crate) enum Opening {
     /// The board's file.
     Board,
     /// The board's file has been evaluated, or there is none.
@@ -104,7 +104,7 @@ pub enum Opening {
 
 /// What is known of a file.
 #[derive(Drop)]
-pub enum FileText {
+pub(crate) enum FileText {
     /// This question has no answer yet.
     Unanswered(Question),
     /// The bytes of the file, if there is one.
@@ -113,7 +113,7 @@ pub enum FileText {
 
 /// What is done when its turn comes, or when what stands inside of it has ended.
 #[derive(Drop)]
-pub enum Frame {
+pub(crate) enum Frame {
     /// A file of the test is opened.
     Opening {
         what: Opening,
@@ -172,14 +172,14 @@ pub enum Frame {
 
 /// Whether the inmost frame is to go on, or gets what ended inside of it.
 #[derive(Drop)]
-pub enum Control {
+pub(crate) enum Control {
     Go,
     Ended { code: Code, value: Bytes },
 }
 
 /// What one move of a machine came to.
 #[derive(Drop)]
-pub enum Pace {
+pub(crate) enum Pace {
     /// There is more to do.
     Moved,
     /// This question has no answer yet; nothing was changed.
@@ -190,7 +190,7 @@ pub enum Pace {
 
 /// Where a machine comes to by itself.
 #[derive(Drop)]
-pub enum Stop {
+pub(crate) enum Stop {
     /// This question has no answer yet.
     AtQuestion(Question),
     /// All has ended with this verdict.
@@ -199,7 +199,7 @@ pub enum Stop {
 
 /// Values of which the last that was put is on top. A contract sees the top first.
 #[derive(Drop)]
-pub struct Stack<T> {
+pub(crate) struct Stack<T> {
     items: Vec<T>,
 }
 

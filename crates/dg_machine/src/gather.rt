@@ -9,10 +9,11 @@ ghost use Rattle.dg_machine.specs.declared.frame.Control.{Control};
 ghost use Rattle.dg_machine.specs.Meaning.{all_back, weight_of, making_on, making_with, budget, reading, outside_index, Comes, Goes};
 
 use crate::frame::{Frame, Making, Pace};
-use crate::machine::{Machine, VALUE};
+use crate::machine::Machine;
 use crate::variables::push_all;
 use dg_commands::{cannot_read, elements_in};
 use dg_language::Substitution;
+use dg_scope::LONGEST_VALUE;
 use dg_words::Bytes;
 use std::alloc::{AllocError, Global};
 use std::mem;
@@ -39,7 +40,7 @@ fn make_texts(alloc: Global, making: &mut Making) -> Result<(), AllocError>
         match step {
             Substitution::Literal(text) => {
                 let length = text.len();
-                if length > VALUE || making.text.len() > VALUE - length {
+                if length > LONGEST_VALUE || making.text.len() > LONGEST_VALUE - length {
                     making.left.push_front(Substitution::Literal(text))?;
                     return Ok(());
                 }
@@ -85,7 +86,7 @@ impl Machine {
         ensures { IfOk result (λ p. Goes (making_with making depth value self.old.state (all_back self.old.stack)) self.old.state.known (weight_of self.old + budget making.purpose + 5 + 4 * length making.left) self.new p) }
     {
         let length = value.len();
-        if length > VALUE || making.text.len() > VALUE - length {
+        if length > LONGEST_VALUE || making.text.len() > LONGEST_VALUE - length {
             let verdict = self.cut(alloc, b"value too long")?;
             return Ok(Pace::Over(verdict));
         }

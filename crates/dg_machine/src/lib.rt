@@ -22,9 +22,3 @@ mod targets;
 mod variables;
 
 pub use crate::evaluation::{Arrival, Asking, Ended, Evaluation};
-pub use crate::frame::{
-    Calculation, Choice, Control, FileText, Frame, Making, Opening, Pace, Repetition, Rounds,
-    Stack, Stage, Stop,
-};
-pub use crate::machine::Machine;
-pub use crate::script::{Begun, Body, Script};

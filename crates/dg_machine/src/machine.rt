@@ -1,7 +1,7 @@
 //! A stopped evaluation, and how its commands begin and end.
 ghost use Rattle.std.specs.Prelude.{◌≡◌, ◌+◌, ◌*◌, ◌^◌, ◌<◌, ◌≤◌, ◌∷◌, ◌++◌, [], length, IfOk, codes, OnOk, MatchOption, ℕ, List};
 ghost use Rattle.std.specs.Option.{option_copied};
-ghost use Rattle.dg_language.specs.Evaluation.{cut, fail, one_of, first_of, three_of, wrong_count};
+ghost use Rattle.dg_language.specs.Evaluation.{cut, fail, wrong_count};
 ghost use Rattle.dg_language.specs.State.{taken};
 ghost use Rattle.dg_language.specs.Variables.{store};
 ghost use Rattle.dg_language.specs.Language.{commands_at, sequence, evaluate};
@@ -9,17 +9,15 @@ ghost use Rattle.dg_machine.specs.Meaning.{all_back, weight_of, ends_with, Begin
 
 use crate::frame::{Control, Frame, Making, Pace, Stack};
 use crate::script::{Begun, Script};
-use dg_commands::{fault_text, wrong_count};
+use dg_commands::wrong_count;
 use dg_language::{Code, Purpose, Queue, State, Substitution, Touch};
 use dg_results::Verdict;
-use dg_words::{Bytes, Seq, TryCopy};
+use dg_scope::LONGEST_VALUE;
+use dg_words::{Bytes, Seq, TryCopy, fault_text};
 use std::alloc::{AllocError, Global};
 
-/// The most bytes of a value.
-pub(crate) const VALUE: usize = 1_048_576;
-
 /// A stopped evaluation.
-pub struct Machine {
+pub(crate) struct Machine {
     pub state: State,
     pub stack: Stack<Frame>,
     pub control: Control,
@@ -33,36 +31,6 @@ impl Drop for Machine {
             stack: _,
             control: _,
         } = self;
-    }
-}
-
-/// The only word, if there is just one.
-pub(crate) fn only(words: &[Bytes]) -> Option<&Bytes>
-    ensures { option_copied result ≡ one_of words.now }
-{
-    match words {
-        [word] => Some(word),
-        _ => None,
-    }
-}
-
-/// The first word and the others.
-pub(crate) fn split(words: &[Bytes]) -> Option<(&Bytes, &[Bytes])>
-    ensures { MatchOption result (words.now ≡ []) (λ p. words.now ≡ p.0.now ∷ p.1.now) }
-{
-    match words {
-        [] => None,
-        [first, others @ ..] => Some((first, others)),
-    }
-}
-
-/// The three words, if there are just three.
-pub(crate) fn three(words: &[Bytes]) -> Option<(&Bytes, &Bytes, &Bytes)>
-    ensures { MatchOption result (three_of words.now ≡ None) (λ p. words.now ≡ p.0.now ∷ p.1.now ∷ p.2.now ∷ []) }
-{
-    match words {
-        [one, two, three] => Some((one, two, three)),
-        _ => None,
     }
 }
 
@@ -103,7 +71,7 @@ impl Machine {
         requires { self.old.control ≡ Control.Go }
         ensures { IfOk result (λ p. Goes (fail message self.old.state (all_back self.old.stack)) self.old.state.known (weight_of self.old + 2) self.new p) }
     {
-        if message.len() > VALUE {
+        if message.len() > LONGEST_VALUE {
             let verdict = self.cut(alloc, b"value too long")?;
             return Ok(Pace::Over(verdict));
         }
@@ -147,7 +115,7 @@ impl Machine {
         requires { self.old.control ≡ Control.Go }
         ensures { IfOk result (λ p. Goes (store name.now value self.old.state (all_back self.old.stack)) self.old.state.known (weight_of self.old + 2) self.new p) }
     {
-        if value.len() > VALUE {
+        if value.len() > LONGEST_VALUE {
             let verdict = self.cut(alloc, b"value too long")?;
             return Ok(Pace::Over(verdict));
         }

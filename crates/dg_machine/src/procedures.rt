@@ -7,8 +7,8 @@ ghost use Rattle.dg_machine.specs.declared.frame.Control.{Control};
 ghost use Rattle.dg_machine.specs.Meaning.{all_back, weight_of, Goes};
 
 use crate::frame::{Frame, Pace};
-use crate::machine::{Machine, three};
-use dg_commands::{is_too_long, parameters_of};
+use crate::machine::Machine;
+use dg_commands::{is_too_long, parameters_of, three};
 use dg_language::{Binding, Code, Procedure};
 use dg_words::{Bytes, Seq, TryCopy};
 use std::alloc::{AllocError, Global};

@@ -1,6 +1,6 @@
 //! The loops over a condition: `while` and `for`.
 ghost use Rattle.std.specs.Prelude.{◌≡◌, ◌+◌, ◌*◌, ◌^◌, ◌<◌, ◌∷◌, [], IfOk, MatchOption, None, length};
-ghost use Rattle.dg_language.specs.Choosing.{do_for, do_while, four_of, two_of};
+ghost use Rattle.dg_language.specs.Choosing.{do_for, do_while};
 ghost use Rattle.dg_language.specs.Language.{evaluate};
 ghost use Rattle.dg_machine.specs.declared.frame.Control.{Control};
 ghost use Rattle.dg_machine.specs.declared.frame.Stage.{Stage};
@@ -10,30 +10,10 @@ ghost use Rattle.dg_machine.specs.Meaning.{all_back, weight_of, Goes};
 use crate::frame::{Frame, Pace, Repetition, Stage};
 use crate::machine::Machine;
 use crate::script::Body;
-use dg_commands::truth_in;
+use dg_commands::{four, truth_in, two};
 use dg_language::{Code, STEPS};
 use dg_words::{Bytes, TryCopy};
 use std::alloc::{AllocError, Global};
-
-/// The two words, if there are just two.
-pub(crate) fn two(words: &[Bytes]) -> Option<(&Bytes, &Bytes)>
-    ensures { MatchOption result (two_of words.now ≡ None) (λ p. words.now ≡ p.0.now ∷ p.1.now ∷ []) }
-{
-    match words {
-        [one, two] => Some((one, two)),
-        _ => None,
-    }
-}
-
-/// The four words, if there are just four.
-fn four(words: &[Bytes]) -> Option<(&Bytes, &Bytes, &Bytes, &Bytes)>
-    ensures { MatchOption result (four_of words.now ≡ None) (λ p. words.now ≡ p.0.now ∷ p.1.now ∷ p.2.now ∷ p.3.now ∷ []) }
-{
-    match words {
-        [one, two, three, four] => Some((one, two, three, four)),
-        _ => None,
-    }
-}
 
 impl Machine {
     /// The next test of a loop begins to be computed, if a step is left for it.

@@ -7,8 +7,9 @@ ghost use Rattle.dg_machine.specs.declared.frame.Control.{Control};
 ghost use Rattle.dg_machine.specs.Meaning.{all_back, weight_of, looping, next_round, round_body, Comes, Goes};
 
 use crate::frame::{Frame, Pace, Rounds};
-use crate::machine::{Machine, VALUE};
+use crate::machine::Machine;
 use dg_language::{Code, Queue};
+use dg_scope::LONGEST_VALUE;
 use dg_words::{Bytes, Seq, TryCopy};
 use std::alloc::{AllocError, Global};
 
@@ -67,7 +68,7 @@ impl Machine {
         ensures { IfOk result (λ p. Goes (within (length (head_or_empty rounds.values)) self.old.state (give_each (drop (at + 1) rounds.names) (behind_first rounds.values) (assigned name.now (head_or_empty rounds.values) self.old.state) (λ values t. round_body rounds values t (all_back self.old.stack)))) self.old.state.known (weight_of self.old + 9 + 4 * (length rounds.names - at)) self.new p) }
     {
         let value = take_first(alloc, &mut rounds.values);
-        if value.len() > VALUE {
+        if value.len() > LONGEST_VALUE {
             let verdict = self.cut(alloc, b"value too long")?;
             return Ok(Pace::Over(verdict));
         }

@@ -15,7 +15,7 @@ const KEPT: usize = 4096;
 
 /// A command that begins: the steps in which its words are made, or why it can't be read.
 #[derive(Drop)]
-pub enum Begun {
+pub(crate) enum Begun {
     Steps(Queue<Substitution>),
     Unreadable(WordFault),
 }
@@ -29,7 +29,7 @@ enum Source {
 
 /// Commands, and the place up to which they were taken. A contract sees those that are left.
 #[derive(Drop)]
-pub struct Script {
+pub(crate) struct Script {
     source: Source,
     at: usize,
 }
@@ -148,7 +148,7 @@ impl Script {
 /// A text that is evaluated again and again. Unless it is long its commands are read once. A contract
 /// sees the text.
 #[derive(Drop)]
-pub struct Body {
+pub(crate) struct Body {
     text: Bytes,
     commands: Option<Arc<Seq<Command>>>,
 }

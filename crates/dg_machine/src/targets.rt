@@ -5,9 +5,10 @@ ghost use Rattle.dg_machine.specs.declared.frame.Control.{Control};
 ghost use Rattle.dg_machine.specs.Meaning.{RunsAs};
 
 use crate::frame::Pace;
-use crate::machine::{Machine, only};
-use crate::variables::digit;
-use dg_commands::{any_pattern, flag_call, glob_matches, is_flagged, triplet_of};
+use crate::machine::Machine;
+use dg_cmds::glob_matches;
+use dg_commands::{any_pattern, flag_call, is_flagged, only, triplet_of};
+use dg_expr::truth_text;
 use dg_language::{Code, FlagCommand, TargetCommand};
 use dg_words::Bytes;
 use dg_world::{Machine as Place, Question};
@@ -34,7 +35,7 @@ impl Machine {
             return Ok(Pace::Stands(question));
         };
         let holds = glob_matches(pattern.as_slice(), triplet_of(answer));
-        let value = Bytes::from_slice(alloc, digit(holds))?;
+        let value = Bytes::from_slice(alloc, truth_text(holds))?;
         Ok(self.go_up(Code::Done, value))
     }
 
@@ -56,7 +57,7 @@ impl Machine {
             return Ok(Pace::Stands(question));
         };
         let holds = triplet_of(build) == triplet_of(target);
-        let value = Bytes::from_slice(alloc, digit(holds))?;
+        let value = Bytes::from_slice(alloc, truth_text(holds))?;
         Ok(self.go_up(Code::Done, value))
     }
 

@@ -2,14 +2,16 @@
 ghost use Rattle.std.specs.Prelude.{◌≡◌, ◌+◌, ◌*◌, ◌^◌, ◌<◌, ◌∷◌, ◌++◌, [], IfOk, OnOk, length, is_some};
 ghost use Rattle.std.specs.List.{concat};
 ghost use Rattle.std.specs.Option.{option_copied};
+ghost use Rattle.dg_expr.specs.Truth.{truth_text};
 ghost use Rattle.dg_scope.specs.Scopes.{value_of};
-ghost use Rattle.dg_language.specs.Variables.{digit, append_elements, add_number, or_empty, or_zero, store, touch, unset_all, unset_names, unset_one, do_append, do_global, do_incr, do_info, do_lappend, do_set, do_unset, do_variable};
+ghost use Rattle.dg_language.specs.Variables.{append_elements, add_number, or_empty, or_zero, store, touch, unset_all, unset_names, unset_one, do_append, do_global, do_incr, do_info, do_lappend, do_set, do_unset, do_variable};
 ghost use Rattle.dg_machine.specs.declared.frame.Control.{Control};
 ghost use Rattle.dg_machine.specs.Meaning.{all_back, weight_of, Comes, Goes, RunsAs};
 
 use crate::frame::{Frame, Pace};
-use crate::machine::{Machine, only, split};
-use dg_commands::{addend, cannot_unset, elements_in, increased, text_of};
+use crate::machine::Machine;
+use dg_commands::{addend, cannot_unset, elements_in, increased, only, split, text_of};
+use dg_expr::truth_text;
 use dg_language::{Code, Queue, VariableCommand};
 use dg_words::{Bytes, Seq, TryCopy};
 use std::alloc::{AllocError, Global};
@@ -204,13 +206,13 @@ impl Machine {
     #[tactic(auto, unfolding(crate::specs::Meaning::rest, crate::specs::Meaning::weight))]
     fn exists(&mut self, alloc: Global, name: &[u8]) -> Result<Pace, AllocError>
         requires { self.old.control ≡ Control.Go }
-        ensures { IfOk result (RunsAs (λ s k. touch name.now s (λ t. k Code.Done (digit (is_some (value_of t.variables name.now))) t)) self.old self.new) }
+        ensures { IfOk result (RunsAs (λ s k. touch name.now s (λ t. k Code.Done (truth_text (is_some (value_of t.variables name.now))) t)) self.old self.new) }
     {
         if let Some(pace) = self.ready(alloc, name)? {
             return Ok(pace);
         }
-        let digit = Bytes::from_slice(alloc, digit(self.state.is_set(name)))?;
-        self.end(Code::Done, digit);
+        let value = Bytes::from_slice(alloc, truth_text(self.state.is_set(name)))?;
+        self.end(Code::Done, value);
         Ok(Pace::Moved)
     }
 
@@ -337,13 +339,6 @@ impl Machine {
             VariableCommand::Global => Ok(self.global(alloc, args)?),
         }
     }
-}
-
-/// `1` or `0`.
-pub(crate) fn digit(holds: bool) -> &'static [u8]
-    ensures { result.now ≡ digit holds }
-{
-    if holds { b"1" } else { b"0" }
 }
 
 /// Whether an unset name is an error, and the names.

@@ -10,3 +10,4 @@ pub mod Answers
 pub mod Elements
 pub mod Canonical
 pub mod First
+pub mod Faults

@@ -1,6 +1,7 @@
 //! Why a text is not read.
 ghost use Rattle.std.specs.Prelude.{◌≡◌};
 ghost use Rattle.dg_words.specs.declared.fault.WordFault.TheVariants.{Memory};
+ghost use Rattle.dg_words.specs.Faults.{fault_text};
 
 use std::alloc::{AllocError, AllocFailed};
 use thiserror::Error;
@@ -56,5 +57,24 @@ impl<T: Drop> From<AllocFailed<T>> for WordFault {
 
     fn from(_e: AllocFailed<T>) -> WordFault {
         WordFault::Memory
+    }
+}
+
+/// The message of a script or a list that can't be read for this reason.
+pub fn fault_text(fault: WordFault) -> &'static [u8]
+    ensures { result.now ≡ fault_text fault }
+{
+    match fault {
+        WordFault::MissingBrace => b"missing close-brace",
+        WordFault::MissingBracket => b"missing close-bracket",
+        WordFault::MissingQuote => b"missing \"",
+        WordFault::AfterBrace => b"extra characters after close-brace",
+        WordFault::AfterQuote => b"extra characters after close-quote",
+        WordFault::ListBrace => b"unmatched open brace in list",
+        WordFault::ListQuote => b"unmatched open quote in list",
+        WordFault::ListAfter => b"list element followed by more text",
+        WordFault::Memory => b"out of memory",
+        WordFault::MissingParen => b"missing )",
+        WordFault::BadCodePoint => b"bad code point",
     }
 }

@@ -306,7 +306,7 @@ pub fn split_list(alloc: Global, text: &[u8]) -> Result<Seq<Bytes>, WordFault>
 }
 
 /// Blanks, newlines and `" { } [ ] $ ; \`.
-fn is_special(class: Class) -> bool
+pub(crate) fn is_special(class: Class) -> bool
     ensures { result ≡ is_special class }
 {
     matches!(
@@ -325,7 +325,7 @@ fn is_special(class: Class) -> bool
 }
 
 /// Whether no byte is special.
-fn is_plain(element: &[u8]) -> bool
+pub(crate) fn is_plain(element: &[u8]) -> bool
     ensures { result ≡ is_plain element.now }
 {
     for byte in element {
@@ -353,7 +353,7 @@ fn brace_step(paired: bool, depth: u64, class: Class) -> Option<(bool, u64)>
 }
 
 /// Whether the element can stand in braces as it is.
-fn may_be_braced(element: &[u8]) -> bool
+pub(crate) fn may_be_braced(element: &[u8]) -> bool
     ensures { result ≡ may_be_braced false 0 element.now }
 {
     let mut paired = false;
@@ -368,7 +368,7 @@ fn may_be_braced(element: &[u8]) -> bool
     !paired && depth == 0
 }
 
-fn begins_with_hash(element: &[u8]) -> bool
+pub(crate) fn begins_with_hash(element: &[u8]) -> bool
     ensures { result ≡ begins_with_hash element.now }
 {
     match element {

@@ -1,5 +1,6 @@
-use Rattle.std.proofs.Common.{◌≡◌, length}
+use Rattle.std.proofs.Common.{◌≡◌, ◌≤◌, length}
 use Rattle.dg_scope.specs.Scopes.{with_scope}
+use Rattle.dg_language.specs.Procedures.{longest}
 use Rattle.dg_language.specs.State.{bound}
 use Rattle.dg_language.proofs.state.State.enter.Given as goal
 
@@ -10,6 +11,7 @@ invariant-loop-name l =
     × (l.self-inside.earlier ≡ l.fn.self.earlier) × (l.self-inside.steps ≡ l.fn.self.steps)
     × (l.self-inside.libraries ≡ l.fn.self.libraries) × (l.self-inside.board ≡ l.fn.self.settings)
     × (l.self-inside.known ≡ l.fn.self.known) × (l.self-inside.begun ≡ l.fn.self.begun) × (l.self-inside.procedures ≡ l.fn.self.procedures)
+    × (longest l.left.items ≤ 1048576)
 
 abbrev pub decreases-loop-name : goal.decreases-loop-name
 decreases-loop-name l = length l.left.items

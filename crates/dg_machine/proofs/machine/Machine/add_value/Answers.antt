@@ -2,15 +2,15 @@ use Rattle.std.proofs.Common.{◌+◌, ◌<◌, ◌≤◌, ◌∙◌, length, re
 use Rattle.dg_machine.specs.Meaning.{go, rest}
 use Rattle.dg_language.proofs.TouchLemmas.{within-short, within-long}
 use Rattle.dg_machine.proofs.GatherLemmas.{weight-gathering}
-use Rattle.dg_machine.proofs.machine.Machine.add_value.Goals.{then-length-gt-VALUE-via-then-length-gt-VALUE, then-length-gt-VALUE-via-else-length-gt-VALUE+then-len-length}
+use Rattle.dg_machine.proofs.machine.Machine.add_value.Goals.{then-length-gt-LONGEST_VALUE-via-then-length-gt-LONGEST_VALUE, then-length-gt-LONGEST_VALUE-via-else-length-gt-LONGEST_VALUE+then-len-length}
 use Rattle.dg_machine.proofs.machine.Machine.add_value.Goals as goal
 
-pub returns-then-length-gt-VALUE : goal.returns-then-length-gt-VALUE
-returns-then-length-gt-VALUE c =
+pub returns-then-length-gt-LONGEST_VALUE : goal.returns-then-length-gt-LONGEST_VALUE
+returns-then-length-gt-LONGEST_VALUE c =
     let long : 1048576 < length c.args.making.text + length c.args.value =
-    elim c.then-length-gt-VALUE.branch [
-      | then-length-gt-VALUE-via-then-length-gt-VALUE w ↦ omega arith
-      | then-length-gt-VALUE-via-else-length-gt-VALUE+then-len-length w ↦ omega arith
+    elim c.then-length-gt-LONGEST_VALUE.branch [
+      | then-length-gt-LONGEST_VALUE-via-then-length-gt-LONGEST_VALUE w ↦ omega arith
+      | then-length-gt-LONGEST_VALUE-via-else-length-gt-LONGEST_VALUE+then-len-length w ↦ omega arith
     ] in
     rw c.cut.ensures.same (within-long _ _ _ long ∙ c.in_ok-verdict.ensures.ends, refl)
 

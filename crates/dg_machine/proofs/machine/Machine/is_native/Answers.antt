@@ -21,7 +21,7 @@ returns-in_default-answer_to c =
 pub returns : goal.returns
 returns c =
     let empty = empty-if c.args.args.now (sym c.is_empty.ensures ∙ c.if-not-is_empty.false) in
-    let went = rw (c.in_ok-value.ensures, c.digit.ensures, c.eq-holds.ensures, c.triplet_of.ensures, c.triplet_of-2.ensures) at c.go_up.ensures in
+    let went = rw (c.in_ok-value.ensures, c.truth_text.ensures, c.eq-holds.ensures, c.triplet_of.ensures, c.triplet_of-2.ensures) at c.go_up.ensures in
     Goes-runs _ _ _ (λ s. do_is_native c.args.args.now s (all_back c.args.self.now.stack)) _ _ _ _ went
     (native-known c.args.args.now empty c.in-Some.build.now c.args.self.now.state (all_back c.args.self.now.stack) c.in-Some-answer_to.target.now (sym c.in-Some.ensures)
     (sym c.in-Some-answer_to.ensures))

@@ -12,7 +12,7 @@ returns-in_default-answer_to c =
 
 pub returns : goal.returns
 returns c =
-    let went = rw (c.in_ok-value.ensures, c.digit.ensures, c.glob_matches-holds.ensures, c.as_slice.ensures, c.triplet_of.ensures) at c.go_up.ensures in
+    let went = rw (c.in_ok-value.ensures, c.truth_text.ensures, c.glob_matches-holds.ensures.value, c.as_slice.ensures, c.triplet_of.ensures) at c.go_up.ensures in
     let f = do_is c.args.place c.args.name.now c.args.args.now in
     Goes-runs _ _ _ (λ s. f s (all_back c.args.self.now.stack)) _ _ _ _ went
     (goes-with _ (told_place c.in-Some.pattern.now) f (is-of _ _ _ _ c.in-Some.ensures) c.args.self.now.state (all_back c.args.self.now.stack) _ (sym c.in-Some-answer_to.ensures))
