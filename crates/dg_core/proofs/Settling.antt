@@ -17,7 +17,9 @@ use Rattle.dg_core.specs.Core.{CoreView, holds, holds_if_kept, is_held, pending,
 use Rattle.dg_core.specs.Scratch.{judged, and_judged, all_judged, IsJudged}
 use Rattle.std.proofs.lemmas.List.Elements.{filter_more}
 use Rattle.dg_core.specs.Core.{unheld}
-use Rattle.dg_core.proofs.Holding.{agree, same_answer-refl, same_answer-true as true-answer, and_both, both}
+use Rattle.dg_core.proofs.Holding.{agree}
+use Rattle.dg_world.proofs.AnswerLemmas.{same_answer-refl, same_answer-true}
+use Rattle.std.proofs.lemmas.Bool.{and_parts, and_from}
 use Rattle.dg_core.proofs.Asking.{heard-look}
 
 some-equal : {A : Type 0} (a b : A) → Some a ≡ Some b → a ≡ b
@@ -49,7 +51,7 @@ pub agree-reads_in : {A : Type 0} (w : WorldView) (p : Play A) → agree w (read
 agree-reads_in w (Ends a) = refl
 agree-reads_in w (Asks q k) =
     ap (λ o. agree w (read_on q o (λ a. reads_in (answers_of w) (k a)))) (heard-look w q)
-    ∙ and_both _ _ (same_answer-refl (look w q) (look w q) refl) (agree-reads_in w (k (look w q)))
+    ∙ and_from _ _ (same_answer-refl (look w q) (look w q) refl) (agree-reads_in w (k (look w q)))
 
 record_in-holds : (w : WorldView) (t : TestId) → holds w (record_in w t) ≡ true
 unfolding record_in
@@ -183,8 +185,8 @@ held-at w s (u ∷ ts) (suc i) t h l e = held-at w s ts i t h.1 (omega arith) e
 gives-agree : (w : WorldView) (rs : List Read) → agree w rs ≡ true → Gives (answers_of w) rs
 gives-agree w [] h = tt
 gives-agree w (r ∷ rs) h =
-    let p = both _ _ h in
-    (heard-look w r.question ∙ ap Some (true-answer _ _ p.0), gives-agree w rs p.1)
+    let p = and_parts _ _ h in
+    (heard-look w r.question ∙ ap Some (same_answer-true _ _ p.0), gives-agree w rs p.1)
 
 -- the verdict of a kept record that holds is the one in this world
 pub verdict-held : (w : WorldView) (s : List RecordView) (t : TestId) (r : RecordView) → is_held w s t ≡ true → kept s t ≡ Some r → IsTrueRecord r.test r.reads r.verdict → r.test ≡ t

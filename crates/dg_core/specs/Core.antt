@@ -1,12 +1,10 @@
 -- A world, and the records that are kept of it.
-use Rattle.std.specs.Prelude.{◌≡◌, ◌≤◌, ℕ, ◌+◌, ◌-◌, ◌^◌, Bool, true, false, cond, not, min, Option, Some, None, Result, Ok, Err, List, [], ◌∷◌, length, take, nat_eq}
+use Rattle.std.specs.Prelude.{◌≡◌, ◌≤◌, ℕ, ◌+◌, ◌-◌, ◌^◌, Bool, true, false, cond, not, min, Option, Some, None, Result, Ok, Err, List, [], ◌∷◌, length, take}
 use Rattle.std.specs.List.{list_all, filter}
-use Rattle.std.specs.Cmp.Lexicographic.{pointwise}
+use Rattle.dg_world.specs.Question.{same_answer}
 use Rattle.dg_world.specs.World.{WorldView, new_world, edited, look, selected}
 use Rattle.dg_world.specs.declared.edit.Edit.{Edit}
 use Rattle.dg_world.specs.declared.refusal.Refusal.{Refusal}
-use Rattle.dg_world.specs.declared.question.Answer.{Answer}
-use Rattle.dg_world.specs.declared.question.Answer.TheVariants as answer
 use Rattle.dg_world.specs.declared.test_id.TestId.{TestId}
 use Rattle.dg_results.specs.declared.verdict.Line.{Line}
 use Rattle.dg_language.specs.Play.{reads_in}
@@ -22,16 +20,6 @@ pub record CoreView : Type 0 where
 
 abbrev pub new_core : CoreView
 new_core = record { world = new_world; shelf = []; evaluations = 0 }
-
--- whether two answers are the same
-abbrev pub same_answer : Answer → Answer → Bool
-same_answer answer.Absent answer.Absent = true
-same_answer (answer.Content a) (answer.Content b) = pointwise nat_eq a b
-same_answer (answer.Tool a) (answer.Tool b) = pointwise nat_eq a b
-same_answer (answer.Triplet a) (answer.Triplet b) = pointwise nat_eq a b
-same_answer answer.Unset answer.Unset = true
-same_answer (answer.Value a) (answer.Value b) = pointwise nat_eq a b
-same_answer _ _ = false
 
 -- whether each question that a record read still has its answer
 abbrev pub holds : WorldView → RecordView → Bool

@@ -1,11 +1,11 @@
 //! A world with the records that are kept of it.
-ghost use Rattle.std.specs.Prelude.{◌≡◌, ◌⊎◌, ◌++◌, [], Ok, Err, Some, true, IfOk, IfErr, OnOk, OnErr};
+ghost use Rattle.std.specs.Prelude.{◌≡◌, ◌⊎◌, ◌++◌, [], Ok, Err, Some, true, IfOk, IfErr, OnOk, OnErr, IsTrue};
 ghost use Rattle.dg_core.specs.Core.{new_core, pending, is_held, record_in, settled, counted, edited_core, unheld, with_judged, IsPartlySettled};
 ghost use Rattle.dg_core.specs.Scratch.{scratch, all_judged, IsJudged};
 ghost use Rattle.dg_core.specs.Reply.{Replies};
 ghost use Rattle.dg_records.specs.Truth.{answers_of};
 ghost use Rattle.dg_records.specs.Shelf.{with_record};
-ghost use Rattle.dg_world.specs.World.{selected};
+ghost use Rattle.dg_world.specs.World.{selected, takes_memory};
 
 use crate::evaluate::evaluate;
 use crate::reply::Reply;
@@ -63,10 +63,12 @@ impl Core {
         })
     }
 
-    /// Edits the world, or refuses the edit and changes nothing.
+    /// Edits the world, or refuses the edit and changes nothing. `Memory` only where a file is added that nothing else
+    /// refuses.
     pub fn edit(&mut self, alloc: Global, edit: Edit) -> Result<(), Refusal>
         ensures ok { OnOk result (edited_core self.old edit ≡ Ok self.new) }
         ensures which { IfErr result (λ r. (r ≡ Refusal.Memory) ⊎ (edited_core self.old edit ≡ Err r)) }
+        ensures memory { (result ≡ Err Refusal.Memory) → IsTrue (takes_memory self.old.world edit) }
         ensures err { OnErr result (self.new ≡ self.old) }
     {
         self.world.edit(alloc, edit)?;

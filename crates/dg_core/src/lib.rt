@@ -3,9 +3,11 @@
 
 mod evaluate;
 mod judging_core;
+mod law;
 mod reply;
 #[cfg(test)]
 mod tests;
 
 pub use crate::judging_core::{Core, CoreFault};
+pub use crate::law::unread_changes_leave_the_pending;
 pub use crate::reply::Reply;

@@ -1,7 +1,7 @@
 -- Counts of lists that follow one another.
-use Rattle.std.proofs.Common.{◌≡◌, ◌∙◌, sym, ◌+◌, ◌<◌, ◌≤◌, ◌^◌, ap, ℕ, Bool, List, [], ◌∷◌, ◌++◌, length, take, get_or, arith, length-append, refl}
-use Rattle.std.specs.List.{flat_map, sum_by, count_by}
-use Rattle.std.proofs.lemmas.List.Sums.{count_by-le-length, sum_by-append}
+use Rattle.std.proofs.Common.{◌≡◌, ◌∙◌, sym, ◌+◌, ◌<◌, ◌^◌, ap, ℕ, List, ◌++◌, length, take, get_or, arith, refl}
+use Rattle.std.specs.List.{flat_map}
+use Rattle.std.proofs.lemmas.List.Sums.{count_by-le-length}
 use Rattle.std.proofs.lemmas.List.Folds.{length-flat_map-take}
 use Rattle.std.proofs.lemmas.Grind.{common_steps}
 use Rattle.dg_results.specs.Tally.{count_of, is_class, tally_of, sum_of, FitTogether}

@@ -23,6 +23,16 @@ same_question (Triplet a) (Triplet b) = same_machine a b
 same_question (Variable a) (Variable b) = same a b
 same_question _ _ = false
 
+-- whether two answers are the same
+abbrev pub same_answer : Answer → Answer → Bool
+same_answer answer.Absent answer.Absent = true
+same_answer (answer.Content a) (answer.Content b) = same a b
+same_answer (answer.Tool a) (answer.Tool b) = same a b
+same_answer (answer.Triplet a) (answer.Triplet b) = same a b
+same_answer answer.Unset answer.Unset = true
+same_answer (answer.Value a) (answer.Value b) = same a b
+same_answer _ _ = false
+
 -- whether an answer is of the kind that a question has
 abbrev pub fits : Question → Answer → Bool
 fits (File n) answer.Absent = true

@@ -1,5 +1,5 @@
 -- Worlds, their edits, and what they answer.
-use Rattle.std.specs.Prelude.{ℕ, Bool, not, cond, ◌&&◌, nat_le, List, [], length, is_some}
+use Rattle.std.specs.Prelude.{ℕ, Bool, false, not, cond, ◌&&◌, nat_le, List, [], length, is_ok, is_some}
 use Rattle.std.specs.declared.option.Option.{Option}
 use Rattle.std.specs.declared.option.Option.TheVariants.{None, Some}
 use Rattle.std.specs.declared.result.Result.{Result}
@@ -81,6 +81,12 @@ edited w (RemoveFile name) =
     cond (not (is_name name)) (Err BadName)
     (cond (is_some (content_of w name)) (Ok (without_file w name)) (Err NoSuchFile))
 edited w (Select selection) = cond (is_selection selection) (Ok (record { files = w.files; selection = selection })) (Err BadSelection)
+
+-- whether an edit takes memory: only one that is made and adds a file does; bytes in the place of others, a removal and a selection take none
+abbrev pub takes_memory : WorldView → Edit → Bool
+takes_memory w (PutFile name bytes) = not (is_some (content_of w name)) && is_ok (edited w (PutFile name bytes))
+takes_memory w (RemoveFile name) = false
+takes_memory w (Select selection) = false
 
 -- the scripts that are run on each board, in byte order
 unfoldable pub scripts : WorldView → List (List ℕ)

@@ -1,6 +1,6 @@
 //! What an evaluation may ask, and what it is told.
 ghost use Rattle.std.specs.Prelude.{◌≡◌, IfOk, IsTrue, ◌↔◌};
-ghost use Rattle.dg_world.specs.Question.{fits, same_machine, same_question};
+ghost use Rattle.dg_world.specs.Question.{fits, same_answer, same_machine, same_question};
 
 use crate::name::Name;
 use dg_boards::Triplet;
@@ -118,7 +118,8 @@ impl Answer {
 
     /// Whether these are the same answer.
     pub fn is(&self, other: &Answer) -> bool
-        ensures { IsTrue result ↔ (self.now ≡ other.now) }
+        ensures test { result ≡ same_answer self.now other.now }
+        ensures equal { IsTrue result ↔ (self.now ≡ other.now) }
     {
         *self == *other
     }

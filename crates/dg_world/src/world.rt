@@ -1,5 +1,5 @@
 //! The world: files by name, and what is run.
-ghost use Rattle.std.specs.Prelude.{◌≡◌, ◌++◌, Some, IfOk, IfErr, OnOk, OnErr, IsTrue, ◌↔◌, ◌⊎◌, length};
+ghost use Rattle.std.specs.Prelude.{◌≡◌, ◌≢◌, ◌++◌, Some, Err, IfOk, IfErr, OnOk, OnErr, IsTrue, ◌↔◌, ◌⊎◌, length};
 ghost use Rattle.std.specs.List.Sorted.{IsStrictlySortedBy};
 ghost use Rattle.std.specs.Ordering.{nat_cmp};
 ghost use Rattle.std.specs.Cmp.Lexicographic.{slice_cmp};
@@ -49,7 +49,7 @@ impl Model for World {
 }
 
 impl World {
-    ghost use Rattle.dg_world.specs.World.{new_world, edited, look, selected, scripts, is_world};
+    ghost use Rattle.dg_world.specs.World.{new_world, edited, takes_memory, look, selected, scripts, is_world};
 
     /// A world with no files and the first selection.
     pub fn new(alloc: Global) -> Result<World, AllocError>
@@ -61,10 +61,12 @@ impl World {
         })
     }
 
-    /// Makes an edit, or refuses it and changes nothing.
+    /// Makes an edit, or refuses it and changes nothing. `Memory` only where a file is added that nothing else refuses: in
+    /// the place of another one it takes none, nor does a removal or a selection.
     pub fn edit(&mut self, alloc: Global, edit: Edit) -> Result<(), Refusal>
         ensures ok { OnOk result (edited self.old edit ≡ Ok self.new) }
         ensures which { IfErr result (λ r. (r ≡ Refusal.Memory) ⊎ (edited self.old edit ≡ Err r)) }
+        ensures memory { (result ≡ Err Refusal.Memory) → IsTrue (takes_memory self.old edit) }
         ensures err { OnErr result (self.new ≡ self.old) }
     {
         match edit {
@@ -78,6 +80,7 @@ impl World {
     fn put_file(&mut self, name: Bytes, bytes: Bytes) -> Result<(), Refusal>
         ensures ok { OnOk result (edited self.old (Edit.PutFile name bytes) ≡ Ok self.new) }
         ensures which { IfErr result (λ r. (r ≡ Refusal.Memory) ⊎ (edited self.old (Edit.PutFile name bytes) ≡ Err r)) }
+        ensures memory { (result ≡ Err Refusal.Memory) → IsTrue (takes_memory self.old (Edit.PutFile name bytes)) }
         ensures err { OnErr result (self.new ≡ self.old) }
     {
         if !is_name(name.as_slice()) {
@@ -100,6 +103,7 @@ impl World {
     fn remove_file(&mut self, name: Bytes) -> Result<(), Refusal>
         ensures ok { OnOk result (edited self.old (Edit.RemoveFile name) ≡ Ok self.new) }
         ensures which { IfErr result (λ r. edited self.old (Edit.RemoveFile name) ≡ Err r) }
+        ensures no_memory { result ≢ Err Refusal.Memory }
         ensures err { OnErr result (self.new ≡ self.old) }
     {
         if !is_name(name.as_slice()) {
@@ -115,6 +119,7 @@ impl World {
     fn select(&mut self, selection: Selection) -> Result<(), Refusal>
         ensures ok { OnOk result (edited self.old (Edit.Select selection) ≡ Ok self.new) }
         ensures which { IfErr result (λ r. edited self.old (Edit.Select selection) ≡ Err r) }
+        ensures no_memory { result ≢ Err Refusal.Memory }
         ensures err { OnErr result (self.new ≡ self.old) }
     {
         if !selection.is_valid() {
