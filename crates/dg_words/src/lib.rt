@@ -7,6 +7,7 @@ mod draft;
 mod fault;
 mod kinds;
 mod list;
+mod run;
 mod scan;
 mod seq;
 mod turn;
