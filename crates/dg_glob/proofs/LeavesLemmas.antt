@@ -1,11 +1,11 @@
 -- One step of a match, at each kind of pattern.
-use Rattle.std.proofs.Common.{◌≡◌, ℕ, Bool, true, IsTrue, List, [], ◌∷◌, ◌++◌, Some, None, length, drop, refl, sym, ap, ◌∙◌, subst, arith, append_assoc, ◌<◌, ◌≤◌, Option, unwrap_or, get_or, add-zero, eq-eqb}
+use Rattle.std.proofs.Common.{◌≡◌, ℕ, true, List, [], ◌∷◌, ◌++◌, Some, None, length, drop, refl, sym, ap, ◌∙◌, subst, arith, append_assoc, ◌<◌, ◌≤◌, Option, unwrap_or, get_or, add-zero, eq-eqb}
 use Rattle.std.proofs.lemmas.Bool.Decides.{nat_tests}
 use Rattle.memchr.specs.Find.{IsFirstByte, is_byte}
 use Rattle.std.proofs.lemmas.List.{length-drop, get_or-drop}
 use Rattle.dg_glob.specs.Items.{after_item, is_plain, IsSteady}
 use Rattle.dg_glob.specs.Glob.{Matches, nothing, star, item}
-use Rattle.dg_glob.specs.Search.{Leaves, IsAtStar, Passes, IsSkipped, IsAhead}
+use Rattle.dg_glob.specs.Search.{Leaves, Passes, IsSkipped, IsAhead}
 
 -- a pattern that begins with an item
 abbrev pub IsAtItem : List ℕ → Type 0

@@ -1,11 +1,11 @@
 -- The rows of marks, one cell and one row further.
-use Rattle.std.proofs.Common.{◌≡◌, ◌≢◌, ◌≤◌, ◌<◌, ◌+◌, ◌-◌, ◌↔◌, ◌⊎◌, inl, inr, ⊎_elim, ℕ, zero, suc, Bool, true, false, ◌||◌, ◌&&◌, ◌==◌, cond, List, [], ◌∷◌, ◌++◌, Option, Some, None, length, get_or, drop, refl, sym, ap, ◌∙◌, subst, arith}
+use Rattle.std.proofs.Common.{◌≡◌, ◌≢◌, ◌≤◌, ◌<◌, ◌+◌, ◌-◌, ◌↔◌, ◌⊎◌, inl, inr, ⊎_elim, ℕ, suc, Bool, true, false, ◌||◌, ◌&&◌, ◌==◌, cond, List, [], ◌∷◌, Option, Some, None, length, get_or, drop, refl, sym, ap, ◌∙◌, subst, arith}
 use Rattle.std.proofs.lemmas.Bool.{cases_eq, cases_lt, eqb-true}
 use Rattle.std.proofs.lemmas.List.{drop-drop, drop_all, drop_more, length-drop, length-append, nil_from_length}
 use Rattle.dg_glob.specs.Items.{Item, single, items, past_close, takes, after_first, after_escaped, after_item}
-use Rattle.dg_glob.specs.Search.{Leaves, Ends, IsLongest}
+use Rattle.dg_glob.specs.Search.{Ends, IsLongest}
 use Rattle.dg_glob.specs.Marks.{marked}
-use Rattle.dg_glob.specs.Rows.{FewLeft, last, IsRow, begins_with_star, marked_left, cell}
+use Rattle.dg_glob.specs.Rows.{FewLeft, last, IsRow, marked_left, cell}
 use Rattle.dg_glob.proofs.ItemLemmas.{after_item_shorter}
 use Rattle.dg_glob.proofs.LeavesLemmas.{IsAtItem, leaves_all, all_left, leaves_item, item_goes, item_stops, item_wants}
 use Rattle.dg_glob.proofs.SearchLemmas.{star_here, star_next, star_or_next, star_at_end}

@@ -1,7 +1,6 @@
 -- A run of items, one item further, and where it stops.
-use Rattle.std.proofs.Common.{◌≡◌, ◌≤◌, ◌<◌, ◌+◌, ℕ, Bool, true, false, IsTrue, ◌&&◌, List, [], ◌∷◌, ◌++◌, Option, Some, None, IfNone, IfSome, length, drop, refl, sym, ap, ◌∙◌, subst, arith}
+use Rattle.std.proofs.Common.{◌≡◌, ◌+◌, ℕ, Bool, true, IsTrue, ◌&&◌, List, [], ◌∷◌, Option, Some, None, IfNone, IfSome, drop, refl, sym, ap, ◌∙◌, subst, arith}
 use Rattle.std.proofs.lemmas.List.{drop-drop}
-use Rattle.std.proofs.lemmas.Bool.Decides.{nat_tests}
 use Rattle.dg_glob.specs.Items.{after_item, IsSteady}
 use Rattle.dg_glob.specs.Search.{Leaves, IsRun}
 use Rattle.dg_glob.proofs.ItemLemmas.{after_item_shorter}

@@ -1,5 +1,5 @@
 -- Globs, as in `string match` of Tcl(n): the texts that a pattern matches, and its spans in a text.
-use Rattle.std.specs.Prelude.{ℕ, Bool, true, false, IsTrue, Some, None, List, [], ◌∷◌, ◌++◌, ◌≡◌, ◌≤◌, ◌==◌, ◌-◌, take, if◌then◌else◌, length, slice_range}
+use Rattle.std.specs.Prelude.{ℕ, Bool, false, IsTrue, Some, List, [], ◌∷◌, ◌++◌, ◌≡◌, ◌≤◌, ◌==◌, ◌-◌, take, if◌then◌else◌, length, slice_range}
 use Rattle.dg_glob.specs.Items.{after_item}
 
 -- A pattern matches a text: the empty pattern the empty text; a `*` any front of the text, where the rest of the pattern

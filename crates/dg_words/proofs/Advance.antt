@@ -1,6 +1,6 @@
 -- The reading of a command gets on, and its faults are the text's own.
-use Rattle.std.specs.Prelude.{◌≡◌, ◌≢◌, ℕ, zero, suc, ◌+◌, ◌≤◌, ◌<◌, List, [], ◌∷◌, ◌++◌, length, drop, refl, Result, Ok, Err, Bool, true, false, Option, None, Some, ◌⊎◌, MatchResult, IfOk, nat_lt}
-use Rattle.std.proofs.Common.{arith, subst, sym, ◌∙◌, ap, inl, inr, length-drop}
+use Rattle.std.specs.Prelude.{◌≡◌, ◌≢◌, ℕ, ◌+◌, ◌≤◌, ◌<◌, List, [], ◌∷◌, length, drop, refl, Result, Ok, Err, Bool, true, false, Option, None, Some, ◌⊎◌, MatchResult, IfOk, nat_lt}
+use Rattle.std.proofs.Common.{arith, subst, sym, ap, inl, inr, length-drop}
 use Rattle.dg_words.specs.declared.fault.WordFault.{WordFault}
 use Rattle.dg_words.specs.declared.fault.WordFault.TheVariants.{MissingBracket, MissingParen, Memory}
 use Rattle.dg_words.specs.declared.kinds.Class.{Class}
@@ -21,7 +21,7 @@ use Rattle.dg_words.specs.declared.kinds.Turn.{Turn}
 use Rattle.dg_words.specs.declared.word.Parsed.{Parsed}
 use Rattle.dg_words.specs.declared.word.Word.{Word}
 use Rattle.dg_words.specs.Classes.{class_of, heard}
-use Rattle.dg_words.specs.Turns.{turn, ends, spot_ends, number_ends, rests, after, whole, in_start}
+use Rattle.dg_words.specs.Turns.{turn, ends, spot_ends, number_ends, rests, whole, in_start}
 use Rattle.dg_words.specs.Machine.{Draft, Move, Go, Over, Fails, State, Answer, onward, stopped, step, stop, read, fresh, follow, follow_inside, has_room, opens, leaves, leaves_index, take_turn, level_in, perform, ended, is_none}
 use Rattle.dg_words.specs.Reading.{kind_of, words_only, command_at, words_of, operand_at}
 use Rattle.dg_words.specs.Answers.{Gives}

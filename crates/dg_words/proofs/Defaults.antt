@@ -1,7 +1,7 @@
 -- What a turn makes of each byte that has no line of its own.
 use Rattle.std.specs.Prelude.{◌≡◌, ℕ, refl, false}
 use Rattle.dg_words.specs.declared.kinds.Class.{Class}
-use Rattle.dg_words.specs.declared.kinds.Class.TheVariants.{Blank, Newline, Semicolon, Hash, Quote, Open, Close, LeftBracket, RightBracket, LeftParen, RightParen, Backslash, Dollar, Colon, Star, Name, Plain}
+use Rattle.dg_words.specs.declared.kinds.Class.TheVariants.{Blank, Newline, Semicolon, Hash, Quote, Open, Close, RightBracket, Backslash, Star}
 use Rattle.dg_words.specs.declared.kinds.Deed.TheVariants.{Expand}
 use Rattle.dg_words.specs.declared.kinds.Level.{Level}
 use Rattle.dg_words.specs.Turns.{behind_deed, behind_star, in_bare, in_brace_first, in_brace_star, in_braced, in_gap, in_start}

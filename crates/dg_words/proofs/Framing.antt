@@ -2,7 +2,6 @@
 use Rattle.std.specs.Prelude.{◌≡◌, ℕ, ◌<◌, List, [], ◌∷◌, ◌++◌, length, refl, Bool, false}
 use Rattle.std.proofs.Common.{◌∙◌, arith, ap, sym, subst}
 use Rattle.dg_words.specs.declared.draft.Frame.{Frame}
-use Rattle.dg_words.specs.declared.kinds.Spot.{Spot}
 use Rattle.dg_words.specs.Frames.{spots, pieces}
 use Rattle.dg_words.specs.Machine.{Draft, close, end_word}
 use Rattle.dg_words.specs.Piece.{Piece}

@@ -1,13 +1,11 @@
 -- What each move at the top keeps: words behind which no word is open are there, and an index stands in an index or in the word.
-use Rattle.std.specs.Prelude.{◌≡◌, ◌≢◌, ℕ, zero, suc, ◌+◌, ◌-◌, List, [], ◌∷◌, ◌++◌, length, refl, Bool, true, false, nat_lt, ◌⊎◌}
-use Rattle.std.proofs.Common.{arith, subst, sym, ◌∙◌, ap, inl, inr}
+use Rattle.std.specs.Prelude.{◌≡◌, ◌≢◌, ℕ, List, [], ◌∷◌, ◌++◌, refl, Bool, true, false, nat_lt, ◌⊎◌}
+use Rattle.std.proofs.Common.{subst, sym, ◌∙◌, inl, inr}
 use Rattle.dg_words.specs.declared.kinds.Level.TheVariants as level
 use Rattle.dg_words.specs.declared.kinds.Spot.{Spot}
-use Rattle.dg_words.specs.declared.kinds.Spot.TheVariants.{Bare, Quoted, Index, Alone}
 use Rattle.dg_words.specs.declared.kinds.Outer.{Outer}
-use Rattle.dg_words.specs.declared.kinds.Outer.TheVariants as outer
 use Rattle.dg_words.specs.declared.kinds.Mode.{Mode}
-use Rattle.dg_words.specs.declared.kinds.Mode.TheVariants.{Start, In, Braced}
+use Rattle.dg_words.specs.declared.kinds.Mode.TheVariants.{Start}
 use Rattle.dg_words.specs.declared.kinds.Deed.{Deed}
 use Rattle.dg_words.specs.declared.kinds.Deed.TheVariants as deed
 use Rattle.dg_words.specs.declared.kinds.Next.{Next}

@@ -1,6 +1,7 @@
 pub mod Defaults
 pub mod Framing
 pub mod Loop
+pub mod Runs
 pub mod Turning
 pub mod Own
 pub mod Kept

@@ -1,6 +1,6 @@
 -- Reading of a list goes on by one byte, and the loops over an element and over a list.
-use Rattle.std.specs.Prelude.{◌≡◌, ℕ, zero, suc, ◌+◌, ◌-◌, ◌≤◌, ◌<◌, List, [], ◌∷◌, ◌++◌, length, drop, take, get_or, refl, Ok, Err, Result, Bool, true, false, Option, None, Some, not, ◌&&◌, ◌==◌, cond, nat_lt}
-use Rattle.std.proofs.Common.{◌∙◌, ap, sym, arith, subst}
+use Rattle.std.specs.Prelude.{◌≡◌, ℕ, zero, suc, ◌+◌, ◌≤◌, ◌<◌, List, length, drop, get_or, refl, Ok, Err, Result, Bool, true, false, Option, None, Some, not, ◌&&◌, ◌==◌, nat_lt}
+use Rattle.std.proofs.Common.{◌∙◌, ap, arith, subst}
 use Rattle.std.proofs.lemmas.List.{at_drop_more, at_drop_all}
 use Rattle.dg_words.specs.declared.fault.WordFault.{WordFault}
 use Rattle.dg_words.specs.declared.kinds.Class.{Class}
@@ -11,7 +11,7 @@ use Rattle.dg_words.specs.declared.kinds.Next.{Next}
 use Rattle.dg_words.specs.declared.kinds.Next.TheVariants as next
 use Rattle.dg_words.specs.declared.kinds.Turn.{Turn}
 use Rattle.dg_words.specs.Classes.{class_of}
-use Rattle.dg_words.specs.Elements.{Listing, Elements, list_deed, list_follow, list_onward, list_read, list_step, list_stop, list_stopped, list_turn}
+use Rattle.dg_words.specs.Elements.{Listing, list_deed, list_follow, list_onward, list_read, list_step, list_stop, list_stopped, list_turn}
 use Rattle.dg_words.specs.Canonical.{brace_step, is_plain, is_special, may_be_braced, onto}
 
 pub list_on : (text : List ℕ) (s : Listing) (p : ℕ) → p < length text →

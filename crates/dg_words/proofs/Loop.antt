@@ -1,6 +1,6 @@
 -- Reading goes on by one byte.
-use Rattle.std.specs.Prelude.{◌≡◌, ℕ, zero, suc, ◌+◌, ◌≤◌, ◌<◌, List, [], ◌∷◌, length, drop, get_or, refl, Ok, Err, Result, Bool, true, false, nat_lt}
-use Rattle.std.proofs.Common.{◌∙◌, ap, sym, arith, subst}
+use Rattle.std.specs.Prelude.{◌≡◌, ℕ, ◌+◌, ◌≤◌, ◌<◌, List, [], ◌∷◌, length, drop, get_or, Result, Bool, true, false, nat_lt}
+use Rattle.std.proofs.Common.{◌∙◌, ap, arith, subst}
 use Rattle.std.proofs.lemmas.List.{at_drop_more, at_drop_all}
 use Rattle.dg_words.specs.declared.fault.WordFault.{WordFault}
 use Rattle.dg_words.specs.declared.kinds.Level.{Level}
@@ -12,7 +12,7 @@ use Rattle.dg_words.specs.declared.kinds.Turn.{Turn}
 use Rattle.dg_words.specs.declared.word.Word.{Word}
 use Rattle.dg_words.specs.Classes.{class_of}
 use Rattle.dg_words.specs.Turns.{turn}
-use Rattle.dg_words.specs.Machine.{Draft, Move, Go, Over, Fails, State, Answer, onward, stopped, step, stop, read, follow, follow_inside, has_room, opens, leaves, leaves_index, take_turn, level_in, perform}
+use Rattle.dg_words.specs.Machine.{Draft, Move, Go, Over, Fails, State, onward, stopped, step, stop, read, follow, follow_inside, has_room, opens, leaves, leaves_index, take_turn, level_in, perform}
 
 pub reads_on : (l : Level) (text : List ℕ) (s : State) (p : ℕ) → p < length text →
     read l (drop p text) s p ≡ onward (step l s (get_or text p 0)) p (λ n. read l (drop (p + 1) text) n (p + 1))

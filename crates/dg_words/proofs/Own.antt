@@ -1,5 +1,5 @@
 -- No turn's fault is want of memory.
-use Rattle.std.specs.Prelude.{◌≡◌, ◌≢◌, ℕ, zero, suc, Bool, true, false, cond, ◌⊎◌, Option, None, Some, ◌==◌, ◌-◌, nat_lt, refl}
+use Rattle.std.specs.Prelude.{◌≢◌, ℕ, zero, suc, Bool, true, false, cond, Option, None, Some, ◌==◌, ◌-◌, nat_lt}
 use Rattle.dg_words.specs.declared.fault.WordFault.TheVariants.{Memory}
 use Rattle.dg_words.specs.declared.kinds.Class.{Class}
 use Rattle.dg_words.specs.declared.kinds.Class.TheVariants as class
@@ -15,12 +15,11 @@ use Rattle.dg_words.specs.declared.kinds.Delimiter.TheVariants as delimiter
 use Rattle.dg_words.specs.declared.kinds.Mode.{Mode}
 use Rattle.dg_words.specs.declared.kinds.Mode.TheVariants.{Start, StartPair, Comment, CommentPair, Gap, GapPair, Operand, In, Pair, Join, Dollar, Colon, Name, NameBrace, Number, BraceFirst, BraceStar, BehindStar, StarPair, Braced, BracedPair, BracedJoin, Behind, BehindPair}
 use Rattle.dg_words.specs.declared.kinds.Deed.{Deed}
-use Rattle.dg_words.specs.declared.kinds.Deed.TheVariants as deed
 use Rattle.dg_words.specs.declared.kinds.Next.{Next}
 use Rattle.dg_words.specs.declared.kinds.Next.TheVariants as next
 use Rattle.dg_words.specs.declared.kinds.Turn.{Turn}
 use Rattle.dg_words.specs.Classes.{heard}
-use Rattle.dg_words.specs.Turns.{after, behind, behind_deed, behind_number, behind_pair, behind_star, begins_number, counted, does, escaped, goes, in_bare, in_brace_first, in_brace_star, in_braced, in_braced_join, in_braced_pair, in_colon, in_comment, in_dollar, in_gap, in_gap_pair, in_index, in_join, in_name, in_name_brace, in_operand, in_pair, in_quoted, in_spot, in_star_pair, in_start, in_start_pair, is_space, joined, numbered, puts, turn, whole, with_digit, written}
+use Rattle.dg_words.specs.Turns.{after, behind, behind_number, behind_pair, behind_star, counted, escaped, goes, in_bare, in_brace_first, in_brace_star, in_braced, in_braced_join, in_braced_pair, in_colon, in_comment, in_dollar, in_gap, in_gap_pair, in_index, in_join, in_name, in_name_brace, in_operand, in_pair, in_quoted, in_spot, in_star_pair, in_start, in_start_pair, is_space, joined, numbered, puts, turn, whole, with_digit, written}
 
 abbrev pub Own : Next → Type 0
 Own (next.Bad f) = f ≢ Memory

@@ -1,5 +1,5 @@
 -- A canonical text is read as its list.
-use Rattle.std.specs.Prelude.{◌≡◌, ◌≢◌, ℕ, zero, suc, ◌+◌, ◌-◌, ◌≤◌, ◌<◌, List, [], ◌∷◌, ◌++◌, length, refl, Ok, Err, Result, Bool, true, false, Option, None, Some, not, ◌&&◌, ◌==◌, cond, nat_lt, ◌⊎◌, MatchResult}
+use Rattle.std.specs.Prelude.{◌≡◌, ◌≢◌, ℕ, zero, suc, ◌+◌, ◌-◌, List, [], ◌∷◌, ◌++◌, refl, Ok, Err, Result, Bool, true, false, Option, None, Some, not, ◌&&◌, ◌==◌, cond, nat_lt, ◌⊎◌, MatchResult}
 use Rattle.std.proofs.Common.{◌∙◌, ap, sym, arith, subst, inl, inr, append_assoc}
 use Rattle.std.proofs.lemmas.List.{append-nil}
 use Rattle.std.proofs.lemmas.Bool.{eqb-true, lt-ltb}
@@ -12,12 +12,11 @@ use Rattle.dg_words.specs.declared.kinds.Delimiter.TheVariants as delimiter
 use Rattle.dg_words.specs.declared.kinds.Mode.{Mode}
 use Rattle.dg_words.specs.declared.kinds.Mode.TheVariants.{Gap, In, Pair, Braced, BracedPair, Behind}
 use Rattle.dg_words.specs.declared.kinds.Next.TheVariants as next
-use Rattle.dg_words.specs.declared.kinds.Spot.{Spot}
 use Rattle.dg_words.specs.declared.kinds.Spot.TheVariants.{Bare}
 use Rattle.dg_words.specs.declared.kinds.Turn.{Turn}
 use Rattle.dg_words.specs.Classes.{class_of, is_name}
 use Rattle.dg_words.specs.Turns.{does, escaped, goes, puts}
-use Rattle.dg_words.specs.Elements.{Listing, Elements, elements_of, list_bare, list_deed, list_ends, list_follow, list_gap, list_onward, list_pair, list_read, list_step, list_stop, list_stopped, list_turn, unread, without_place}
+use Rattle.dg_words.specs.Elements.{Listing, elements_of, list_deed, list_ends, list_follow, list_onward, list_read, list_step, list_stop, list_stopped, list_turn, without_place}
 use Rattle.dg_words.specs.Canonical.{begins_with_hash, brace_step, element_text, escaped_byte, escaped_text, further_text, hash_covered, is_hash, is_plain, is_special, may_be_braced, onto, text_of_list}
 
 -- read from s on, t leaves n, whatever follows

@@ -4,7 +4,6 @@ use Rattle.std.proofs.Common.{inl, inr}
 use Rattle.dg_words.specs.declared.fault.WordFault.TheVariants.{Memory}
 use Rattle.dg_words.specs.declared.kinds.Class.{Class}
 use Rattle.dg_words.specs.declared.kinds.Class.TheVariants as class
-use Rattle.dg_words.specs.declared.kinds.Level.{Level}
 use Rattle.dg_words.specs.declared.kinds.Level.TheVariants as level
 use Rattle.dg_words.specs.declared.kinds.Spot.{Spot}
 use Rattle.dg_words.specs.declared.kinds.Spot.TheVariants.{Bare, Quoted, Index, Alone}
@@ -21,7 +20,7 @@ use Rattle.dg_words.specs.declared.kinds.Next.{Next}
 use Rattle.dg_words.specs.declared.kinds.Next.TheVariants as next
 use Rattle.dg_words.specs.declared.kinds.Turn.{Turn}
 use Rattle.dg_words.specs.Classes.{heard}
-use Rattle.dg_words.specs.Turns.{after, behind, behind_deed, behind_number, behind_pair, behind_star, begins_number, counted, does, escaped, goes, in_bare, in_brace_first, in_brace_star, in_braced, in_braced_join, in_braced_pair, in_colon, in_comment, in_dollar, in_gap, in_gap_pair, in_index, in_join, in_name, in_name_brace, in_operand, in_pair, in_quoted, in_spot, in_star_pair, in_start, in_start_pair, is_space, joined, numbered, puts, turn, whole, with_digit, written}
+use Rattle.dg_words.specs.Turns.{after, behind, behind_number, behind_pair, behind_star, counted, does, escaped, goes, in_bare, in_brace_first, in_brace_star, in_braced, in_braced_join, in_braced_pair, in_colon, in_comment, in_dollar, in_gap, in_gap_pair, in_index, in_join, in_name, in_name_brace, in_operand, in_pair, in_quoted, in_spot, in_star_pair, in_start, in_start_pair, is_space, joined, numbered, puts, turn, whole, with_digit, written}
 
 abbrev pub is_index : Spot → Bool
 is_index Index = true

@@ -1,5 +1,5 @@
 -- What the code's answers say.
-use Rattle.std.specs.Prelude.{◌≡◌, ℕ, List, Result, Ok, Err, ◌⊎◌, Option, None, Some}
+use Rattle.std.specs.Prelude.{◌≡◌, ℕ, List, Result, Ok, Err, ◌⊎◌}
 use Rattle.dg_words.specs.declared.fault.WordFault.{WordFault}
 use Rattle.dg_words.specs.declared.fault.WordFault.TheVariants.{Memory}
 use Rattle.dg_words.specs.declared.scan.Pace.{Pace}

@@ -5,6 +5,7 @@ pub mod Classes
 pub mod Turns
 pub mod Machine
 pub mod Frames
+pub mod Runs
 pub mod Reading
 pub mod Answers
 pub mod Elements

@@ -1,5 +1,5 @@
 -- What is open behind a text, and how a text is read from its beginning.
-use Rattle.std.specs.Prelude.{◌≡◌, ℕ, zero, suc, ◌+◌, ◌-◌, List, [], ◌∷◌, ◌++◌, length, Bool, true, false, Result, Ok, Err, if◌then◌else◌, ◌==◌, nat_lt}
+use Rattle.std.specs.Prelude.{ℕ, ◌+◌, ◌-◌, List, [], ◌∷◌, ◌++◌, length, Bool, true, false, Result, Ok, Err, nat_lt}
 use Rattle.std.specs.Char.{encode_utf8}
 use Rattle.dg_words.specs.Piece.{Piece, Text, Variable, Element, End, Command}
 use Rattle.dg_words.specs.declared.fault.WordFault.{WordFault}

@@ -24,7 +24,7 @@ use Rattle.dg_words.specs.declared.kinds.Next.TheVariants as next
 use Rattle.dg_words.specs.declared.kinds.Turn.{Turn}
 use Rattle.dg_words.specs.declared.kinds.Ending.{Ending}
 use Rattle.dg_words.specs.declared.kinds.Ending.TheVariants as ending
-use Rattle.dg_words.specs.Classes.{heard, class_of}
+use Rattle.dg_words.specs.Classes.{heard}
 
 -- one deed, and then the reading goes there
 abbrev pub does : Deed → Next → Turn

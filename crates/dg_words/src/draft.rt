@@ -121,6 +121,13 @@ impl Draft {
         self.text.push(byte)
     }
 
+    /// More bytes of the text.
+    pub fn put_all(&mut self, bytes: &[u8]) -> Result<(), AllocError>
+        ensures { OnOk result (self.new ≡ add bytes.now self.old) }
+    {
+        self.text.extend(bytes)
+    }
+
     fn put_code(&mut self, code: char) -> Result<(), AllocError>
         ensures { OnOk result (self.new ≡ perform (Deed.Code code) self.old) }
     {

@@ -8,6 +8,7 @@ mod fault;
 mod kinds;
 mod list;
 mod measure;
+mod run;
 mod scan;
 mod seq;
 mod turn;

@@ -4,10 +4,12 @@ ghost use Rattle.dg_words.specs.Answers.{Gives, Made};
 ghost use Rattle.dg_words.specs.First.{FirstCommand, FirstFault};
 ghost use Rattle.dg_words.specs.Machine.{Go, follow, follow_inside, fresh, has_room, is_none, leaves, level_in, read, spot_of, step, stop, take_turn};
 ghost use Rattle.dg_words.specs.Reading.{command_at, operand_at, words_of};
+ghost use Rattle.dg_words.specs.Runs.{Reaches};
 
 use crate::draft::Draft;
 use crate::fault::WordFault;
 use crate::kinds::{Deed, Ending, Level, Mode, Next, Outer, Spot, Turn};
+use crate::run::{braced_run, comment_run};
 use crate::seq::Seq;
 use crate::turn::class_of;
 use crate::word::{Parsed, Word};
@@ -248,6 +250,36 @@ impl Scanner {
         Ok(self.take_turn(turn, byte)?)
     }
 
+    /// Passes over the bytes from a place on that only add to what is open, and tells the place behind them.
+    fn pass(&mut self, text: &[u8], from: usize) -> Result<usize, AllocError>
+        requires within { from ≤ length text.now }
+        requires deep { self.now.depth ≤ from }
+        ensures { IfOk result (λ to. Reaches text.now from self.old to self.new) }
+    {
+        match self.mode {
+            Mode::Braced => {
+                let run = braced_run(text, from, self.depth);
+                self.depth = run.depth;
+                self.draft.put_all(&text[from..run.end])?;
+                Ok(run.end)
+            }
+            Mode::In(spot) => {
+                let end = spot.text_run(text, from);
+                self.draft.put_all(&text[from..end])?;
+                Ok(end)
+            }
+            Mode::Comment => {
+                let end = comment_run(text, from);
+                if self.inner.is_empty() {
+                    return Ok(end);
+                }
+                self.draft.put_all(&text[from..end])?;
+                Ok(end)
+            }
+            _ => Ok(from),
+        }
+    }
+
     /// The text ends: its words, or what is missing.
     #[tactic(auto, unfolding(crate::specs::Machine::stop))]
     fn stop(mut self) -> Result<Seq<Word>, WordFault>
@@ -279,9 +311,10 @@ fn scan(
     ensures { Gives (λ p. (p.words, p.next)) result (read level (drop at text.now) (fresh mode) at) }
 {
     let mut scanner = Scanner::new(alloc, mode);
-    for place in at..text.len() {
+    let mut place = at;
+    while place < text.len() {
         match scanner.step(level, text[place])? {
-            Pace::Go => {}
+            Pace::Go => place = scanner.pass(text, place + 1)?,
             Pace::Over(taken) => {
                 let Scanner { draft, .. } = scanner;
                 return Ok(Parsed {

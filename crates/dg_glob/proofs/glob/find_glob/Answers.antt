@@ -1,4 +1,4 @@
-use Rattle.std.proofs.Common.{ℕ, List, Bool, true, false, IsTrue, ◌≡◌, ◌≤◌, length, drop, None, subst, sym, ◌∙◌}
+use Rattle.std.proofs.Common.{ℕ, List, Bool, true, false, IsTrue, ◌≡◌, ◌≤◌, length, drop, subst, sym, ◌∙◌}
 use Rattle.dg_glob.specs.Glob.{IsSpan, IsFirstSpan, binds_start, binds_end, body}
 use Rattle.dg_glob.specs.Search.{Ends, IsAnswer, IsFirstReach}
 use Rattle.dg_glob.proofs.RunLemmas.{if_none, if_some, if_none_so}

@@ -1,4 +1,4 @@
-use Rattle.std.proofs.Common.{◌≡◌, ◌≢◌, ◌<◌, ◌/◌, ◌%◌, ℕ, get_or, refl, sym, ap, ◌∙◌, arith, w64}
+use Rattle.std.proofs.Common.{◌<◌, ◌/◌, ◌%◌, get_or, ap, ◌∙◌, arith, w64}
 use Rattle.std.specs.Int.{bit_at}
 use Rattle.std.proofs.lemmas.Nat.Bits.{bit_at_set_same, bit_at_set_other, bit_at_clear_same, bit_at_clear_other}
 use Rattle.dg_glob.proofs.MarkLemmas.{marked_same, marked_other, one_is_on, zero_is_off}

@@ -1,4 +1,4 @@
-use Rattle.std.proofs.Common.{ℕ, true, ◌≡◌, ◌≤◌, ◌↔◌, length}
+use Rattle.std.proofs.Common.{ℕ, true, ◌≡◌, ◌≤◌, ◌↔◌}
 use Rattle.dg_glob.specs.Marks.{marked}
 use Rattle.dg_glob.specs.Rows.{FewLeft, last}
 use Rattle.dg_glob.proofs.rows.fill_row.Given as goal

@@ -1,4 +1,4 @@
-use Rattle.std.proofs.Common.{ℕ, ◌≡◌, ◌≤◌, ◌+◌, ◌-◌, ◌||◌, ◌↔◌, true, ◌∷◌, arith, length, drop, sym, ap, ◌∙◌, subst}
+use Rattle.std.proofs.Common.{◌≡◌, ◌+◌, ◌-◌, ◌||◌, ◌↔◌, true, ◌∷◌, arith, length, drop, sym, ap, ◌∙◌, subst}
 use Rattle.std.proofs.lemmas.List.{take_rest, drop_all, drop-drop}
 use Rattle.dg_glob.specs.Rows.{FewLeft, IsRow}
 use Rattle.dg_glob.proofs.RowLemmas.{found_at_end, found_before}

@@ -1,4 +1,4 @@
-use Rattle.std.proofs.Common.{ℕ, true, ◌≡◌, ◌≤◌, ◌↔◌, ◌∷◌, length, drop}
+use Rattle.std.proofs.Common.{true, ◌≡◌, ◌≤◌, ◌↔◌, ◌∷◌, length, drop}
 use Rattle.dg_glob.specs.Rows.{FewLeft, IsRow}
 use Rattle.dg_glob.proofs.rows.matches_within.Given as goal
 

@@ -1,7 +1,7 @@
-use Rattle.std.proofs.Common.{ℕ, sym, ap, subst, ◌∙◌, rules, ◌≡◌, ◌∷◌, []}
+use Rattle.std.proofs.Common.{ℕ, sym, subst, ◌∙◌, ◌∷◌}
 use Rattle.std.proofs.lemmas.Bool.{eqb-true}
 use Rattle.std.proofs.lemmas.List.{nil_from_length}
-use Rattle.dg_glob.specs.Search.{IsAnswer, fewest}
+use Rattle.dg_glob.specs.Search.{IsAnswer}
 use Rattle.dg_glob.proofs.SearchLemmas.{IsSearch, search_takes_all, search_jump, search_skip, search_next, search_ends, search_closes, no_answer, answer_along_is, at_star}
 use Rattle.dg_glob.proofs.search.+after_star.Goals as goal
 use Rattle.dg_glob.proofs.search.+after_star.Goals.{After-fewest-best, in-None, in-Some+in-None-split_first, in-Some+in-Some-split_first+else-run+else-rest-le-LONGEST}

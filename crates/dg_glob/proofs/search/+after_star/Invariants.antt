@@ -1,4 +1,4 @@
-use Rattle.std.proofs.Common.{length, ◌+◌, ◌≤◌}
+use Rattle.std.proofs.Common.{length, ◌+◌}
 use Rattle.dg_glob.proofs.SearchLemmas.{IsSearch}
 use Rattle.dg_glob.proofs.search.+after_star.Given as goal
 

@@ -1,4 +1,4 @@
-use Rattle.std.proofs.Common.{◌≡◌, ◌≤◌, length, arith, sym, ◌∙◌, get_or, inl, inr, ap, Ok, Err}
+use Rattle.std.proofs.Common.{◌≡◌, arith, sym, ◌∙◌, get_or, inl, inr, ap, Ok, Err}
 use Rattle.dg_words.specs.Elements.{list_step, elements_of, without_place}
 use Rattle.dg_words.proofs.Listing.{list_move, list_halt, step_depth}
 use Rattle.dg_words.proofs.list.read_list.Goals as goal

@@ -1,4 +1,4 @@
-use Rattle.std.proofs.Common.{◌≡◌, ◌≤◌, length, drop}
+use Rattle.std.proofs.Common.{◌≡◌, ◌≤◌, drop}
 use Rattle.dg_words.specs.Elements.{list_read, unread}
 use Rattle.dg_words.proofs.list.read_list.Given as goal
 
