@@ -1,6 +1,6 @@
 -- What stands before a fault can go on, and what stands up to it cannot.
 use Rattle.std.specs.Prelude.{◌≡◌, ℕ, ◌+◌, List, [], ◌∷◌, ◌++◌, length, refl, Ok, Err, Result, drop, ◌⊎◌}
-use Rattle.std.proofs.Common.{inl, inr, ◌∙◌, ap, sym, arith, subst}
+use Rattle.std.proofs.Common.{inl, inr, ◌∙◌, ap, sym, arith, subst, append_assoc, length-append}
 use Rattle.std.proofs.lemmas.List.{append-nil}
 use Rattle.dg_words.specs.declared.fault.WordFault.{WordFault}
 use Rattle.dg_words.specs.declared.fault.WordFault.TheVariants as fault
@@ -10,15 +10,20 @@ use Rattle.dg_words.specs.declared.kinds.Level.TheVariants as level
 use Rattle.dg_words.specs.declared.kinds.Mode.{Mode}
 use Rattle.dg_words.specs.declared.kinds.Mode.TheVariants as mode
 use Rattle.dg_words.specs.declared.word.Word.{Word}
-use Rattle.dg_words.specs.Machine.{Answer, Go, Fails, Over, Move, State, fresh, onward, read, step, stop, stopped}
+use Rattle.dg_words.specs.Machine.{Answer, Go, Fails, Over, Move, State, fresh, level_in, onward, read, step, stop, stopped}
 use Rattle.dg_words.specs.Reading.{command_at, kind_of, operand_at, words_of, words_only}
 use Rattle.dg_grammar.specs.Continuing.{CanGoOn, GoesOn, HasCommand, HasNoCommand, HasNoOperand, HasOperand, IsNoWords, IsRead, IsWords, StopsAt}
 use Rattle.dg_grammar.proofs.Segments.{Leads, lead_one, lead_none, lead_both}
 use Rattle.dg_words.specs.Classes.{class_of}
-use Rattle.dg_grammar.specs.Saying.{Lacks, Misses}
-use Rattle.dg_grammar.proofs.Bytes.{has_or, is_class}
-use Rattle.dg_grammar.proofs.Openings.{Open, OpenAt, OpenMove, bracketed, indexed, open_step, parens, quoted, spot_in, whole}
-use Rattle.dg_grammar.proofs.Missing.{BraceAt, Held, IsAt, IsMissing, OpenBrace, fail_step, held, held_brace, held_open, missing}
+use Rattle.dg_grammar.specs.Ends.{Open, missing}
+use Rattle.dg_grammar.specs.Saying.{EndsWord, IsOther, IsWrong, OpensNothing, Unwritten}
+use Rattle.dg_grammar.proofs.Bytes.{is_class}
+use Rattle.dg_grammar.proofs.Closers.{ends_at}
+use Rattle.dg_grammar.proofs.Trails.{Cause, IsNested, Reached, Trail, cause, reached_step}
+use Rattle.dg_grammar.proofs.Wrong.{IsWrongAt, wrong_at, wrong_end}
+use Rattle.dg_grammar.proofs.InOrder.{in_nothing, same_open}
+use Rattle.dg_grammar.proofs.Inmost.{IsInmost, IsMissing, inmost, needed}
+use Rattle.dg_grammar.proofs.Missing.{IsAt, fail_step}
 use Rattle.dg_grammar.proofs.GoOn.{Fine, FineMove, closing, fine_step}
 use Rattle.dg_grammar.proofs.WordRead.{spelled_command_is_read, spelled_words_are_read}
 use Rattle.dg_grammar.proofs.OperandRead.{spelled_operand_is_read}
@@ -57,7 +62,7 @@ record Before (l : Level) (s : State) (text : List ℕ) (f : WordFault) (p q : �
   place_is : q ≡ p + length front
   leads : (after : List ℕ) → Leads l after s front state
   fine : Fine state.mode
-  shape : OpenAt whole state
+  reached : (m : Mode) (past : List ℕ) → Reached l m past s → Reached l m (past ++ front) state
   why : Why l state rest f
 
 place_of : ℕ → Answer → ℕ
@@ -76,13 +81,12 @@ same_fault : {f g : WordFault} {p q : ℕ} → ◌≡◌ {A = Answer} (Err (f, p
 unfolding fault_of
 same_fault {f = f} e = ap (fault_of f) e
 
-here : (l : Level) (s : State) (text : List ℕ) (f : WordFault) (p q : ℕ) → p ≡ q → Fine s.mode → OpenAt whole s → Why l s text f → Before l s text f p q
-here l s text f p q e h o w = record { front = []; rest = text; state = s; split = refl; place_is = omega (arith, e); leads = λ after. lead_none l after s; fine = h; shape = o; why = w }
+here : (l : Level) (s : State) (text : List ℕ) (f : WordFault) (p q : ℕ) → p ≡ q → Fine s.mode → Why l s text f → Before l s text f p q
+here l s text f p q e h w = record { front = []; rest = text; state = s; split = refl; place_is = omega (arith, e); leads = λ after. lead_none l after s; fine = h; reached = λ m past r. subst (λ t. Reached l m t s) (sym (append-nil past)) r; why = w }
 
-before_turn : (l : Level) (s : State) (b : ℕ) (bs : List ℕ) (f : WordFault) (p q : ℕ) (m : Move) → step l s b ≡ m → Fine s.mode → OpenAt whole s → FineMove m → OpenMove whole m →
-    ((n : State) → Fine n.mode → OpenAt whole n → read l bs n (p + 1) ≡ Err (f, q) → Before l n bs f (p + 1) q) → onward m p (λ n. read l bs n (p + 1)) ≡ Err (f, q) → Before l s (b ∷ bs) f p q
-before_turn l s b bs f p q (Go n) e h o k w rec r =
-    let x = rec n k w r in
+before_turn : (l : Level) (s : State) (b : ℕ) (bs : List ℕ) (f : WordFault) (p q : ℕ) (m : Move) → step l s b ≡ m → Fine s.mode → FineMove m → ((n : State) → Fine n.mode → read l bs n (p + 1) ≡ Err (f, q) → Before l n bs f (p + 1) q) → onward m p (λ n. read l bs n (p + 1)) ≡ Err (f, q) → Before l s (b ∷ bs) f p q
+before_turn l s b bs f p q (Go n) e h k rec r =
+    let x = rec n k r in
     record {
       front = b ∷ x.front;
       rest = x.rest;
@@ -91,20 +95,20 @@ before_turn l s b bs f p q (Go n) e h o k w rec r =
       place_is = omega (arith, x.place_is);
       leads = λ after. lead_both l after _ _ _ (b ∷ []) x.front (lead_one l (x.front ++ after) s n b e) (x.leads after);
       fine = x.fine;
-      shape = x.shape;
+      reached = λ m past r. subst (λ t. Reached l m t x.state) (append_assoc past (b ∷ []) x.front) (x.reached m (past ++ b ∷ []) (reached_step l m past s n b r e));
       why = x.why;
     }
-before_turn l s b bs f p q (Over ws n) e h o k w rec r = absurd cc
-before_turn l s b bs f p q (Fails g) e h o k w rec r = here l s (b ∷ bs) f p q (same_place r) h o (inr (b, bs, refl, e ∙ ap Fails (same_fault r)))
+before_turn l s b bs f p q (Over ws n) e h k rec r = absurd cc
+before_turn l s b bs f p q (Fails g) e h k rec r = here l s (b ∷ bs) f p q (same_place r) h (inr (b, bs, refl, e ∙ ap Fails (same_fault r)))
 
-before_end : (l : Level) (s : State) (f : WordFault) (p q : ℕ) (r : Result (List Word) WordFault) → stop s ≡ r → Fine s.mode → OpenAt whole s → stopped r p ≡ Err (f, q) → Before l s [] f p q
-before_end l s f p q (Ok ws) i h o e = absurd cc
-before_end l s f p q (Err g) i h o e = here l s [] f p q (same_place e) h o (inl (refl, i ∙ ap Err (same_fault e)))
+before_end : (l : Level) (s : State) (f : WordFault) (p q : ℕ) (r : Result (List Word) WordFault) → stop s ≡ r → Fine s.mode → stopped r p ≡ Err (f, q) → Before l s [] f p q
+before_end l s f p q (Ok ws) i h e = absurd cc
+before_end l s f p q (Err g) i h e = here l s [] f p q (same_place e) h (inl (refl, i ∙ ap Err (same_fault e)))
 
-before : (l : Level) (text : List ℕ) (s : State) (f : WordFault) (p q : ℕ) → Fine s.mode → OpenAt whole s → read l text s p ≡ Err (f, q) → Before l s text f p q
+before : (l : Level) (text : List ℕ) (s : State) (f : WordFault) (p q : ℕ) → Fine s.mode → read l text s p ≡ Err (f, q) → Before l s text f p q
 unfolding read
-before l [] s f p q h o e = before_end l s f p q (stop s) refl h o e
-before l (b ∷ bs) s f p q h o e = before_turn l s b bs f p q (step l s b) refl h o (fine_step l s b h) (open_step whole l s b tt o) (λ n k w r. before l bs n f (p + 1) q k w r) e
+before l [] s f p q h e = before_end l s f p q (stop s) refl h e
+before l (b ∷ bs) s f p q h e = before_turn l s b bs f p q (step l s b) refl h (fine_step l s b h) (λ n k r. before l bs n f (p + 1) q k r) e
 
 -- this fault is told of a text, wherever its reading begins
 abbrev Tells : Level → Mode → WordFault → List ℕ → Type 0
@@ -118,48 +122,92 @@ fails_at : (l : Level) (s : State) (b : ℕ) (bs : List ℕ) (f : WordFault) (p 
 unfolding read
 fails_at l s b bs f p e = ap (λ m. onward m p (λ n. read l bs n (p + 1))) e
 
--- what the fault misses
-misses : (P : State → Type 0) (l : Level) (m : Mode) (k : ℕ) → Held P l k → (text front : List ℕ) (s : State) → front ≡ text → ((after : List ℕ) → Leads l after (fresh m) front s) → P s → Misses (IsRead l m) k text (length front)
-misses P l m k c text front s e x h = (
-  ap length e,
-  λ more r. elim (has_or k more) [
-    | inl y ↦ y
-    | inr w ↦ absurd (held P l k c more w s h (0 + length front) (r.0, r.1) (sym ((x more).on 0) ∙ ap (λ t. read l (t ++ more) (fresh m) 0) e ∙ r.2))
-  ],
-)
+before_byte : (text front bs : List ℕ) (b : ℕ) → text ≡ front ++ b ∷ bs → length front ≡ length text → ⊥
+before_byte text front bs b e h = let x = ap length e in omega (arith, x, h, length-append front (b ∷ bs))
 
-lacks_end : (l : Level) (m : Mode) (text front : List ℕ) (s : State) (f : WordFault) → front ≡ text → ((after : List ℕ) → Leads l after (fresh m) front s) →
-    IsMissing (OpenBrace s.mode) (spot_in s.mode) (s.inner ++ parens s.draft.indices) f → Lacks (IsRead l m) f text (length front)
-lacks_end l m text front s fault.MissingBrace e x h = misses BraceAt l m 125 (held_brace l) text front s e x h
-lacks_end l m text front s fault.MissingQuote e x h = misses (OpenAt quoted) l m 34 (held_open quoted l (λ i. absurd cc)) text front s e x h
-lacks_end l m text front s fault.MissingBracket e x h = inl (misses (OpenAt bracketed) l m 93 (held_open bracketed l (λ i. absurd cc)) text front s e x h)
-lacks_end l m text front s fault.MissingParen e x h = inl (misses (OpenAt indexed) l m 41 (held_open indexed l (λ i. absurd cc)) text front s e x h)
-lacks_end l m text front s f e x h = h
+-- what is open after a text
+opens : (l : Level) (m : Mode) (text front : List ℕ) (s : State) → front ≡ text → Fine s.mode → ((after : List ℕ) → Leads l after (fresh m) front s) → Open (IsRead l m) text (ends_at s)
+opens l m text front s e h x =
+    let c = closing l s.inner s.mode s.depth s.draft h in
+    let z = c.closes (0 + length front) in
+    record {
+      closing = c.bytes;
+      is_such = subst (λ t. IsRead l m (t ++ c.bytes)) e (c.words, z.0, (x c.bytes).on 0 ∙ z.1);
+      just = c.just;
+      needed = λ more r. needed l more s (0 + length front) (r.0, r.1) (sym ((x more).on 0) ∙ ap (λ t. read l (t ++ more) (fresh m) 0) e ∙ r.2);
+    }
 
-lacks_at : (Is : List ℕ → Type 0) (text front bs : List ℕ) (b : ℕ) (f : WordFault) → text ≡ front ++ b ∷ bs → IsAt (class_of b) f → Lacks Is f text (length front)
-lacks_at Is text front bs b fault.MissingBracket e h = inr (record { front = front; rest = bs; split = e ∙ ap (λ x. front ++ x ∷ bs) (is_class b class.LeftBracket h); place_is = refl })
-lacks_at Is text front bs b fault.MissingParen e h = inr (record { front = front; rest = bs; split = e ∙ ap (λ x. front ++ x ∷ bs) (is_class b class.LeftParen h); place_is = refl })
-lacks_at Is text front bs b fault.MissingBrace e h = absurd h
-lacks_at Is text front bs b fault.MissingQuote e h = absurd h
-lacks_at Is text front bs b f e h = h
+-- what is wrong
+both : (Is : List ℕ → Type 0) (text : List ℕ) (place : ℕ) (f : WordFault) → IsWrongAt Is f text place → OpensNothing Is text place → IsWrong Is f text place
+both Is text place fault.AfterBrace h o = (h, o)
+both Is text place fault.AfterQuote h o = (h, o)
+both Is text place fault.BadCodePoint h o = (h, o)
+both Is text place f h o = absurd h
 
-lacks : (l : Level) (m : Mode) (text : List ℕ) (f : WordFault) (p q : ℕ) (x : Before l (fresh m) text f p q) → Lacks (IsRead l m) f text (length x.front)
-unfolding stop
-lacks l m text f p q x =
+lacks_first : (Is : List ℕ → Type 0) (text : List ℕ) (place k : ℕ) (ks : List ℕ) (f : WordFault) → IsMissing f k → place ≡ length text → Open Is text (k ∷ ks) → IsWrong Is f text place
+lacks_first Is text place k ks fault.MissingBrace h e o = (e, ks, subst (λ b. Open Is text (b ∷ ks)) h o)
+lacks_first Is text place k ks fault.MissingQuote h e o = (e, ks, subst (λ b. Open Is text (b ∷ ks)) h o)
+lacks_first Is text place k ks fault.MissingBracket h e o = inl (e, ks, subst (λ b. Open Is text (b ∷ ks)) h o)
+lacks_first Is text place k ks fault.MissingParen h e o = inl (e, ks, subst (λ b. Open Is text (b ∷ ks)) h o)
+lacks_first Is text place k ks f h e o = absurd h
+
+wrong_where_it_ends : (Is : List ℕ → Type 0) (text : List ℕ) (place : ℕ) (ks : List ℕ) (f : WordFault) → IsInmost f ks → (IsOther f → IsWrongAt Is f text place) → place ≡ length text → Open Is text ks → IsWrong Is f text place
+wrong_where_it_ends Is text place [] f h w e o = both Is text place f (w h) (λ _. o)
+wrong_where_it_ends Is text place (k ∷ ks) f h w e o = lacks_first Is text place k ks f h e o
+
+nested : (Is : List ℕ → Type 0) (text front bs : List ℕ) (b : ℕ) (f : WordFault) → text ≡ front ++ b ∷ bs → IsNested f → IsAt (class_of b) f → IsWrong Is f text (length front)
+nested Is text front bs b fault.MissingBracket e n h = inr (record { front = front; rest = bs; split = e ∙ ap (λ x. front ++ x ∷ bs) (is_class b class.LeftBracket h); place_is = refl })
+nested Is text front bs b fault.MissingParen e n h = inr (record { front = front; rest = bs; split = e ∙ ap (λ x. front ++ x ∷ bs) (is_class b class.LeftParen h); place_is = refl })
+nested Is text front bs b f e n h = absurd n
+
+wrong_where_it_stands : (l : Level) (m : Mode) (text front bs : List ℕ) (s : State) (b : ℕ) (f : WordFault) → text ≡ front ++ b ∷ bs → Reached l m front s → step l s b ≡ Fails f → IsNested f ⊎ Cause (level_in l s.inner) b s.mode f → IsWrong (IsRead l m) f text (length front)
+wrong_where_it_stands l m text front bs s b f e r w (inl n) = nested (IsRead l m) text front bs b f e n (fail_step l s b f w)
+wrong_where_it_stands l m text front bs s b f e r w (inr c) = both (IsRead l m) text (length front) f (wrong_at l m text front bs s b f e r w c) (λ i. absurd (before_byte text front bs b e i))
+
+is_wrong : (l : Level) (m : Mode) (text : List ℕ) (f : WordFault) (p q : ℕ) → Trail l m [] m → Fine m → (x : Before l (fresh m) text f p q) → IsWrong (IsRead l m) f text (length x.front)
+is_wrong l m text f p q t h x =
     let s = x.state in
-    elim x.why as (λ _. Lacks (IsRead l m) f text (length x.front)) [
-      | inl (r, w) ↦ lacks_end l m text x.front s f (sym (x.split ∙ ap (λ r. x.front ++ r) r ∙ append-nil x.front)) x.leads (missing s.mode s.inner (parens s.draft.indices) s.draft f x.shape w)
-      | inr (b, bs, r, w) ↦ lacks_at (IsRead l m) text x.front bs b f (x.split ∙ ap (λ r. x.front ++ r) r) (fail_step l s b f w)
+    let r = x.reached m [] (record { leads = λ after. lead_none l after (fresh m); fine = h; trail = t }) in
+    elim x.why as (λ _. IsWrong (IsRead l m) f text (length x.front)) [
+      | inl (i, w) ↦
+          let j : text ≡ x.front ++ [] = x.split ∙ ap (λ y. x.front ++ y) i in
+          let e : x.front ≡ text = sym (j ∙ append-nil x.front) in
+          wrong_where_it_ends (IsRead l m) text (length x.front) (ends_at s) f (inmost s f w) (λ o. wrong_end l m text x.front s f j r o w) (ap length e) (opens l m text x.front s e x.fine x.leads)
+      | inr (b, bs, i, w) ↦ wrong_where_it_stands l m text x.front bs s b f (x.split ∙ ap (λ y. x.front ++ y) i) r w (cause l m x.front s b f r w)
     ]
 
-lacks_as : (Is Such : List ℕ → Type 0) (text : List ℕ) (place : ℕ) (f : WordFault) → ((t : List ℕ) → Such t → Is t) → Lacks Is f text place → Lacks Such f text place
-lacks_as Is Such text place fault.MissingBrace g h = (h.0, λ more x. h.1 more (g (text ++ more) x))
-lacks_as Is Such text place fault.MissingQuote g h = (h.0, λ more x. h.1 more (g (text ++ more) x))
-lacks_as Is Such text place fault.MissingBracket g (inl h) = inl (h.0, λ more x. h.1 more (g (text ++ more) x))
-lacks_as Is Such text place fault.MissingBracket g (inr h) = inr h
-lacks_as Is Such text place fault.MissingParen g (inl h) = inl (h.0, λ more x. h.1 more (g (text ++ more) x))
-lacks_as Is Such text place fault.MissingParen g (inr h) = inr h
-lacks_as Is Such text place f g h = h
+-- what is so by one name is so by another
+open_as : (Is Such : List ℕ → Type 0) (text ks : List ℕ) → ((t : List ℕ) → Is t → Such t) → ((t : List ℕ) → Such t → Is t) → Open Is text ks → Open Such text ks
+open_as Is Such text ks f g o = record { closing = o.closing; is_such = f (text ++ o.closing) o.is_such; just = o.just; needed = λ more h. o.needed more (g (text ++ more) h) }
+
+ends_as : (Is Such : List ℕ → Type 0) (k : ℕ) (text : List ℕ) (place : ℕ) → ((t : List ℕ) → Such t → Is t) → EndsWord Is k text place → EndsWord Such k text place
+ends_as Is Such k text place g x = record { before = x.before; rest = x.rest; split = x.split; is_parted = λ more h. x.is_parted more (g (x.before ++ k ∷ more) h); place_is = x.place_is }
+
+unwritten_as : (Is Such : List ℕ → Type 0) (text : List ℕ) (place : ℕ) → ((t : List ℕ) → Such t → Is t) → Unwritten Is text place → Unwritten Such text place
+unwritten_as Is Such text place g x = record {
+  before = x.before;
+  escape = x.escape;
+  digits = x.digits;
+  rest = x.rest;
+  split = x.split;
+  by_letter = x.by_letter;
+  are_digits = x.are_digits;
+  no_character = x.no_character;
+  unfinished = λ more h. x.unfinished more (g _ h);
+  place_is = x.place_is;
+}
+
+wrong_as : (Is Such : List ℕ → Type 0) (text : List ℕ) (place : ℕ) (f : WordFault) → ((t : List ℕ) → Is t → Such t) → ((t : List ℕ) → Such t → Is t) → IsWrong Is f text place → IsWrong Such f text place
+wrong_as Is Such text place fault.MissingBrace f g h = (h.0, h.1, open_as Is Such text (125 ∷ h.1) f g h.2)
+wrong_as Is Such text place fault.MissingQuote f g h = (h.0, h.1, open_as Is Such text (34 ∷ h.1) f g h.2)
+wrong_as Is Such text place fault.MissingBracket f g (inl h) = inl (h.0, h.1, open_as Is Such text (93 ∷ h.1) f g h.2)
+wrong_as Is Such text place fault.MissingBracket f g (inr h) = inr h
+wrong_as Is Such text place fault.MissingParen f g (inl h) = inl (h.0, h.1, open_as Is Such text (41 ∷ h.1) f g h.2)
+wrong_as Is Such text place fault.MissingParen f g (inr h) = inr h
+wrong_as Is Such text place fault.AfterBrace f g h = (ends_as Is Such 125 text place g h.0, λ e. open_as Is Such text [] f g (h.1 e))
+wrong_as Is Such text place fault.AfterQuote f g h = (ends_as Is Such 34 text place g h.0, λ e. open_as Is Such text [] f g (h.1 e))
+wrong_as Is Such text place fault.BadCodePoint f g h = (unwritten_as Is Such text place g h.0, λ e. open_as Is Such text [] f g (h.1 e))
+wrong_as Is Such text place f g k h = h
 
 -- A text that is begun in a mode, up to its fault: how far it can go on from there, and why no further.
 record Faulted (l : Level) (m : Mode) (text : List ℕ) (f : WordFault) (p q : ℕ) : Type 0 where
@@ -167,11 +215,11 @@ record Faulted (l : Level) (m : Mode) (text : List ℕ) (f : WordFault) (p q : �
   place_is : q ≡ p + place
   goes_on : GoesOn (IsRead l m) text place
   stops_at : StopsAt (Tells l m f) text place
-  lack : Lacks (IsRead l m) f text place
+  wrong : IsWrong (IsRead l m) f text place
 
-faulted : (l : Level) (m : Mode) (text : List ℕ) (f : WordFault) (p q : ℕ) → Fine m → Open whole (spot_in m) [] → read l text (fresh m) p ≡ Err (f, q) → Faulted l m text f p q
-faulted l m text f p q h o e =
-    let x = before l text (fresh m) f p q h o e in
+faulted : (l : Level) (m : Mode) (text : List ℕ) (f : WordFault) (p q : ℕ) → Trail l m [] m → Fine m → read l text (fresh m) p ≡ Err (f, q) → Faulted l m text f p q
+faulted l m text f p q t h e =
+    let x = before l text (fresh m) f p q h e in
     let y = x.state in
     let c = closing l y.inner y.mode y.depth y.draft x.fine in
     let z = c.closes (0 + length x.front) in
@@ -192,19 +240,19 @@ faulted l m text f p q h o e =
         why = elim x.why as (λ _. ((text ≡ x.front) × Tells l m f text) ⊎ ((b : ℕ) × (rest : List ℕ) × (text ≡ x.front ++ b ∷ rest) × ((more : List ℕ) → Tells l m f (x.front ++ b ∷ more)))) [
           | inl (r, w) ↦ inl (
             x.split ∙ ap (λ r. x.front ++ r) r ∙ append-nil x.front,
-            λ n. ap (λ t. kind_of (read l t (fresh m) n)) (x.split ∙ ap (λ r. x.front ++ r) r) ∙ ap kind_of ((x.leads []).on n ∙ stop_fails l y f (n + length x.front) w),
+            λ n. ap (λ u. kind_of (read l u (fresh m) n)) (x.split ∙ ap (λ r. x.front ++ r) r) ∙ ap kind_of ((x.leads []).on n ∙ stop_fails l y f (n + length x.front) w),
           )
           | inr (b, bs, r, w) ↦ inr (b, bs, x.split ∙ ap (λ r. x.front ++ r) r, λ more n. ap kind_of ((x.leads (b ∷ more)).on n ∙ fails_at l y b more f (n + length x.front) w))
         ];
       };
-      lack = lacks l m text f p q x;
+      wrong = is_wrong l m text f p q t h x;
     }
 
-goes_on : (l : Level) (m : Mode) (text : List ℕ) (f : WordFault) (q : ℕ) → Fine m → Open whole (spot_in m) [] → read l text (fresh m) 0 ≡ Err (f, q) → GoesOn (IsRead l m) text q
-goes_on l m text f q h o e = let x = faulted l m text f 0 q h o e in let i : x.place ≡ q = omega (arith, x.place_is) in subst (λ k. GoesOn (IsRead l m) text k) i x.goes_on
+goes_on : (l : Level) (m : Mode) (text : List ℕ) (f : WordFault) (q : ℕ) → Trail l m [] m → Fine m → read l text (fresh m) 0 ≡ Err (f, q) → GoesOn (IsRead l m) text q
+goes_on l m text f q t h e = let x = faulted l m text f 0 q t h e in let i : x.place ≡ q = omega (arith, x.place_is) in subst (λ k. GoesOn (IsRead l m) text k) i x.goes_on
 
-stops_at : (l : Level) (m : Mode) (text : List ℕ) (f : WordFault) (q : ℕ) → Fine m → Open whole (spot_in m) [] → read l text (fresh m) 0 ≡ Err (f, q) → StopsAt (Tells l m f) text q
-stops_at l m text f q h o e = let x = faulted l m text f 0 q h o e in let i : x.place ≡ q = omega (arith, x.place_is) in subst (λ k. StopsAt (Tells l m f) text k) i x.stops_at
+stops_at : (l : Level) (m : Mode) (text : List ℕ) (f : WordFault) (q : ℕ) → Trail l m [] m → Fine m → read l text (fresh m) 0 ≡ Err (f, q) → StopsAt (Tells l m f) text q
+stops_at l m text f q t h e = let x = faulted l m text f 0 q t h e in let i : x.place ≡ q = omega (arith, x.place_is) in subst (λ k. StopsAt (Tells l m f) text k) i x.stops_at
 
 -- a fault has a place
 placed : (a : Answer) (f : WordFault) → kind_of a ≡ Err f → (q : ℕ) × (a ≡ Err (f, q))
@@ -214,6 +262,35 @@ placed (Err (g, q)) f e = (q, ap (λ r. Err (kind_in r, q)) e)
     kind_in : Result (List Word × ℕ) WordFault → WordFault
     kind_in (Ok x) = g
     kind_in (Err k) = k
+
+-- the other way: where items are open at the end, the fault of the inmost is told
+is_missing : (f : WordFault) (k : ℕ) → IsMissing f k → missing k ≡ f
+is_missing fault.MissingBrace k e = ap missing e
+is_missing fault.MissingQuote k e = ap missing e
+is_missing fault.MissingBracket k e = ap missing e
+is_missing fault.MissingParen k e = ap missing e
+is_missing f k e = absurd e
+
+open_tells : (l : Level) (m : Mode) (text : List ℕ) (k : ℕ) (ks : List ℕ) → Fine m → Open (IsRead l m) text (k ∷ ks) → Tells l m (missing k) text
+open_tells l m text k ks h o = from (read l text (fresh m) 0) refl
+  where
+    from : (a : Answer) → read l text (fresh m) 0 ≡ a → Tells l m (missing k) text
+    from (Ok x) e = absurd (in_nothing (o.needed [] (x.0, x.1, ap (λ t. read l t (fresh m) 0) (append-nil text) ∙ e)))
+    from (Err (f, q)) e =
+        let x = before l text (fresh m) f 0 q h e in
+        let s = x.state in
+        elim x.why as (λ _. Tells l m (missing k) text) [
+          | inl (r, w) ↦
+              let same : x.front ≡ text = sym (x.split ∙ ap (λ y. x.front ++ y) r ∙ append-nil x.front) in
+              let is : ends_at s ≡ k ∷ ks = same_open (IsRead l m) text (ends_at s) (k ∷ ks) (opens l m text x.front s same x.fine x.leads) o in
+              let g : missing k ≡ f = is_missing f k (subst (IsInmost f) is (inmost s f w)) in
+              λ n. ap (λ u. kind_of (read l u (fresh m) n)) (x.split ∙ ap (λ y. x.front ++ y) r) ∙ ap kind_of ((x.leads []).on n ∙ stop_fails l s f (n + length x.front) w) ∙ ap Err (sym g)
+          | inr (b, bs, r, w) ↦
+              let whole : text ++ o.closing ≡ x.front ++ (b ∷ (bs ++ o.closing)) = ap (λ t. t ++ o.closing) (x.split ∙ ap (λ y. x.front ++ y) r) ∙ append_assoc x.front (b ∷ bs) o.closing in
+              let y = o.is_such in
+              let z = sym y.2 ∙ ap (λ t. read l t (fresh m) 0) whole ∙ (x.leads (b ∷ (bs ++ o.closing))).on 0 ∙ fails_at l s b (bs ++ o.closing) f (0 + length x.front) w in
+              absurd cc
+        ]
 
 -- a command
 pub fault_can_go_on : (text : List ℕ) (fault : WordFault) (place : ℕ) → read level.Top text (fresh mode.Start) 0 ≡ Err (fault, place) → CanGoOn text place
@@ -240,7 +317,7 @@ unfolding command_at
 command_read text (ws, n, e) = (ws, n, kind_ok (read level.Top text (fresh mode.Start) 0) (ws, n) e)
 
 pub command_fault_has_its_place : (text : List ℕ) (at : ℕ) (fault : WordFault) → command_at text at ≡ Err fault →
-    (place : ℕ) × GoesOn HasCommand (drop at text) place × StopsAt (HasNoCommand fault) (drop at text) place × Lacks HasCommand fault (drop at text) place
+    (place : ℕ) × GoesOn HasCommand (drop at text) place × StopsAt (HasNoCommand fault) (drop at text) place × IsWrong HasCommand fault (drop at text) place
 unfolding command_at
 command_fault_has_its_place text at fault e =
     let (q, h) = placed (read level.Top (drop at text) (fresh mode.Start) at) fault e in
@@ -248,8 +325,15 @@ command_fault_has_its_place text at fault e =
       x.place,
       goes_as (IsRead level.Top mode.Start) HasCommand (drop at text) x.place has_command x.goes_on,
       stops_as (Tells level.Top mode.Start fault) (HasNoCommand fault) (drop at text) x.place (has_no_command fault) x.stops_at,
-      lacks_as (IsRead level.Top mode.Start) HasCommand (drop at text) x.place fault command_read x.lack,
+      wrong_as (IsRead level.Top mode.Start) HasCommand (drop at text) x.place fault has_command command_read x.wrong,
     )
+
+command_open : (text ks : List ℕ) → Open HasCommand text ks → Open (IsRead level.Top mode.Start) text ks
+command_open text ks o = open_as HasCommand (IsRead level.Top mode.Start) text ks command_read has_command o
+
+pub open_command_misses_its_inmost_end : (text : List ℕ) (at k : ℕ) (ks : List ℕ) → Open HasCommand (drop at text) (k ∷ ks) → command_at text at ≡ Err (missing k)
+unfolding command_at
+open_command_misses_its_inmost_end text at k ks o = open_tells level.Top mode.Start (drop at text) k ks tt (command_open (drop at text) (k ∷ ks) o) at
 
 -- words
 is_words : (text : List ℕ) → IsRead level.List mode.Gap text → IsWords text
@@ -297,7 +381,7 @@ words_read : (text : List ℕ) → IsWords text → IsRead level.List mode.Gap t
 unfolding words_of
 words_read text (ws, e) = let x = words_ok (read level.List text (fresh mode.Gap) 0) ws e in (ws, x.0, x.1)
 
-pub words_fault_has_its_place : (text : List ℕ) (fault : WordFault) → words_of text ≡ Err fault → (place : ℕ) × GoesOn IsWords text place × StopsAt (IsNoWords fault) text place × Lacks IsWords fault text place
+pub words_fault_has_its_place : (text : List ℕ) (fault : WordFault) → words_of text ≡ Err fault → (place : ℕ) × GoesOn IsWords text place × StopsAt (IsNoWords fault) text place × IsWrong IsWords fault text place
 unfolding words_of
 words_fault_has_its_place text fault e =
     let a = read level.List text (fresh mode.Gap) 0 in
@@ -306,8 +390,13 @@ words_fault_has_its_place text fault e =
       x.place,
       goes_as (IsRead level.List mode.Gap) IsWords text x.place is_words x.goes_on,
       stops_as (Tells level.List mode.Gap fault) (IsNoWords fault) text x.place (is_no_words fault) x.stops_at,
-      lacks_as (IsRead level.List mode.Gap) IsWords text x.place fault words_read x.lack,
+      wrong_as (IsRead level.List mode.Gap) IsWords text x.place fault is_words words_read x.wrong,
     )
+
+pub open_words_miss_their_inmost_end : (text : List ℕ) (k : ℕ) (ks : List ℕ) → Open IsWords text (k ∷ ks) → words_of text ≡ Err (missing k)
+unfolding words_of words_in
+open_words_miss_their_inmost_end text k ks o =
+    words_kind (read level.List text (fresh mode.Gap) 0) ∙ ap words_in (open_tells level.List mode.Gap text k ks tt (open_as IsWords (IsRead level.List mode.Gap) text (k ∷ ks) words_read is_words o) 0)
 
 -- an operand
 has_operand : (text : List ℕ) → IsRead level.Alone mode.Operand text → HasOperand text
@@ -323,7 +412,7 @@ unfolding operand_at
 operand_read text (ws, n, e) = (ws, n, kind_ok (read level.Alone text (fresh mode.Operand) 0) (ws, n) e)
 
 pub operand_fault_has_its_place : (text : List ℕ) (at : ℕ) (fault : WordFault) → operand_at text at ≡ Err fault →
-    (place : ℕ) × GoesOn HasOperand (drop at text) place × StopsAt (HasNoOperand fault) (drop at text) place × Lacks HasOperand fault (drop at text) place
+    (place : ℕ) × GoesOn HasOperand (drop at text) place × StopsAt (HasNoOperand fault) (drop at text) place × IsWrong HasOperand fault (drop at text) place
 unfolding operand_at
 operand_fault_has_its_place text at fault e =
     let (q, h) = placed (read level.Alone (drop at text) (fresh mode.Operand) at) fault e in
@@ -331,5 +420,10 @@ operand_fault_has_its_place text at fault e =
       x.place,
       goes_as (IsRead level.Alone mode.Operand) HasOperand (drop at text) x.place has_operand x.goes_on,
       stops_as (Tells level.Alone mode.Operand fault) (HasNoOperand fault) (drop at text) x.place (has_no_operand fault) x.stops_at,
-      lacks_as (IsRead level.Alone mode.Operand) HasOperand (drop at text) x.place fault operand_read x.lack,
+      wrong_as (IsRead level.Alone mode.Operand) HasOperand (drop at text) x.place fault has_operand operand_read x.wrong,
     )
+
+pub open_operand_misses_its_inmost_end : (text : List ℕ) (at k : ℕ) (ks : List ℕ) → Open HasOperand (drop at text) (k ∷ ks) → operand_at text at ≡ Err (missing k)
+unfolding operand_at
+open_operand_misses_its_inmost_end text at k ks o =
+    open_tells level.Alone mode.Operand (drop at text) k ks tt (open_as HasOperand (IsRead level.Alone mode.Operand) (drop at text) (k ∷ ks) operand_read has_operand o) at

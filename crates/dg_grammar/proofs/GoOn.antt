@@ -31,10 +31,14 @@ use Rattle.dg_words.specs.declared.word.Word.{Word}
 use Rattle.dg_words.specs.Classes.{class_of, heard}
 use Rattle.dg_words.specs.Turns.{behind, behind_deed, behind_number, behind_pair, behind_star, counted, digits_of, does, ends, escaped, goes, in_bare, in_brace_first, in_brace_star, in_braced, in_braced_pair, in_colon, in_comment, in_dollar, in_gap, in_gap_pair, in_name, in_name_brace, in_operand, in_pair, in_spot, in_star_pair, in_start, in_start_pair, is_space, letter_of, most_of, numbered, puts, turn, whole, with_digit, written}
 use Rattle.dg_words.specs.Machine.{Draft, Go, Over, Move, State, add, close, open_index, close_index, follow, follow_inside, has_room, leaves, leaves_index, level_in, onward, opens, perform, read, spot_of, step, stop, stopped, take_turn}
+use Rattle.std.specs.List.{filter}
+use Rattle.dg_grammar.specs.Ends.{is_end}
 use Rattle.dg_grammar.specs.Escapes.{stands_for}
 use Rattle.dg_grammar.proofs.Numbers.{Paired, paired, number, digit_some, digit_fits, octal_small}
 use Rattle.dg_grammar.proofs.ListRead.{newline_is, quote_is}
-use Rattle.dg_grammar.proofs.Segments.{at, step_by, taken_to}
+use Rattle.dg_grammar.proofs.Segments.{at, moved, step_by, taken_to}
+use Rattle.dg_grammar.proofs.Openings.{deed_indices}
+use Rattle.dg_grammar.proofs.Closers.{ends_at, ends_of, part_ends, top_ends, with_end}
 use Rattle.dg_grammar.proofs.Pieces.{close_is, right_bracket_is, right_paren_is}
 
 -- A number that digits or another byte can end.
@@ -318,72 +322,75 @@ pub fine_step : (l : Level) (s : State) (b : ℕ) → Fine s.mode → FineMove (
 unfolding step
 fine_step l s b h = fine_take (turn (level_in l s.inner) (nat_lt 0 s.depth) s.mode (class_of b) b) s.depth s.inner s.draft b (fine_turn (level_in l s.inner) (nat_lt 0 s.depth) s.mode (class_of b) b h)
 
--- Bytes behind which a command is read.
+-- Bytes behind which a command is read: they end what is open, and no more.
 pub record Closing (l : Level) (s : State) : Type 0 where
   pub bytes : List ℕ
   pub words : List Word
   pub closes : (p : ℕ) → (q : ℕ) × (read l bytes s p ≡ Ok (words, q))
+  pub just : filter is_end bytes ≡ ends_at s
 
-by_step : (l : Level) (s n : State) (b : ℕ) → step l s b ≡ Go n → Closing l n → Closing l s
+by_step : (l : Level) (s n : State) (b : ℕ) → step l s b ≡ Go n → with_end b (ends_at n) ≡ ends_at s → Closing l n → Closing l s
 unfolding read
-by_step l s n b e c = record {
+by_step l s n b e j c = record {
   bytes = b ∷ c.bytes;
   words = c.words;
   closes = λ p. let x = c.closes (p + 1) in (x.0, ap (λ m. onward m p (λ k. read l c.bytes k (p + 1))) e ∙ x.1);
+  just = ap (λ ks. with_end b ks) c.just ∙ j;
 }
 
-by_over : (l : Level) (s : State) (b : ℕ) (ws : List Word) (k : ℕ) → step l s b ≡ Over ws k → Closing l s
+by_over : (l : Level) (s : State) (b : ℕ) (ws : List Word) (k : ℕ) → step l s b ≡ Over ws k → with_end b [] ≡ ends_at s → Closing l s
 unfolding read
-by_over l s b ws k e = record { bytes = b ∷ []; words = ws; closes = λ p. (p + k, ap (λ m. onward m p (λ n. read l [] n (p + 1))) e) }
+by_over l s b ws k e j = record { bytes = b ∷ []; words = ws; closes = λ p. (p + k, ap (λ m. onward m p (λ n. read l [] n (p + 1))) e); just = j }
 
-by_stop : (l : Level) (s : State) (ws : List Word) → stop s ≡ Ok ws → Closing l s
+by_stop : (l : Level) (s : State) (ws : List Word) → stop s ≡ Ok ws → [] ≡ ends_at s → Closing l s
 unfolding read
-by_stop l s ws e = record { bytes = []; words = ws; closes = λ p. (p, ap (λ r. stopped r p) e) }
+by_stop l s ws e j = record { bytes = []; words = ws; closes = λ p. (p, ap (λ r. stopped r p) e); just = j }
 
 -- outside brackets
 top_stops : (l : Level) (m : Mode) (n : ℕ) (d : Draft) → m ≡ mode.In spot.Bare → Closing l (at [] m n d)
 unfolding stop ends
-top_stops l m n d e = subst (λ x. Closing l (at [] x n d)) (sym e) (by_stop l (at [] (mode.In spot.Bare) n d) _ refl)
+top_stops l m n d e = subst (λ x. Closing l (at [] x n d)) (sym e) (by_stop l (at [] (mode.In spot.Bare) n d) _ refl refl)
 
 alone_stops : (l : Level) (n : ℕ) (d : Draft) → Closing l (at [] (mode.In spot.Alone) n d)
 unfolding stop ends
-alone_stops l n d = by_stop l (at [] (mode.In spot.Alone) n d) _ refl
+alone_stops l n d = by_stop l (at [] (mode.In spot.Alone) n d) _ refl refl
 
 behind_stops : (l : Level) (k : Delimiter) (n : ℕ) (d : Draft) → Closing l (at [] (mode.Behind k) n d)
 unfolding stop ends
-behind_stops l k n d = by_stop l (at [] (mode.Behind k) n d) _ refl
+behind_stops l k n d = by_stop l (at [] (mode.Behind k) n d) _ refl refl
 
 top_closing : (l : Level) (is : List Spot) (s : Spot) (n : ℕ) (d : Draft) → d.indices ≡ is → Closing l (at [] (mode.In s) n d)
 unfolding turn
 top_closing l is spot.Bare n d e = top_stops l (mode.In spot.Bare) n d refl
 top_closing l is spot.Alone n d e = alone_stops l n d
 top_closing l is spot.Quoted n d e =
-    by_step l _ (at [] (mode.Behind delimiter.Quote) n (perform deed.Word d)) 34 (step_by l (at [] (mode.In spot.Quoted) n d) 34 class.Quote (does deed.Word (next.To (mode.Behind delimiter.Quote))) quote_is refl) (behind_stops l delimiter.Quote n _)
+    by_step l _ (at [] (mode.Behind delimiter.Quote) n (perform deed.Word d)) 34 (step_by l (at [] (mode.In spot.Quoted) n d) 34 class.Quote (does deed.Word (next.To (mode.Behind delimiter.Quote))) quote_is refl) refl (behind_stops l delimiter.Quote n _)
 top_closing l [] spot.Index n d e =
-    by_step l _ (at [] (mode.In spot.Bare) n d) 41 (step_by l (at [] (mode.In spot.Index) n d) 41 class.RightParen (does deed.Nothing next.Leave) right_paren_is refl ∙ ap (λ x. leaves_index x n d) e) (top_stops l (mode.In spot.Bare) n d refl)
+    by_step l _ (at [] (mode.In spot.Bare) n d) 41 (step_by l (at [] (mode.In spot.Index) n d) 41 class.RightParen (does deed.Nothing next.Leave) right_paren_is refl ∙ ap (λ x. leaves_index x n d) e) (ap (top_ends spot.Index) (sym e)) (top_stops l (mode.In spot.Bare) n d refl)
 top_closing l (k ∷ ks) spot.Index n d e =
-    by_step l _ (at [] (mode.In k) n (close_index ks d)) 41 (step_by l (at [] (mode.In spot.Index) n d) 41 class.RightParen (does deed.Nothing next.Leave) right_paren_is refl ∙ ap (λ x. leaves_index x n d) e)
+    by_step l _ (at [] (mode.In k) n (close_index ks d)) 41 (step_by l (at [] (mode.In spot.Index) n d) 41 class.RightParen (does deed.Nothing next.Leave) right_paren_is refl ∙ ap (λ x. leaves_index x n d) e) (ap (top_ends spot.Index) (sym e))
     (top_closing l ks k n (close_index ks d) refl)
 
 -- the innermost bracket or index closes
 abbrev Ready : Level → List Outer → Type 0
 Ready l os = (s : Spot) (n : ℕ) (d : Draft) → Closing l (at os (mode.In s) n d)
 
-leaves_closing : (l : Level) (o : Outer) (os : List Outer) (m : Mode) (n b : ℕ) (d : Draft) → Ready l os → step l (at (o ∷ os) m n d) b ≡ leaves (o ∷ os) n d b → Closing l (at (o ∷ os) m n d)
-leaves_closing l o [] m n b d r e = by_step l _ _ b e (r (spot_of o) n _)
-leaves_closing l o (p ∷ ps) m n b d r e = by_step l _ _ b e (r (spot_of o) n _)
+leaves_closing : (l : Level) (o : Outer) (os : List Outer) (m : Mode) (n b : ℕ) (d : Draft) → Ready l os → step l (at (o ∷ os) m n d) b ≡ leaves (o ∷ os) n d b →
+    with_end b (part_ends (spot_of o) os d.indices) ≡ ends_of (o ∷ os) m n d.indices → Closing l (at (o ∷ os) m n d)
+leaves_closing l o [] m n b d r e j = by_step l _ _ b e j (r (spot_of o) n _)
+leaves_closing l o (p ∷ ps) m n b d r e j = by_step l _ _ b e j (r (spot_of o) n _)
 
 gap_leaves : (l : Level) (o : Outer) (os : List Outer) (n : ℕ) (d : Draft) → Ready l os → Closing l (at (o ∷ os) mode.Gap n d)
 unfolding turn
-gap_leaves l o os n d r = leaves_closing l o os mode.Gap n 93 d r (step_by l (at (o ∷ os) mode.Gap n d) 93 class.RightBracket (does deed.Nothing next.Leave) right_bracket_is refl)
+gap_leaves l o os n d r = leaves_closing l o os mode.Gap n 93 d r (step_by l (at (o ∷ os) mode.Gap n d) 93 class.RightBracket (does deed.Nothing next.Leave) right_bracket_is refl) refl
 
 start_leaves : (l : Level) (o : Outer) (os : List Outer) (n : ℕ) (d : Draft) → Ready l os → Closing l (at (o ∷ os) mode.Start n d)
 unfolding turn
-start_leaves l o os n d r = leaves_closing l o os mode.Start n 93 d r (step_by l (at (o ∷ os) mode.Start n d) 93 class.RightBracket (does deed.Nothing next.Leave) right_bracket_is refl)
+start_leaves l o os n d r = leaves_closing l o os mode.Start n 93 d r (step_by l (at (o ∷ os) mode.Start n d) 93 class.RightBracket (does deed.Nothing next.Leave) right_bracket_is refl) refl
 
 behind_leaves : (l : Level) (k : Delimiter) (o : Outer) (os : List Outer) (n : ℕ) (d : Draft) → Ready l os → Closing l (at (o ∷ os) (mode.Behind k) n d)
 unfolding turn
-behind_leaves l k o os n d r = leaves_closing l o os (mode.Behind k) n 93 d r (step_by l (at (o ∷ os) (mode.Behind k) n d) 93 class.RightBracket (does deed.Nothing next.Leave) right_bracket_is refl)
+behind_leaves l k o os n d r = leaves_closing l o os (mode.Behind k) n 93 d r (step_by l (at (o ∷ os) (mode.Behind k) n d) 93 class.RightBracket (does deed.Nothing next.Leave) right_bracket_is refl) refl
 
 pub dot_is : class_of 46 ≡ class.Plain
 unfolding class_of
@@ -391,12 +398,12 @@ dot_is = refl
 
 inner_closing : (l : Level) (o : Outer) (os : List Outer) → Ready l os → Ready l (o ∷ os)
 unfolding turn
-inner_closing l o os r spot.Bare n d = leaves_closing l o os (mode.In spot.Bare) n 93 d r (step_by l (at (o ∷ os) (mode.In spot.Bare) n d) 93 class.RightBracket (does deed.Nothing next.Leave) right_bracket_is refl)
-inner_closing l o os r spot.Index n d = leaves_closing l o os (mode.In spot.Index) n 41 d r (step_by l (at (o ∷ os) (mode.In spot.Index) n d) 41 class.RightParen (does deed.Nothing next.Leave) right_paren_is refl)
+inner_closing l o os r spot.Bare n d = leaves_closing l o os (mode.In spot.Bare) n 93 d r (step_by l (at (o ∷ os) (mode.In spot.Bare) n d) 93 class.RightBracket (does deed.Nothing next.Leave) right_bracket_is refl) refl
+inner_closing l o os r spot.Index n d = leaves_closing l o os (mode.In spot.Index) n 41 d r (step_by l (at (o ∷ os) (mode.In spot.Index) n d) 41 class.RightParen (does deed.Nothing next.Leave) right_paren_is refl) refl
 inner_closing l o os r spot.Quoted n d =
-    by_step l _ (at (o ∷ os) (mode.Behind delimiter.Quote) n (add (34 ∷ []) d)) 34 (step_by l (at (o ∷ os) (mode.In spot.Quoted) n d) 34 class.Quote (does deed.Word (next.To (mode.Behind delimiter.Quote))) quote_is refl) (behind_leaves l delimiter.Quote o os n _ r)
+    by_step l _ (at (o ∷ os) (mode.Behind delimiter.Quote) n (add (34 ∷ []) d)) 34 (step_by l (at (o ∷ os) (mode.In spot.Quoted) n d) 34 class.Quote (does deed.Word (next.To (mode.Behind delimiter.Quote))) quote_is refl) refl (behind_leaves l delimiter.Quote o os n _ r)
 inner_closing l o os r spot.Alone n d =
-    by_step l _ (at (o ∷ os) mode.Start n (add (46 ∷ []) d)) 46 (step_by l (at (o ∷ os) (mode.In spot.Alone) n d) 46 class.Plain (does deed.Word next.Rest) dot_is refl) (start_leaves l o os n _ r)
+    by_step l _ (at (o ∷ os) mode.Start n (add (46 ∷ []) d)) 46 (step_by l (at (o ∷ os) (mode.In spot.Alone) n d) 46 class.Plain (does deed.Word next.Rest) dot_is refl) refl (start_leaves l o os n _ r)
 
 in_closing : (l : Level) (os : List Outer) → Ready l os
 in_closing l [] = λ s n d. top_closing l d.indices s n d refl
@@ -404,22 +411,27 @@ in_closing l (o ∷ os) = inner_closing l o os (in_closing l os)
 
 gap_closing : (l : Level) (os : List Outer) (n : ℕ) (d : Draft) → Closing l (at os mode.Gap n d)
 unfolding stop ends
-gap_closing l [] n d = by_stop l (at [] mode.Gap n d) _ refl
+gap_closing l [] n d = by_stop l (at [] mode.Gap n d) _ refl refl
 gap_closing l (o ∷ os) n d = gap_leaves l o os n d (in_closing l os)
 
 start_closing : (l : Level) (os : List Outer) (n : ℕ) (d : Draft) → Closing l (at os mode.Start n d)
 unfolding stop ends
-start_closing l [] n d = by_stop l (at [] mode.Start n d) _ refl
+start_closing l [] n d = by_stop l (at [] mode.Start n d) _ refl refl
 start_closing l (o ∷ os) n d = start_leaves l o os n d (in_closing l os)
 
 behind_closing : (l : Level) (k : Delimiter) (os : List Outer) (n : ℕ) (d : Draft) → Closing l (at os (mode.Behind k) n d)
 behind_closing l k [] n d = behind_stops l k n d
 behind_closing l k (o ∷ os) n d = behind_leaves l k o os n d (in_closing l os)
 
+moved_indices : (os : List Outer) (t : List ℕ) (f g : Deed) (d : Draft) → (moved os t (λ x. perform g (perform f x)) d).indices ≡ d.indices
+moved_indices [] t f g d = deed_indices g (perform f d) ∙ deed_indices f d
+moved_indices (o ∷ os) t f g d = refl
+
 -- a byte that goes to another mode
 to_closing : (l : Level) (os : List Outer) (m k : Mode) (n b : ℕ) (d : Draft) (c : Class) (f g : Deed) → class_of b ≡ c → turn (level_in l os) (nat_lt 0 n) m c b ≡ record { first = f; second = g; next = next.To k } →
-    ((e : Draft) → Closing l (at os k n e)) → Closing l (at os m n d)
-to_closing l os m k n b d c f g e h r = by_step l _ _ b (step_by l (at os m n d) b c _ e h ∙ taken_to f g k os n d b) (r _)
+    ((is : List Spot) → with_end b (ends_of os k n is) ≡ ends_of os m n is) → ((e : Draft) → Closing l (at os k n e)) → Closing l (at os m n d)
+to_closing l os m k n b d c f g e h j r =
+    by_step l _ _ b (step_by l (at os m n d) b c _ e h ∙ taken_to f g k os n d b) (ap (λ is. with_end b (ends_of os k n is)) (moved_indices os (b ∷ []) f g d) ∙ j d.indices) (r _)
 
 plain_heard : (l : Level) → heard l class.Plain ≡ class.Plain
 plain_heard level.Top = refl
@@ -428,21 +440,23 @@ plain_heard level.Inside = refl
 plain_heard level.Alone = refl
 
 -- a dot goes on parts, behind any deed
-dot_top : (l : Level) (s : Spot) (m : Mode) (n : ℕ) (d : Draft) (f : Deed) → turn l (nat_lt 0 n) m class.Plain 46 ≡ behind_deed f (in_spot l s class.Plain 46) → Closing l (at [] m n d)
-dot_top l spot.Bare m n d f h = to_closing l [] m (mode.In spot.Bare) n 46 d class.Plain f (deed.Byte 46) dot_is (h ∙ ap (λ c. behind_deed f (in_bare l c 46)) (plain_heard l)) (λ e. in_closing l [] spot.Bare n e)
-dot_top l spot.Quoted m n d f h = to_closing l [] m (mode.In spot.Quoted) n 46 d class.Plain f (deed.Byte 46) dot_is h (λ e. in_closing l [] spot.Quoted n e)
-dot_top l spot.Index m n d f h = to_closing l [] m (mode.In spot.Index) n 46 d class.Plain f (deed.Byte 46) dot_is h (λ e. in_closing l [] spot.Index n e)
-dot_top l spot.Alone m n d f h = by_over l (at [] m n d) 46 (perform deed.Word (perform f d)).words 0 (step_by l (at [] m n d) 46 class.Plain (behind_deed f (does deed.Word next.Rest)) dot_is h)
+dot_top : (l : Level) (s : Spot) (m : Mode) (n : ℕ) (d : Draft) (f : Deed) → turn l (nat_lt 0 n) m class.Plain 46 ≡ behind_deed f (in_spot l s class.Plain 46) → ((is : List Spot) → ends_of [] (mode.In s) n is ≡ ends_of [] m n is) → Closing l (at [] m n d)
+dot_top l spot.Bare m n d f h j = to_closing l [] m (mode.In spot.Bare) n 46 d class.Plain f (deed.Byte 46) dot_is (h ∙ ap (λ c. behind_deed f (in_bare l c 46)) (plain_heard l)) j (λ e. in_closing l [] spot.Bare n e)
+dot_top l spot.Quoted m n d f h j = to_closing l [] m (mode.In spot.Quoted) n 46 d class.Plain f (deed.Byte 46) dot_is h j (λ e. in_closing l [] spot.Quoted n e)
+dot_top l spot.Index m n d f h j = to_closing l [] m (mode.In spot.Index) n 46 d class.Plain f (deed.Byte 46) dot_is h j (λ e. in_closing l [] spot.Index n e)
+dot_top l spot.Alone m n d f h j = by_over l (at [] m n d) 46 (perform deed.Word (perform f d)).words 0 (step_by l (at [] m n d) 46 class.Plain (behind_deed f (does deed.Word next.Rest)) dot_is h) (j d.indices)
 
-dot_inside : (l : Level) (o : Outer) (os : List Outer) (s : Spot) (m : Mode) (n : ℕ) (d : Draft) (f : Deed) → turn level.Inside (nat_lt 0 n) m class.Plain 46 ≡ behind_deed f (in_spot level.Inside s class.Plain 46) → Closing l (at (o ∷ os) m n d)
-dot_inside l o os spot.Bare m n d f h = to_closing l (o ∷ os) m (mode.In spot.Bare) n 46 d class.Plain f (deed.Byte 46) dot_is h (λ e. in_closing l (o ∷ os) spot.Bare n e)
-dot_inside l o os spot.Quoted m n d f h = to_closing l (o ∷ os) m (mode.In spot.Quoted) n 46 d class.Plain f (deed.Byte 46) dot_is h (λ e. in_closing l (o ∷ os) spot.Quoted n e)
-dot_inside l o os spot.Index m n d f h = to_closing l (o ∷ os) m (mode.In spot.Index) n 46 d class.Plain f (deed.Byte 46) dot_is h (λ e. in_closing l (o ∷ os) spot.Index n e)
-dot_inside l o os spot.Alone m n d f h = by_step l _ (at (o ∷ os) mode.Start n (add (46 ∷ []) d)) 46 (step_by l (at (o ∷ os) m n d) 46 class.Plain (behind_deed f (does deed.Word next.Rest)) dot_is h) (start_closing l (o ∷ os) n _)
+dot_inside : (l : Level) (o : Outer) (os : List Outer) (s : Spot) (m : Mode) (n : ℕ) (d : Draft) (f : Deed) → turn level.Inside (nat_lt 0 n) m class.Plain 46 ≡ behind_deed f (in_spot level.Inside s class.Plain 46) →
+    ((is : List Spot) → ends_of (o ∷ os) (mode.In s) n is ≡ ends_of (o ∷ os) m n is) → Closing l (at (o ∷ os) m n d)
+dot_inside l o os spot.Bare m n d f h j = to_closing l (o ∷ os) m (mode.In spot.Bare) n 46 d class.Plain f (deed.Byte 46) dot_is h j (λ e. in_closing l (o ∷ os) spot.Bare n e)
+dot_inside l o os spot.Quoted m n d f h j = to_closing l (o ∷ os) m (mode.In spot.Quoted) n 46 d class.Plain f (deed.Byte 46) dot_is h j (λ e. in_closing l (o ∷ os) spot.Quoted n e)
+dot_inside l o os spot.Index m n d f h j = to_closing l (o ∷ os) m (mode.In spot.Index) n 46 d class.Plain f (deed.Byte 46) dot_is h j (λ e. in_closing l (o ∷ os) spot.Index n e)
+dot_inside l o os spot.Alone m n d f h j = by_step l _ (at (o ∷ os) mode.Start n (add (46 ∷ []) d)) 46 (step_by l (at (o ∷ os) m n d) 46 class.Plain (behind_deed f (does deed.Word next.Rest)) dot_is h) (j d.indices) (start_closing l (o ∷ os) n _)
 
-dot_closing : (l : Level) (os : List Outer) (s : Spot) (m : Mode) (n : ℕ) (d : Draft) (f : Deed) → turn (level_in l os) (nat_lt 0 n) m class.Plain 46 ≡ behind_deed f (in_spot (level_in l os) s class.Plain 46) → Closing l (at os m n d)
-dot_closing l [] s m n d f h = dot_top l s m n d f h
-dot_closing l (o ∷ os) s m n d f h = dot_inside l o os s m n d f h
+dot_closing : (l : Level) (os : List Outer) (s : Spot) (m : Mode) (n : ℕ) (d : Draft) (f : Deed) → turn (level_in l os) (nat_lt 0 n) m class.Plain 46 ≡ behind_deed f (in_spot (level_in l os) s class.Plain 46) →
+    ((is : List Spot) → ends_of os (mode.In s) n is ≡ ends_of os m n is) → Closing l (at os m n d)
+dot_closing l [] s m n d f h j = dot_top l s m n d f h j
+dot_closing l (o ∷ os) s m n d f h j = dot_inside l o os s m n d f h j
 
 join_dot : (l : Level) (s : Spot) (deep : Bool) → turn l deep (mode.Join s) class.Plain 46 ≡ behind_deed deed.Nothing (in_spot l s class.Plain 46)
 unfolding turn
@@ -500,7 +514,7 @@ number_dot : (l : Level) (os : List Outer) (s : Spot) (e : Escape) (left v n : �
 unfolding turn
 number_dot l os s e left v n d w h =
     dot_closing l os s (mode.Number s (number e left v)) n d w
-    (ap (λ x. numbered (level_in l os) s (number e left v) class.Plain 46 x) (no_dot e left v) ∙ ap (λ r. behind_number r (in_spot (level_in l os) s class.Plain 46)) h)
+    (ap (λ x. numbered (level_in l os) s (number e left v) class.Plain 46 x) (no_dot e left v) ∙ ap (λ r. behind_number r (in_spot (level_in l os) s class.Plain 46)) h) (λ is. refl)
 
 pub zero_is : class_of 48 ≡ class.Name
 unfolding class_of
@@ -521,11 +535,11 @@ long_closing l os s zero v n d g h k = absurd (omega arith)
 long_closing l os s (suc zero) v n d g h k =
     to_closing l os (mode.Number s (number Long 1 v)) (mode.In s) n 48 d class.Name (deed.Code (16 * v + 0)) deed.Nothing zero_is
     (ap (λ x. numbered (level_in l os) s (number Long 1 v) class.Name 48 x) (digit_fits Long 1 v 48 refl (omega arith)) ∙ ap (λ r. behind_number r (goes (mode.In s))) (sixteenfold v h k))
-    (λ e. in_closing l os s n e)
+    (λ is. refl) (λ e. in_closing l os s n e)
 long_closing l os s (suc (suc left)) v n d g h k =
     to_closing l os (mode.Number s (number Long (suc (suc left)) v)) (mode.Number s (number Long (suc left) (16 * v + 0))) n 48 d class.Name deed.Nothing deed.Nothing zero_is
     (ap (λ x. numbered (level_in l os) s (number Long (suc (suc left)) v) class.Name 48 x) (digit_fits Long (suc (suc left)) v 48 refl (omega arith)))
-    (λ e. tested (suc left == 8) refl e)
+    (λ is. refl) (λ e. tested (suc left == 8) refl e)
   where
     tested : (x : Bool) → (suc left == 8) ≡ x → (e : Draft) → Closing l (at os (mode.Number s (number Long (suc left) (16 * v + 0))) n e)
     tested true y e = number_dot l os s Long (suc left) (16 * v + 0) n e (deed.Byte 85) (rw y refl)
@@ -541,7 +555,7 @@ number_closing l os s e left v n d g =
 -- braces
 brace_behind : (l : Level) (os : List Outer) (d : Draft) → Closing l (at os mode.Braced 0 d)
 unfolding turn
-brace_behind l os d = to_closing l os mode.Braced (mode.Behind delimiter.Brace) 0 125 d class.Close deed.Nothing deed.Word close_is refl (λ e. behind_closing l delimiter.Brace os 0 e)
+brace_behind l os d = to_closing l os mode.Braced (mode.Behind delimiter.Brace) 0 125 d class.Close deed.Nothing deed.Word close_is refl (λ is. refl) (λ e. behind_closing l delimiter.Brace os 0 e)
 
 shallower_to : (l : Level) (os : List Outer) (n : ℕ) (d : Draft) → ((e : Draft) → Closing l (at os mode.Braced n e)) → Closing l (at os mode.Braced (suc n) d)
 unfolding turn
@@ -549,12 +563,12 @@ shallower_to l [] n d r =
     let less : suc n - 1 ≡ n = omega arith in
     by_step l _ (at [] mode.Braced n (add (125 ∷ []) d)) 125
     (step_by l (at [] mode.Braced (suc n) d) 125 class.Close (does (deed.Byte 125) next.Shallower) close_is (ap (λ x. in_braced x class.Close 125) (lt-ltb 0 (suc n) (omega arith)))
-    ∙ ap (λ k. Go (at [] mode.Braced k (add (125 ∷ []) d))) less) (r _)
+    ∙ ap (λ k. Go (at [] mode.Braced k (add (125 ∷ []) d))) less) refl (r _)
 shallower_to l (o ∷ os) n d r =
     let less : suc n - 1 ≡ n = omega arith in
     by_step l _ (at (o ∷ os) mode.Braced n (add (125 ∷ []) d)) 125
     (step_by l (at (o ∷ os) mode.Braced (suc n) d) 125 class.Close (does (deed.Byte 125) next.Shallower) close_is (ap (λ x. in_braced x class.Close 125) (lt-ltb 0 (suc n) (omega arith)))
-    ∙ ap (λ k. Go (at (o ∷ os) mode.Braced k (add (125 ∷ []) d))) less) (r _)
+    ∙ ap (λ k. Go (at (o ∷ os) mode.Braced k (add (125 ∷ []) d))) less) refl (r _)
 
 braced_closing : (l : Level) (os : List Outer) (n : ℕ) (d : Draft) → Closing l (at os mode.Braced n d)
 braced_closing l os zero d = brace_behind l os d
@@ -566,8 +580,8 @@ dot_braced false = refl
 
 operand_closing : (l : Level) (os : List Outer) (n : ℕ) (d : Draft) → Closing l (at os mode.Operand n d)
 unfolding stop ends turn
-operand_closing l [] n d = by_stop l (at [] mode.Operand n d) _ refl
-operand_closing l (o ∷ os) n d = by_step l _ (at (o ∷ os) mode.Start n (add (46 ∷ []) d)) 46 (step_by l (at (o ∷ os) mode.Operand n d) 46 class.Plain (does deed.Word next.Rest) dot_is refl) (start_closing l (o ∷ os) n _)
+operand_closing l [] n d = by_stop l (at [] mode.Operand n d) _ refl refl
+operand_closing l (o ∷ os) n d = by_step l _ (at (o ∷ os) mode.Start n (add (46 ∷ []) d)) 46 (step_by l (at (o ∷ os) mode.Operand n d) 46 class.Plain (does deed.Word next.Rest) dot_is refl) refl (start_closing l (o ∷ os) n _)
 
 pub letter_is : class_of 97 ≡ class.Name
 unfolding class_of
@@ -576,33 +590,37 @@ letter_is = refl
 star_dot : (l : Level) (b : ℕ) → behind_star l class.Plain b ≡ behind_deed deed.Expand (puts b (mode.In spot.Bare))
 star_dot l b = refl
 
+star_closing : (l : Level) (os : List Outer) (n : ℕ) (d : Draft) → Closing l (at os mode.BehindStar n d)
+unfolding turn
+star_closing l os n d =
+    to_closing l os mode.BehindStar (mode.In spot.Bare) n 46 d class.Plain deed.Expand (deed.Byte 46) dot_is (ap (λ c. behind_star (level_in l os) c 46) (plain_heard (level_in l os)) ∙ star_dot (level_in l os) 46)
+    (λ is. refl) (λ e. in_closing l os spot.Bare n e)
+
 pub closing : (l : Level) (os : List Outer) (m : Mode) (n : ℕ) (d : Draft) → Fine m → Closing l (at os m n d)
 unfolding turn
 closing l os mode.Start n d h = start_closing l os n d
-closing l os mode.StartPair n d h = to_closing l os mode.StartPair mode.Start n 10 d class.Newline deed.Nothing deed.Nothing newline_is refl (λ e. start_closing l os n e)
-closing l os mode.Comment n d h = to_closing l os mode.Comment mode.Start n 10 d class.Newline deed.Nothing deed.Nothing newline_is refl (λ e. start_closing l os n e)
+closing l os mode.StartPair n d h = to_closing l os mode.StartPair mode.Start n 10 d class.Newline deed.Nothing deed.Nothing newline_is refl (λ is. refl) (λ e. start_closing l os n e)
+closing l os mode.Comment n d h = to_closing l os mode.Comment mode.Start n 10 d class.Newline deed.Nothing deed.Nothing newline_is refl (λ is. refl) (λ e. start_closing l os n e)
 closing l os mode.CommentPair n d h =
-    to_closing l os mode.CommentPair mode.Comment n 10 d class.Newline deed.Nothing deed.Nothing newline_is refl
-    (λ e. to_closing l os mode.Comment mode.Start n 10 e class.Newline deed.Nothing deed.Nothing newline_is refl (λ f. start_closing l os n f))
+    to_closing l os mode.CommentPair mode.Comment n 10 d class.Newline deed.Nothing deed.Nothing newline_is refl (λ is. refl)
+    (λ e. to_closing l os mode.Comment mode.Start n 10 e class.Newline deed.Nothing deed.Nothing newline_is refl (λ is. refl) (λ f. start_closing l os n f))
 closing l os mode.Gap n d h = gap_closing l os n d
-closing l os mode.GapPair n d h = to_closing l os mode.GapPair mode.Gap n 10 d class.Newline deed.Nothing deed.Nothing newline_is refl (λ e. gap_closing l os n e)
+closing l os mode.GapPair n d h = to_closing l os mode.GapPair mode.Gap n 10 d class.Newline deed.Nothing deed.Nothing newline_is refl (λ is. refl) (λ e. gap_closing l os n e)
 closing l os mode.Operand n d h = operand_closing l os n d
 closing l os (mode.In s) n d h = in_closing l os s n d
-closing l os (mode.Pair s) n d h = to_closing l os (mode.Pair s) (mode.In s) n 97 d class.Name deed.Nothing (deed.Byte 7) letter_is refl (λ e. in_closing l os s n e)
-closing l os (mode.Join s) n d h = dot_closing l os s (mode.Join s) n d deed.Nothing (join_dot (level_in l os) s (nat_lt 0 n))
-closing l os (mode.Dollar s) n d h = dot_closing l os s (mode.Dollar s) n d deed.Dollar refl
-closing l os (mode.Colon s) n d h = dot_closing l os s (mode.Colon s) n d deed.DollarColon refl
-closing l os (mode.Name s) n d h = dot_closing l os s (mode.Name s) n d deed.Value refl
-closing l os (mode.NameBrace s) n d h = to_closing l os (mode.NameBrace s) (mode.In s) n 125 d class.Close deed.Nothing deed.Value close_is refl (λ e. in_closing l os s n e)
+closing l os (mode.Pair s) n d h = to_closing l os (mode.Pair s) (mode.In s) n 97 d class.Name deed.Nothing (deed.Byte 7) letter_is refl (λ is. refl) (λ e. in_closing l os s n e)
+closing l os (mode.Join s) n d h = dot_closing l os s (mode.Join s) n d deed.Nothing (join_dot (level_in l os) s (nat_lt 0 n)) (λ is. refl)
+closing l os (mode.Dollar s) n d h = dot_closing l os s (mode.Dollar s) n d deed.Dollar refl (λ is. refl)
+closing l os (mode.Colon s) n d h = dot_closing l os s (mode.Colon s) n d deed.DollarColon refl (λ is. refl)
+closing l os (mode.Name s) n d h = dot_closing l os s (mode.Name s) n d deed.Value refl (λ is. refl)
+closing l os (mode.NameBrace s) n d h = to_closing l os (mode.NameBrace s) (mode.In s) n 125 d class.Close deed.Nothing deed.Value close_is refl (λ is. refl) (λ e. in_closing l os s n e)
 closing l os (mode.Number s x) n d h = number_closing l os s x.escape x.left x.value n d h
-closing l os mode.BraceFirst n d h = to_closing l os mode.BraceFirst mode.Braced n 46 d class.Plain deed.Nothing (deed.Byte 46) dot_is refl (λ e. braced_closing l os n e)
-closing l os mode.BraceStar n d h = to_closing l os mode.BraceStar mode.Braced n 46 d class.Plain deed.Nothing (deed.Byte 46) dot_is refl (λ e. braced_closing l os n e)
-closing l os mode.BehindStar n d h =
-    to_closing l os mode.BehindStar (mode.In spot.Bare) n 46 d class.Plain deed.Expand (deed.Byte 46) dot_is (ap (λ c. behind_star (level_in l os) c 46) (plain_heard (level_in l os)) ∙ star_dot (level_in l os) 46)
-    (λ e. in_closing l os spot.Bare n e)
-closing l os mode.StarPair n d h = to_closing l os mode.StarPair mode.Gap n 10 d class.Newline deed.Nothing deed.Word newline_is refl (λ e. gap_closing l os n e)
+closing l os mode.BraceFirst n d h = to_closing l os mode.BraceFirst (mode.Behind delimiter.Brace) n 125 d class.Close deed.Nothing deed.Word close_is refl (λ is. refl) (λ e. behind_closing l delimiter.Brace os n e)
+closing l os mode.BraceStar n d h = to_closing l os mode.BraceStar mode.BehindStar n 125 d class.Close deed.Nothing deed.Nothing close_is refl (λ is. refl) (λ e. star_closing l os n e)
+closing l os mode.BehindStar n d h = star_closing l os n d
+closing l os mode.StarPair n d h = to_closing l os mode.StarPair mode.Gap n 10 d class.Newline deed.Nothing deed.Word newline_is refl (λ is. refl) (λ e. gap_closing l os n e)
 closing l os mode.Braced n d h = braced_closing l os n d
-closing l os mode.BracedPair n d h = to_closing l os mode.BracedPair mode.Braced n 46 d class.Plain (deed.Byte 92) (deed.Byte 46) dot_is refl (λ e. braced_closing l os n e)
-closing l os mode.BracedJoin n d h = to_closing l os mode.BracedJoin mode.Braced n 46 d class.Plain deed.Nothing (deed.Byte 46) dot_is (dot_braced (nat_lt 0 n)) (λ e. braced_closing l os n e)
+closing l os mode.BracedPair n d h = to_closing l os mode.BracedPair mode.Braced n 46 d class.Plain (deed.Byte 92) (deed.Byte 46) dot_is refl (λ is. refl) (λ e. braced_closing l os n e)
+closing l os mode.BracedJoin n d h = to_closing l os mode.BracedJoin mode.Braced n 46 d class.Plain deed.Nothing (deed.Byte 46) dot_is (dot_braced (nat_lt 0 n)) (λ is. refl) (λ e. braced_closing l os n e)
 closing l os (mode.Behind k) n d h = behind_closing l k os n d
-closing l os (mode.BehindPair k) n d h = to_closing l os (mode.BehindPair k) mode.Gap n 10 d class.Newline deed.Nothing deed.Nothing newline_is refl (λ e. gap_closing l os n e)
+closing l os (mode.BehindPair k) n d h = to_closing l os (mode.BehindPair k) mode.Gap n 10 d class.Newline deed.Nothing deed.Nothing newline_is refl (λ is. refl) (λ e. gap_closing l os n e)

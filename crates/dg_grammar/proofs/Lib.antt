@@ -18,9 +18,14 @@ pub mod WordSpelled
 pub mod OperandSpelled
 pub mod CommandSpelled
 pub mod Openings
+pub mod Closers
+pub mod InOrder
+pub mod Inmost
 pub mod Missing
 pub mod Faults
 pub mod ListSteps
+pub mod Trails
 pub mod ListFaults
 pub mod ListKinds
+pub mod Wrong
 pub mod Rows

@@ -457,20 +457,20 @@ byte_some : (v : ℕ) (x : Bool) → x ≡ true → cond x (Some (deed.Byte v)) 
 byte_some v true e h = absurd cc
 byte_some v false e h = absurd cc
 
-written_none : (e : Escape) (v : ℕ) → v ≤ most_of e → written e v ≡ None → (e ≢ Octal) × (scalar v ≡ false)
+pub written_none : (e : Escape) (v : ℕ) → v ≤ most_of e → written e v ≡ None → (e ≢ Octal) × (scalar v ≡ false)
 written_none Octal v m h = absurd (byte_some v (nat_lt v 256) (lt-ltb v 256 (omega arith)) h)
 written_none Byte v m h = absurd (byte_some v (nat_lt v 256) (lt-ltb v 256 (omega arith)) h)
 written_none Short v m h = (λ i. absurd cc, code_none v (scalar v) h)
 written_none Long v m h = (λ i. absurd cc, code_none v (scalar v) h)
 
-whole_none : (n : kinds.Digits) → whole n ≡ None → written n.escape n.value ≡ None
+pub whole_none : (n : kinds.Digits) → whole n ≡ None → written n.escape n.value ≡ None
 whole_none n h = tested (n.left == digits_of n.escape) h
   where
     tested : (x : Bool) → cond x (Some (deed.Byte (letter_of n.escape))) (written n.escape n.value) ≡ None → written n.escape n.value ≡ None
     tested true e = absurd cc
     tested false e = e
 
-sixteen : (e : Escape) → e ≢ Octal → base_of e ≡ 16
+pub sixteen : (e : Escape) → e ≢ Octal → base_of e ≡ 16
 sixteen Octal n = absurd (n refl)
 sixteen Byte n = refl
 sixteen Short n = refl

@@ -169,11 +169,11 @@ trace_if : (past : List ℕ) (x : Bool) (t u : Turn) → TraceNext past t.next �
 trace_if past true t u h k = h
 trace_if past false t u h k = k
 
-value_more : (base v : ℕ) (ds : List ℕ) (d : ℕ) → value_from base v (ds ++ d ∷ []) ≡ base * value_from base v ds + digit_value d
+pub value_more : (base v : ℕ) (ds : List ℕ) (d : ℕ) → value_from base v (ds ++ d ∷ []) ≡ base * value_from base v ds + digit_value d
 value_more base v [] d = refl
 value_more base v (c ∷ ds) d = value_more base (base * v + digit_value c) ds d
 
-each_more : (so : ℕ → Bool) (ds : List ℕ) (d : ℕ) → each so ds ≡ true → so d ≡ true → each so (ds ++ d ∷ []) ≡ true
+pub each_more : (so : ℕ → Bool) (ds : List ℕ) (d : ℕ) → each so ds ≡ true → so d ≡ true → each so (ds ++ d ∷ []) ≡ true
 each_more so [] d h k = and_both _ true k refl
 each_more so (c ∷ ds) d h k = and_both _ _ (and_left _ _ h) (each_more so ds d (and_right _ _ h) k)
 

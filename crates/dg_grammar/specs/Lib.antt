@@ -3,4 +3,5 @@ pub mod Lists
 pub mod Words
 pub mod Operands
 pub mod Continuing
+pub mod Ends
 pub mod Saying

@@ -11,10 +11,12 @@ pub use crate::lists::{
     list_fault_says_what_is_wrong, read_list_is_spelled, spelled_list_is_read,
 };
 pub use crate::operands::{
-    operand_fault_has_its_place, read_operand_is_spelled, spelled_operand_is_read,
+    open_operand_misses_its_inmost_end, operand_fault_has_its_place, read_operand_is_spelled,
+    spelled_operand_is_read,
 };
 pub use crate::words::{
-    command_fault_has_its_place, fault_can_go_on, read_command_is_spelled, read_words_are_spelled,
-    spelled_command_is_read, spelled_words_are_read, words_fault_can_go_on,
+    command_fault_has_its_place, fault_can_go_on, open_command_misses_its_inmost_end,
+    open_ends_are_one, open_words_miss_their_inmost_end, read_command_is_spelled,
+    read_words_are_spelled, spelled_command_is_read, spelled_words_are_read, words_fault_can_go_on,
     words_fault_has_its_place, words_fault_is_first,
 };

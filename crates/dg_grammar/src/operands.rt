@@ -6,7 +6,8 @@ ghost use Rattle.dg_words.specs.declared.word.Word.{Word};
 ghost use Rattle.dg_words.specs.Reading.{operand_at};
 ghost use Rattle.dg_grammar.specs.Continuing.{GoesOn, HasNoOperand, HasOperand, StopsAt};
 ghost use Rattle.dg_grammar.specs.Operands.{Begun};
-ghost use Rattle.dg_grammar.specs.Saying.{Lacks};
+ghost use Rattle.dg_grammar.specs.Ends.{missing, Open};
+ghost use Rattle.dg_grammar.specs.Saying.{IsWrong};
 
 /// A law: where a text begins with an operand, that operand is read, as one word, up to the place behind it; so it
 /// begins with no other.
@@ -21,7 +22,12 @@ pub fn read_operand_is_spelled()
 {}
 
 /// A law: each fault of an operand has a place, before which the text can go on to an operand, and up to which no
-/// text begins with one; and its kind says what is missing.
+/// text begins with one; and its kind says what is wrong.
 pub fn operand_fault_has_its_place()
-    ensures { (text : List ℕ) (at : ℕ) (fault : WordFault) → operand_at text at ≡ Err fault → (place : ℕ) × GoesOn HasOperand (drop at text) place × StopsAt (HasNoOperand fault) (drop at text) place × Lacks HasOperand fault (drop at text) place }
+    ensures { (text : List ℕ) (at : ℕ) (fault : WordFault) → operand_at text at ≡ Err fault → (place : ℕ) × GoesOn HasOperand (drop at text) place × StopsAt (HasNoOperand fault) (drop at text) place × IsWrong HasOperand fault (drop at text) place }
+{}
+
+/// A law: where items are open after a text that is to begin with an operand, the end of the inmost is missing.
+pub fn open_operand_misses_its_inmost_end()
+    ensures { (text : List ℕ) (at k : ℕ) (ks : List ℕ) → Open HasOperand (drop at text) (k ∷ ks) → operand_at text at ≡ Err (missing k) }
 {}

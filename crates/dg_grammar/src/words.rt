@@ -1,5 +1,5 @@
 //! The laws of commands and words.
-ghost use Rattle.std.specs.Prelude.{◌≡◌, ◌+◌, ℕ, List, Ok, Err, drop};
+ghost use Rattle.std.specs.Prelude.{◌≡◌, ◌+◌, ℕ, List, ◌∷◌, Ok, Err, drop};
 ghost use Rattle.dg_words.specs.declared.word.Word.{Word};
 ghost use Rattle.dg_words.specs.declared.fault.WordFault.{WordFault};
 ghost use Rattle.dg_words.specs.declared.kinds.Level.TheVariants.{List as Listed, Top};
@@ -7,7 +7,8 @@ ghost use Rattle.dg_words.specs.declared.kinds.Mode.TheVariants.{Gap, Start};
 ghost use Rattle.dg_words.specs.Machine.{fresh, read};
 ghost use Rattle.dg_words.specs.Reading.{command_at, words_of};
 ghost use Rattle.dg_grammar.specs.Continuing.{CanGoOn, GoesOn, HasCommand, HasNoCommand, IsNoWords, IsWords, StopsAt};
-ghost use Rattle.dg_grammar.specs.Saying.{Lacks};
+ghost use Rattle.dg_grammar.specs.Ends.{missing, Open};
+ghost use Rattle.dg_grammar.specs.Saying.{IsWrong};
 ghost use Rattle.dg_grammar.specs.Words.{Begun, WordsOf};
 
 /// A law: where a text begins with a command, that command is read, up to the place behind its end; so it
@@ -39,9 +40,19 @@ pub fn fault_can_go_on()
 {}
 
 /// A law: each fault of a command has a place, before which the text can go on to a command, and up to which no text
-/// begins with one; and its kind says what is missing.
+/// begins with one; and its kind says what is wrong.
 pub fn command_fault_has_its_place()
-    ensures { (text : List ℕ) (at : ℕ) (fault : WordFault) → command_at text at ≡ Err fault → (place : ℕ) × GoesOn HasCommand (drop at text) place × StopsAt (HasNoCommand fault) (drop at text) place × Lacks HasCommand fault (drop at text) place }
+    ensures { (text : List ℕ) (at : ℕ) (fault : WordFault) → command_at text at ≡ Err fault → (place : ℕ) × GoesOn HasCommand (drop at text) place × StopsAt (HasNoCommand fault) (drop at text) place × IsWrong HasCommand fault (drop at text) place }
+{}
+
+/// A law: where items are open after a text that is to begin with a command, the end of the inmost is missing.
+pub fn open_command_misses_its_inmost_end()
+    ensures { (text : List ℕ) (at k : ℕ) (ks : List ℕ) → Open HasCommand (drop at text) (k ∷ ks) → command_at text at ≡ Err (missing k) }
+{}
+
+/// A law: what is open after a text that is to begin with a command is open in one way.
+pub fn open_ends_are_one()
+    ensures { (text ks ls : List ℕ) → Open HasCommand text ks → Open HasCommand text ls → ks ≡ ls }
 {}
 
 /// A law: the text before the place of the fault of words can go on, so that words are read.
@@ -56,7 +67,12 @@ pub fn words_fault_is_first()
 {}
 
 /// A law: each fault of words has a place, before which the text can go on to words, and up to which no text spells
-/// any; and its kind says what is missing.
+/// any; and its kind says what is wrong.
 pub fn words_fault_has_its_place()
-    ensures { (text : List ℕ) (fault : WordFault) → words_of text ≡ Err fault → (place : ℕ) × GoesOn IsWords text place × StopsAt (IsNoWords fault) text place × Lacks IsWords fault text place }
+    ensures { (text : List ℕ) (fault : WordFault) → words_of text ≡ Err fault → (place : ℕ) × GoesOn IsWords text place × StopsAt (IsNoWords fault) text place × IsWrong IsWords fault text place }
+{}
+
+/// A law: where items are open after a text of words, the end of the inmost is missing.
+pub fn open_words_miss_their_inmost_end()
+    ensures { (text : List ℕ) (k : ℕ) (ks : List ℕ) → Open IsWords text (k ∷ ks) → words_of text ≡ Err (missing k) }
 {}
