@@ -16,9 +16,8 @@ use Rattle.dg_language.specs.declared.command.TargetCommand.{TargetCommand}
 use Rattle.dg_language.specs.declared.command.TargetCommand.TheVariants.{IsTarget, IsHost, IsBuild, IsNative}
 use Rattle.dg_language.specs.declared.command.FlagCommand.{FlagCommand}
 use Rattle.dg_language.specs.State.{State, in_library, departed}
-use Rattle.dg_language.specs.Evaluation.{Nested, one_of, first_of}
+use Rattle.dg_language.specs.Evaluation.{Nested, one_of, two_of, first_of}
 use Rattle.dg_language.specs.Boards.{do_set_board_info, do_unset_board_info, do_load_generic_config, told_of, do_target_info, told_by, do_board_info, library_file, content_of, after_library, found, load, load_named, do_load_lib, do_board, do_is, do_is_native, do_target, is_pattern, do_flag}
-use Rattle.dg_language.specs.Choosing.{two_of}
 use Rattle.dg_grafting.specs.Grafting.{Grafted}
 use Rattle.dg_grafting.proofs.Trees.{one_after_another}
 use Rattle.dg_grafting.proofs.Steps.{IsGraftedInside, completes, either, on-grafted, ask-grafted, fail-grafted}

@@ -9,8 +9,8 @@ use Rattle.dg_language.specs.declared.command.ChoiceCommand.{ChoiceCommand}
 use Rattle.dg_language.specs.declared.command.ChoiceCommand.TheVariants.{Expr, Eval, If, Switch, While, For}
 use Rattle.dg_language.specs.Play.{Play}
 use Rattle.dg_language.specs.State.{State}
-use Rattle.dg_language.specs.Evaluation.{Ending, Then, Nested}
-use Rattle.dg_language.specs.Choosing.{AtCondition, clauses_at, do_otherwise, choose, do_if, next_after, between, body_if, repeat, two_of, four_of, do_while, do_for}
+use Rattle.dg_language.specs.Evaluation.{Ending, Then, Nested, two_of, four_of}
+use Rattle.dg_language.specs.Choosing.{AtCondition, clauses_at, do_otherwise, choose, do_if, next_after, between, body_if, repeat, do_while, do_for}
 use Rattle.dg_language.specs.Switching.{switched, do_taken, do_switch, text_in, evaluated, do_eval, do_choice}
 use Rattle.dg_grafting.specs.Grafting.{Grafted}
 use Rattle.dg_grafting.proofs.Trees.{one_after_another}

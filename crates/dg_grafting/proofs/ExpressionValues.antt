@@ -4,11 +4,11 @@ use Rattle.std.specs.Prelude.{Option, Some, None, Ok, Err, if◌then◌else◌}
 use Rattle.dg_expr.specs.declared.code.Joins.{Joins}
 use Rattle.dg_expr.specs.declared.code.Joins.TheVariants.{Always, WhereTrue, WhereFalse}
 use Rattle.dg_expr.specs.declared.operator.Infix.{Infix}
-use Rattle.dg_expr.specs.Code.{settle, judge, truth_text, joining, truth_behind, value_behind, value}
+use Rattle.dg_expr.specs.Code.{settle, judge, joining, truth_behind, value_behind, value}
 use Rattle.dg_expr.specs.Operator.{Value, value_of, value_of_one}
 use Rattle.dg_expr.specs.Reading.{tree_in}
 use Rattle.dg_expr.specs.Tree.{Tree, Operand, One, Two, Choice}
-use Rattle.dg_expr.specs.Truth.{truth_of}
+use Rattle.dg_expr.specs.Truth.{truth_of, truth_text}
 use Rattle.dg_language.specs.declared.code.Code.TheVariants.{Done}
 use Rattle.dg_language.specs.Play.{Play}
 use Rattle.dg_language.specs.State.{State}

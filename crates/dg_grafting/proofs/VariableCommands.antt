@@ -12,9 +12,10 @@ use Rattle.dg_language.specs.declared.command.VariableCommand.{VariableCommand}
 use Rattle.dg_language.specs.declared.command.VariableCommand.TheVariants.{Set, Append, ListAppend, Increase, Unset as UnsetCommand, Info, Global}
 use Rattle.dg_language.specs.Play.{Play}
 use Rattle.dg_language.specs.State.{State, began, began_with, assigned, unassigned}
+use Rattle.dg_expr.specs.Truth.{truth_text}
 use Rattle.dg_language.specs.Evaluation.{Ending, Then, first_of, one_of, list_in}
 use Rattle.dg_language.specs.Results.{takes_count, count_of, recorded, with_count, result_of, do_result}
-use Rattle.dg_language.specs.Variables.{is_to_begin, first_value, begin, touch, given, read_variable, store, or_empty, set_of, do_set, do_append, with_appended, append_elements, do_lappend, addend, or_zero, increased, with_sum, add_number, do_incr, unset_one, unset_all, unset_names, do_unset, digit, info_of, do_info, all_linked, do_global, do_variable}
+use Rattle.dg_language.specs.Variables.{is_to_begin, first_value, begin, touch, given, read_variable, store, or_empty, set_of, do_set, do_append, with_appended, append_elements, do_lappend, addend, or_zero, increased, with_sum, add_number, do_incr, unset_one, unset_all, unset_names, do_unset, info_of, do_info, all_linked, do_global, do_variable}
 use Rattle.dg_grafting.specs.Grafting.{Grafted}
 use Rattle.dg_grafting.proofs.Steps.{completes, either, on-grafted, ask-grafted, within-grafted, fail-grafted}
 
@@ -122,7 +123,7 @@ do_unset-grafted args s = unset_all-grafted (unset_names args).0 (unset_names ar
 info_of-grafted : (exists : Bool) (args : List (List ℕ)) (s : State) → Grafted (info_of exists args s)
 info_of-grafted false args s = fail-grafted _ s
 info_of-grafted true args s =
-    on-grafted (one_of args) (fail-grafted _ s) (λ n. touch-grafted n s (λ s'. completes Done (digit (is_some (value_of s'.variables n))) s'))
+    on-grafted (one_of args) (fail-grafted _ s) (λ n. touch-grafted n s (λ s'. completes Done (truth_text (is_some (value_of s'.variables n))) s'))
 
 do_info-grafted : (args : List (List ℕ)) (s : State) → Grafted (do_info args s)
 unfolding do_info
