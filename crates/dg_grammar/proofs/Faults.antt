@@ -12,14 +12,17 @@ use Rattle.dg_words.specs.declared.kinds.Mode.TheVariants as mode
 use Rattle.dg_words.specs.declared.word.Word.{Word}
 use Rattle.dg_words.specs.Machine.{Answer, Go, Fails, Over, Move, State, fresh, level_in, onward, read, step, stop, stopped}
 use Rattle.dg_words.specs.Reading.{command_at, kind_of, operand_at, words_of, words_only}
-use Rattle.dg_grammar.specs.Continuing.{CanGoOn, GoesOn, HasCommand, HasNoCommand, HasNoOperand, HasOperand, IsNoWords, IsRead, IsWords, StopsAt}
+use Rattle.dg_grammar.specs.Continuing.{CanGoOn, GoesOn, HasCommand, HasNoCommand, HasNoOperand, HasOperand, IsNoWords, IsNot, IsRead, IsWords, StopsAt}
+use Rattle.dg_grammar.proofs.Openings.{IsOther}
 use Rattle.dg_grammar.proofs.Segments.{Leads, lead_one, lead_none, lead_both}
 use Rattle.dg_words.specs.Classes.{class_of}
 use Rattle.dg_grammar.specs.Ends.{Open, missing}
-use Rattle.dg_grammar.specs.Saying.{EndsWord, IsOther, IsWrong, OpensNothing, Unwritten}
+use Rattle.dg_grammar.specs.Saying.{EndsWord, IsWrong, OpensNothing, TooMany, Unwritten}
 use Rattle.dg_grammar.proofs.Bytes.{is_class}
 use Rattle.dg_grammar.proofs.Closers.{ends_at}
 use Rattle.dg_grammar.proofs.Trails.{Cause, IsNested, Reached, Trail, cause, reached_step}
+use Rattle.dg_grammar.proofs.OneKind.{is_missing, one_kind, one_place}
+use Rattle.dg_grammar.proofs.Plain.{Opener, bracket_opens, paren_opens, plain}
 use Rattle.dg_grammar.proofs.Wrong.{IsWrongAt, wrong_at, wrong_end}
 use Rattle.dg_grammar.proofs.InOrder.{in_nothing, same_open}
 use Rattle.dg_grammar.proofs.Inmost.{IsInmost, IsMissing, inmost, needed}
@@ -155,13 +158,18 @@ wrong_where_it_ends : (Is : List ℕ → Type 0) (text : List ℕ) (place : ℕ)
 wrong_where_it_ends Is text place [] f h w e o = both Is text place f (w h) (λ _. o)
 wrong_where_it_ends Is text place (k ∷ ks) f h w e o = lacks_first Is text place k ks f h e o
 
-nested : (Is : List ℕ → Type 0) (text front bs : List ℕ) (b : ℕ) (f : WordFault) → text ≡ front ++ b ∷ bs → IsNested f → IsAt (class_of b) f → IsWrong Is f text (length front)
-nested Is text front bs b fault.MissingBracket e n h = inr (record { front = front; rest = bs; split = e ∙ ap (λ x. front ++ x ∷ bs) (is_class b class.LeftBracket h); place_is = refl })
-nested Is text front bs b fault.MissingParen e n h = inr (record { front = front; rest = bs; split = e ∙ ap (λ x. front ++ x ∷ bs) (is_class b class.LeftParen h); place_is = refl })
-nested Is text front bs b f e n h = absurd n
+too_many : (l : Level) (m : Mode) (text front bs : List ℕ) (s : State) (b k : ℕ) (f : WordFault) → text ≡ front ++ b ∷ bs → b ≡ k → Opener k → IsNested f → Reached l m front s → step l s b ≡ Fails f → TooMany (IsRead l m) k text (length front)
+too_many l m text front bs s b k f e i o n r w =
+    let x = plain l m front s k f r o n (ap (λ c. step l s c) (sym i) ∙ w) in
+    record { front = front; rest = bs; split = e ∙ ap (λ c. front ++ c ∷ bs) i; place_is = refl; more = x.0; is_such = x.1 }
+
+nested : (l : Level) (m : Mode) (text front bs : List ℕ) (s : State) (b : ℕ) (f : WordFault) → text ≡ front ++ b ∷ bs → Reached l m front s → step l s b ≡ Fails f → IsNested f → IsAt (class_of b) f → IsWrong (IsRead l m) f text (length front)
+nested l m text front bs s b fault.MissingBracket e r w n h = inr (too_many l m text front bs s b 91 fault.MissingBracket e (is_class b class.LeftBracket h) bracket_opens tt r w)
+nested l m text front bs s b fault.MissingParen e r w n h = inr (too_many l m text front bs s b 40 fault.MissingParen e (is_class b class.LeftParen h) paren_opens tt r w)
+nested l m text front bs s b f e r w n h = absurd n
 
 wrong_where_it_stands : (l : Level) (m : Mode) (text front bs : List ℕ) (s : State) (b : ℕ) (f : WordFault) → text ≡ front ++ b ∷ bs → Reached l m front s → step l s b ≡ Fails f → IsNested f ⊎ Cause (level_in l s.inner) b s.mode f → IsWrong (IsRead l m) f text (length front)
-wrong_where_it_stands l m text front bs s b f e r w (inl n) = nested (IsRead l m) text front bs b f e n (fail_step l s b f w)
+wrong_where_it_stands l m text front bs s b f e r w (inl n) = nested l m text front bs s b f e r w n (fail_step l s b f w)
 wrong_where_it_stands l m text front bs s b f e r w (inr c) = both (IsRead l m) text (length front) f (wrong_at l m text front bs s b f e r w c) (λ i. absurd (before_byte text front bs b e i))
 
 is_wrong : (l : Level) (m : Mode) (text : List ℕ) (f : WordFault) (p q : ℕ) → Trail l m [] m → Fine m → (x : Before l (fresh m) text f p q) → IsWrong (IsRead l m) f text (length x.front)
@@ -183,6 +191,9 @@ open_as Is Such text ks f g o = record { closing = o.closing; is_such = f (text 
 ends_as : (Is Such : List ℕ → Type 0) (k : ℕ) (text : List ℕ) (place : ℕ) → ((t : List ℕ) → Such t → Is t) → EndsWord Is k text place → EndsWord Such k text place
 ends_as Is Such k text place g x = record { before = x.before; rest = x.rest; split = x.split; is_parted = λ more h. x.is_parted more (g (x.before ++ k ∷ more) h); place_is = x.place_is }
 
+many_as : (Is Such : List ℕ → Type 0) (k : ℕ) (text : List ℕ) (place : ℕ) → ((t : List ℕ) → Is t → Such t) → TooMany Is k text place → TooMany Such k text place
+many_as Is Such k text place f x = record { front = x.front; rest = x.rest; split = x.split; place_is = x.place_is; more = x.more; is_such = f (x.front ++ 46 ∷ x.more) x.is_such }
+
 unwritten_as : (Is Such : List ℕ → Type 0) (text : List ℕ) (place : ℕ) → ((t : List ℕ) → Such t → Is t) → Unwritten Is text place → Unwritten Such text place
 unwritten_as Is Such text place g x = record {
   before = x.before;
@@ -201,9 +212,9 @@ wrong_as : (Is Such : List ℕ → Type 0) (text : List ℕ) (place : ℕ) (f : 
 wrong_as Is Such text place fault.MissingBrace f g h = (h.0, h.1, open_as Is Such text (125 ∷ h.1) f g h.2)
 wrong_as Is Such text place fault.MissingQuote f g h = (h.0, h.1, open_as Is Such text (34 ∷ h.1) f g h.2)
 wrong_as Is Such text place fault.MissingBracket f g (inl h) = inl (h.0, h.1, open_as Is Such text (93 ∷ h.1) f g h.2)
-wrong_as Is Such text place fault.MissingBracket f g (inr h) = inr h
+wrong_as Is Such text place fault.MissingBracket f g (inr h) = inr (many_as Is Such 91 text place f h)
 wrong_as Is Such text place fault.MissingParen f g (inl h) = inl (h.0, h.1, open_as Is Such text (41 ∷ h.1) f g h.2)
-wrong_as Is Such text place fault.MissingParen f g (inr h) = inr h
+wrong_as Is Such text place fault.MissingParen f g (inr h) = inr (many_as Is Such 40 text place f h)
 wrong_as Is Such text place fault.AfterBrace f g h = (ends_as Is Such 125 text place g h.0, λ e. open_as Is Such text [] f g (h.1 e))
 wrong_as Is Such text place fault.AfterQuote f g h = (ends_as Is Such 34 text place g h.0, λ e. open_as Is Such text [] f g (h.1 e))
 wrong_as Is Such text place fault.BadCodePoint f g h = (unwritten_as Is Such text place g h.0, λ e. open_as Is Such text [] f g (h.1 e))
@@ -264,13 +275,6 @@ placed (Err (g, q)) f e = (q, ap (λ r. Err (kind_in r, q)) e)
     kind_in (Err k) = k
 
 -- the other way: where items are open at the end, the fault of the inmost is told
-is_missing : (f : WordFault) (k : ℕ) → IsMissing f k → missing k ≡ f
-is_missing fault.MissingBrace k e = ap missing e
-is_missing fault.MissingQuote k e = ap missing e
-is_missing fault.MissingBracket k e = ap missing e
-is_missing fault.MissingParen k e = ap missing e
-is_missing f k e = absurd e
-
 open_tells : (l : Level) (m : Mode) (text : List ℕ) (k : ℕ) (ks : List ℕ) → Fine m → Open (IsRead l m) text (k ∷ ks) → Tells l m (missing k) text
 open_tells l m text k ks h o = from (read l text (fresh m) 0) refl
   where
@@ -291,6 +295,29 @@ open_tells l m text k ks h o = from (read l text (fresh m) 0) refl
               let z = sym y.2 ∙ ap (λ t. read l t (fresh m) 0) whole ∙ (x.leads (b ∷ (bs ++ o.closing))).on 0 ∙ fails_at l s b (bs ++ o.closing) f (0 + length x.front) w in
               absurd cc
         ]
+
+-- what is wrong at the first place is told
+stops_whole : (Is : List ℕ → Type 0) (text : List ℕ) (place : ℕ) → StopsAt Is text place → Is text
+stops_whole Is text place x = elim x.why [ inl (e, h) ↦ h | inr (b, rest, e, h) ↦ subst Is (sym e) (h rest) ]
+
+tells_not : (l : Level) (m : Mode) (f : WordFault) (text : List ℕ) → Tells l m f text → IsNot (IsRead l m) text
+tells_not l m f text h x = let y = sym (h 0) ∙ ap kind_of x.2 in absurd cc
+
+decided : (l : Level) (m : Mode) (text : List ℕ) (place : ℕ) (f : WordFault) → Trail l m [] m → Fine m → GoesOn (IsRead l m) text place → StopsAt (IsNot (IsRead l m)) text place → IsWrong (IsRead l m) f text place → Tells l m f text
+decided l m text place f t h x y w = from (read l text (fresh m) 0) refl
+  where
+    from : (a : Answer) → read l text (fresh m) 0 ≡ a → Tells l m f text
+    from (Ok r) e = absurd (stops_whole (IsNot (IsRead l m)) text place y (r.0, r.1, e))
+    from (Err (g, q)) e =
+        let z = faulted l m text g 0 q t h e in
+        let p = one_place (IsRead l m) text place z.place x y z.goes_on (stops_as (Tells l m g) (IsNot (IsRead l m)) text z.place (tells_not l m g) z.stops_at) in
+        let same = one_kind (IsRead l m) text place f g w (subst (λ k. IsWrong (IsRead l m) g text k) (sym p) z.wrong) in
+        subst (λ k. Tells l m k text) (sym same) (stops_whole (Tells l m g) text z.place z.stops_at)
+
+decided_as : (l : Level) (m : Mode) (Such : List ℕ → Type 0) (text : List ℕ) (place : ℕ) (f : WordFault) → Trail l m [] m → Fine m → ((t : List ℕ) → IsRead l m t → Such t) → ((t : List ℕ) → Such t → IsRead l m t) →
+    GoesOn Such text place → StopsAt (IsNot Such) text place → IsWrong Such f text place → Tells l m f text
+decided_as l m Such text place f t h to from x y w =
+    decided l m text place f t h (goes_as Such (IsRead l m) text place from x) (stops_as (IsNot Such) (IsNot (IsRead l m)) text place (λ u n r. n (to u r)) y) (wrong_as Such (IsRead l m) text place f from to w)
 
 -- a command
 pub fault_can_go_on : (text : List ℕ) (fault : WordFault) (place : ℕ) → read level.Top text (fresh mode.Start) 0 ≡ Err (fault, place) → CanGoOn text place
@@ -327,6 +354,10 @@ command_fault_has_its_place text at fault e =
       stops_as (Tells level.Top mode.Start fault) (HasNoCommand fault) (drop at text) x.place (has_no_command fault) x.stops_at,
       wrong_as (IsRead level.Top mode.Start) HasCommand (drop at text) x.place fault has_command command_read x.wrong,
     )
+
+pub what_is_wrong_in_a_command_is_told : (text : List ℕ) (at place : ℕ) (fault : WordFault) → GoesOn HasCommand (drop at text) place → StopsAt (IsNot HasCommand) (drop at text) place → IsWrong HasCommand fault (drop at text) place → command_at text at ≡ Err fault
+unfolding command_at
+what_is_wrong_in_a_command_is_told text at place fault x y w = decided_as level.Top mode.Start HasCommand (drop at text) place fault tt tt has_command command_read x y w at
 
 command_open : (text ks : List ℕ) → Open HasCommand text ks → Open (IsRead level.Top mode.Start) text ks
 command_open text ks o = open_as HasCommand (IsRead level.Top mode.Start) text ks command_read has_command o
@@ -393,6 +424,11 @@ words_fault_has_its_place text fault e =
       wrong_as (IsRead level.List mode.Gap) IsWords text x.place fault is_words words_read x.wrong,
     )
 
+pub what_is_wrong_in_words_is_told : (text : List ℕ) (place : ℕ) (fault : WordFault) → GoesOn IsWords text place → StopsAt (IsNot IsWords) text place → IsWrong IsWords fault text place → words_of text ≡ Err fault
+unfolding words_of words_in
+what_is_wrong_in_words_is_told text place fault x y w =
+    words_kind (read level.List text (fresh mode.Gap) 0) ∙ ap words_in (decided_as level.List mode.Gap IsWords text place fault tt tt is_words words_read x y w 0)
+
 pub open_words_miss_their_inmost_end : (text : List ℕ) (k : ℕ) (ks : List ℕ) → Open IsWords text (k ∷ ks) → words_of text ≡ Err (missing k)
 unfolding words_of words_in
 open_words_miss_their_inmost_end text k ks o =
@@ -427,3 +463,7 @@ pub open_operand_misses_its_inmost_end : (text : List ℕ) (at k : ℕ) (ks : Li
 unfolding operand_at
 open_operand_misses_its_inmost_end text at k ks o =
     open_tells level.Alone mode.Operand (drop at text) k ks tt (open_as HasOperand (IsRead level.Alone mode.Operand) (drop at text) (k ∷ ks) operand_read has_operand o) at
+
+pub what_is_wrong_in_an_operand_is_told : (text : List ℕ) (at place : ℕ) (fault : WordFault) → GoesOn HasOperand (drop at text) place → StopsAt (IsNot HasOperand) (drop at text) place → IsWrong HasOperand fault (drop at text) place → operand_at text at ≡ Err fault
+unfolding operand_at
+what_is_wrong_in_an_operand_is_told text at place fault x y w = decided_as level.Alone mode.Operand HasOperand (drop at text) place fault tt tt has_operand operand_read x y w at

@@ -23,11 +23,10 @@ use Rattle.dg_words.specs.Classes.{class_of}
 use Rattle.dg_words.specs.Turns.{ends, goes, in_brace_first, in_brace_star, in_braced, in_braced_pair, in_name_brace, is_space, number_ends, spot_ends, turn, whole}
 use Rattle.dg_words.specs.Machine.{Draft, Go, Fails, Over, Move, State, ended, follow, follow_inside, has_room, is_none, leaves, leaves_index, level_in, onward, opens, perform, read, spot_of, step, stop, stopped, take_turn}
 use Rattle.dg_grammar.specs.Ends.{InOrder}
-use Rattle.dg_grammar.specs.Saying.{IsOther}
 use Rattle.dg_grammar.proofs.Bytes.{is_class}
 use Rattle.dg_grammar.proofs.Closers.{brace_ends, deep_ends, ends_at, ends_of, part_ends, top_ends}
 use Rattle.dg_grammar.proofs.InOrder.{in_both, in_same}
-use Rattle.dg_grammar.proofs.Openings.{Going, IsWordy, deed_indices, going, inside_ends, spot_in}
+use Rattle.dg_grammar.proofs.Openings.{Going, IsWordy, deed_indices, going, inside_ends, spot_in, IsOther}
 
 -- what stays of the ends behind a byte: all, or all but the first
 data Kept (b : ℕ) (ks ls : List ℕ) : Type 0 where

@@ -28,4 +28,6 @@ pub mod Trails
 pub mod ListFaults
 pub mod ListKinds
 pub mod Wrong
+pub mod Plain
+pub mod OneKind
 pub mod Rows

@@ -13,8 +13,7 @@ use Rattle.dg_words.specs.declared.kinds.Turn.{Turn}
 use Rattle.dg_words.specs.Classes.{class_of}
 use Rattle.dg_words.specs.Turns.{turn}
 use Rattle.dg_words.specs.Machine.{Draft, Fails, Move, State, follow, follow_inside, has_room, leaves, leaves_index, level_in, opens, perform, step, take_turn}
-use Rattle.dg_grammar.specs.Saying.{IsOther}
-use Rattle.dg_grammar.proofs.Openings.{Going, going, spot_in}
+use Rattle.dg_grammar.proofs.Openings.{Going, going, spot_in, IsOther}
 
 abbrev pub IsAt : Class → WordFault → Type 0
 IsAt c fault.MissingBracket = c ≡ class.LeftBracket

@@ -2,6 +2,7 @@
 use Rattle.std.specs.Prelude.{◌≡◌, ℕ, zero, suc, List, [], ◌∷◌, refl, Ok, Bool, true, false, Option, None, Some, cond}
 use Rattle.std.proofs.Common.{◌∙◌, sym, subst}
 use Rattle.dg_words.specs.declared.fault.WordFault.{WordFault}
+use Rattle.dg_words.specs.declared.fault.WordFault.TheVariants as fault
 use Rattle.dg_words.specs.declared.kinds.Class.{Class}
 use Rattle.dg_words.specs.declared.kinds.Class.TheVariants as class
 use Rattle.dg_words.specs.declared.kinds.Deed.{Deed}
@@ -24,8 +25,14 @@ use Rattle.dg_words.specs.Classes.{heard}
 use Rattle.dg_words.specs.Turns.{after, behind, behind_number, behind_pair, behind_star, counted, ends, escaped, goes, in_bare, in_brace_first, in_brace_star, in_braced, in_braced_pair, in_colon, in_comment, in_dollar, in_gap, in_gap_pair, in_name, in_name_brace, in_operand, in_pair, in_spot, in_star_pair, in_start, in_start_pair, is_space, number_ends, numbered, spot_ends, turn, whole as whole_number, with_digit, written}
 use Rattle.dg_words.specs.Machine.{Draft, end_word, ended, perform}
 use Rattle.dg_grammar.specs.Escapes.{stands_for}
-use Rattle.dg_grammar.specs.Saying.{IsOther}
 use Rattle.dg_grammar.proofs.Numbers.{Paired, paired}
+
+-- faults that miss nothing
+abbrev pub IsOther : WordFault → Type 0
+IsOther fault.AfterBrace = Unit {0}
+IsOther fault.AfterQuote = Unit {0}
+IsOther fault.BadCodePoint = Unit {0}
+IsOther f = ⊥
 
 -- where parts stand in a mode; between words they would stand bare
 abbrev pub spot_in : Mode → Spot

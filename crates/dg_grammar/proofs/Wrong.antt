@@ -28,8 +28,9 @@ use Rattle.dg_words.specs.Turns.{after, behind, behind_number, behind_pair, digi
 use Rattle.dg_words.specs.Machine.{Draft, Go, Fails, State, ended, fresh, is_none, level_in, onward, read, step, stop, stopped, take_turn}
 use Rattle.dg_grammar.specs.Continuing.{IsRead}
 use Rattle.dg_grammar.specs.Escapes.{each, value_from}
-use Rattle.dg_grammar.specs.Saying.{BeginsWithHex, EndsWord, IsOther, Unwritten, is_hex}
+use Rattle.dg_grammar.specs.Saying.{BeginsWithHex, EndsWord, Unwritten, is_hex}
 use Rattle.dg_grammar.specs.Words.{Parted, ends_word}
+use Rattle.dg_grammar.proofs.Openings.{IsOther}
 use Rattle.dg_grammar.proofs.Bytes.{is_class}
 use Rattle.dg_grammar.proofs.GoOn.{Fine}
 use Rattle.dg_grammar.proofs.ListKinds.{sixteen, whole_none, written_none}
@@ -38,7 +39,7 @@ use Rattle.dg_grammar.proofs.Segments.{Leads, at, step_by, taken_to}
 use Rattle.dg_grammar.proofs.Trails.{Cause, Ended, Numbered, Reached, Trail, mark, numbered_more}
 
 -- a reading that a byte ends in a fault succeeds with no text
-bad_take : (n : ℕ) (os : List Outer) (d : Draft) (b : ℕ) (f : WordFault) → take_turn (does deed.Nothing (next.Bad f)) n os d b ≡ Fails f
+pub bad_take : (n : ℕ) (os : List Outer) (d : Draft) (b : ℕ) (f : WordFault) → take_turn (does deed.Nothing (next.Bad f)) n os d b ≡ Fails f
 bad_take n [] d b f = refl
 bad_take n (o ∷ os) d b f = refl
 

@@ -31,6 +31,10 @@ pub record StopsAt (Is : List ℕ → Type 0) (text : List ℕ) (place : ℕ) : 
   pub why : ((text ≡ front) × Is text)
       ⊎ ((b : ℕ) × (rest : List ℕ) × (text ≡ front ++ b ∷ rest) × ((more : List ℕ) → Is (front ++ b ∷ more)))
 
+-- a text that is no such text
+abbrev pub IsNot : (List ℕ → Type 0) → List ℕ → Type 0
+IsNot Is text = Is text → ⊥
+
 -- words are read
 abbrev pub IsRead : Level → Mode → List ℕ → Type 0
 IsRead l m text = (words : List Word) × (next : ℕ) × (read l text (fresh m) 0 ≡ Ok (words, next))

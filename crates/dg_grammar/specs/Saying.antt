@@ -24,19 +24,14 @@ pub record Has (b : ℕ) (text : List ℕ) : Type 0 where
 abbrev pub Misses : (List ℕ → Type 0) → ℕ → List ℕ → ℕ → Type 0
 Misses Is b text place = (place ≡ length text) × ((more : List ℕ) → Is (text ++ more) → Has b more)
 
--- this byte stands at this place
-pub record Stands (b : ℕ) (text : List ℕ) (place : ℕ) : Type 0 where
+-- One bracket or index too many: this byte stands at this place, where a dot could stand.
+pub record TooMany (Is : List ℕ → Type 0) (b : ℕ) (text : List ℕ) (place : ℕ) : Type 0 where
   pub front : List ℕ
   pub rest : List ℕ
   pub split : text ≡ front ++ b ∷ rest
   pub place_is : place ≡ length front
-
--- faults that miss nothing
-abbrev pub IsOther : WordFault → Type 0
-IsOther AfterBrace = Unit {0}
-IsOther AfterQuote = Unit {0}
-IsOther BadCodePoint = Unit {0}
-IsOther f = ⊥
+  pub more : List ℕ
+  pub is_such : Is (front ++ 46 ∷ more)
 
 -- The text ends at this place, and the inmost of the items that are open in it has not got this end.
 abbrev pub LacksEnd : (List ℕ → Type 0) → ℕ → List ℕ → ℕ → Type 0
@@ -84,8 +79,8 @@ pub record Unwritten (Is : List ℕ → Type 0) (text : List ℕ) (place : ℕ) 
 abbrev pub IsWrong : (List ℕ → Type 0) → WordFault → List ℕ → ℕ → Type 0
 IsWrong Is MissingBrace text place = LacksEnd Is 125 text place
 IsWrong Is MissingQuote text place = LacksEnd Is 34 text place
-IsWrong Is MissingBracket text place = LacksEnd Is 93 text place ⊎ Stands 91 text place
-IsWrong Is MissingParen text place = LacksEnd Is 41 text place ⊎ Stands 40 text place
+IsWrong Is MissingBracket text place = LacksEnd Is 93 text place ⊎ TooMany Is 91 text place
+IsWrong Is MissingParen text place = LacksEnd Is 41 text place ⊎ TooMany Is 40 text place
 IsWrong Is AfterBrace text place = EndsWord Is 125 text place × OpensNothing Is text place
 IsWrong Is AfterQuote text place = EndsWord Is 34 text place × OpensNothing Is text place
 IsWrong Is BadCodePoint text place = Unwritten Is text place × OpensNothing Is text place

@@ -4,7 +4,7 @@ ghost use Rattle.dg_words.specs.Piece.{Piece};
 ghost use Rattle.dg_words.specs.declared.fault.WordFault.{WordFault};
 ghost use Rattle.dg_words.specs.declared.word.Word.{Word};
 ghost use Rattle.dg_words.specs.Reading.{operand_at};
-ghost use Rattle.dg_grammar.specs.Continuing.{GoesOn, HasNoOperand, HasOperand, StopsAt};
+ghost use Rattle.dg_grammar.specs.Continuing.{GoesOn, HasNoOperand, HasOperand, IsNot, StopsAt};
 ghost use Rattle.dg_grammar.specs.Operands.{Begun};
 ghost use Rattle.dg_grammar.specs.Ends.{missing, Open};
 ghost use Rattle.dg_grammar.specs.Saying.{IsWrong};
@@ -25,6 +25,12 @@ pub fn read_operand_is_spelled()
 /// text begins with one; and its kind says what is wrong.
 pub fn operand_fault_has_its_place()
     ensures { (text : List ℕ) (at : ℕ) (fault : WordFault) → operand_at text at ≡ Err fault → (place : ℕ) × GoesOn HasOperand (drop at text) place × StopsAt (HasNoOperand fault) (drop at text) place × IsWrong HasOperand fault (drop at text) place }
+{}
+
+/// A law: where the text before a place can go on to an operand and the text up to it cannot, and this fault is what is
+/// wrong there, just this fault is told.
+pub fn what_is_wrong_in_an_operand_is_told()
+    ensures { (text : List ℕ) (at place : ℕ) (fault : WordFault) → GoesOn HasOperand (drop at text) place → StopsAt (IsNot HasOperand) (drop at text) place → IsWrong HasOperand fault (drop at text) place → operand_at text at ≡ Err fault }
 {}
 
 /// A law: where items are open after a text that is to begin with an operand, the end of the inmost is missing.

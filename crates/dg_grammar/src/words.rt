@@ -6,7 +6,7 @@ ghost use Rattle.dg_words.specs.declared.kinds.Level.TheVariants.{List as Listed
 ghost use Rattle.dg_words.specs.declared.kinds.Mode.TheVariants.{Gap, Start};
 ghost use Rattle.dg_words.specs.Machine.{fresh, read};
 ghost use Rattle.dg_words.specs.Reading.{command_at, words_of};
-ghost use Rattle.dg_grammar.specs.Continuing.{CanGoOn, GoesOn, HasCommand, HasNoCommand, IsNoWords, IsWords, StopsAt};
+ghost use Rattle.dg_grammar.specs.Continuing.{CanGoOn, GoesOn, HasCommand, HasNoCommand, IsNot, IsNoWords, IsWords, StopsAt};
 ghost use Rattle.dg_grammar.specs.Ends.{missing, Open};
 ghost use Rattle.dg_grammar.specs.Saying.{IsWrong};
 ghost use Rattle.dg_grammar.specs.Words.{Begun, WordsOf};
@@ -45,6 +45,12 @@ pub fn command_fault_has_its_place()
     ensures { (text : List ℕ) (at : ℕ) (fault : WordFault) → command_at text at ≡ Err fault → (place : ℕ) × GoesOn HasCommand (drop at text) place × StopsAt (HasNoCommand fault) (drop at text) place × IsWrong HasCommand fault (drop at text) place }
 {}
 
+/// A law: where the text before a place can go on to a command and the text up to it cannot, and this fault is what is
+/// wrong there, just this fault is told.
+pub fn what_is_wrong_in_a_command_is_told()
+    ensures { (text : List ℕ) (at place : ℕ) (fault : WordFault) → GoesOn HasCommand (drop at text) place → StopsAt (IsNot HasCommand) (drop at text) place → IsWrong HasCommand fault (drop at text) place → command_at text at ≡ Err fault }
+{}
+
 /// A law: where items are open after a text that is to begin with a command, the end of the inmost is missing.
 pub fn open_command_misses_its_inmost_end()
     ensures { (text : List ℕ) (at k : ℕ) (ks : List ℕ) → Open HasCommand (drop at text) (k ∷ ks) → command_at text at ≡ Err (missing k) }
@@ -70,6 +76,12 @@ pub fn words_fault_is_first()
 /// any; and its kind says what is wrong.
 pub fn words_fault_has_its_place()
     ensures { (text : List ℕ) (fault : WordFault) → words_of text ≡ Err fault → (place : ℕ) × GoesOn IsWords text place × StopsAt (IsNoWords fault) text place × IsWrong IsWords fault text place }
+{}
+
+/// A law: where the text before a place can go on to words and the text up to it cannot, and this fault is what is
+/// wrong there, just this fault is told.
+pub fn what_is_wrong_in_words_is_told()
+    ensures { (text : List ℕ) (place : ℕ) (fault : WordFault) → GoesOn IsWords text place → StopsAt (IsNot IsWords) text place → IsWrong IsWords fault text place → words_of text ≡ Err fault }
 {}
 
 /// A law: where items are open after a text of words, the end of the inmost is missing.
