@@ -10,6 +10,7 @@ use dg_words::{Bytes, Seq};
 use dg_world::{Edit, Refusal, Selection, Setting};
 use std::alloc::{AllocError, Global};
 use std::test::Fail;
+use std::thread;
 
 /// The report of a passing script, written out by hand.
 const PASSED: &[u8] =
@@ -69,6 +70,33 @@ fn settles_again_for_nothing(rt: HostRuntime) -> Result<(), Fail> {
     let (text, _status) = settled(alloc, &mut core)?;
     assert!(rt; text.is(PASSED));
     assert_eq!(rt; core.evaluations(), 1);
+    Ok(())
+}
+
+/// The core, if it gives its report.
+fn once_settled(alloc: Global, mut core: Core) -> Option<Core> {
+    match core.settle(alloc) {
+        Ok(_) => Some(core),
+        Err(_) => None,
+    }
+}
+
+/// Whether a core gives the report of a passing script, of one evaluation.
+fn settles_to_passed(alloc: Global, mut core: Core) -> bool {
+    match core.settle(alloc) {
+        Ok((text, status)) => text.is(PASSED) && status == 0 && core.evaluations() == 1,
+        Err(_) => false,
+    }
+}
+
+#[test]
+fn a_core_goes_to_another_thread(rt: HostRuntime) -> Result<(), Fail> {
+    let alloc = rt.alloc();
+    let core = core_with(alloc, b"pass \"one\"\n")?;
+    let first = thread::spawn(&rt, move || once_settled(alloc, core))?;
+    let settled = first.join(&rt).ok_or("no report")?;
+    let second = thread::spawn(&rt, move || settles_to_passed(alloc, settled))?;
+    assert!(rt; second.join(&rt));
     Ok(())
 }
 
