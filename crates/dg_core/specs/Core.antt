@@ -1,5 +1,5 @@
 -- A world, and the records that are kept of it.
-use Rattle.std.specs.Prelude.{◌≡◌, ◌≤◌, ℕ, ◌+◌, ◌-◌, ◌^◌, Bool, true, false, cond, not, min, Option, Some, None, Result, Ok, Err, List, [], ◌∷◌, length, take}
+use Rattle.std.specs.Prelude.{◌≡◌, ◌≤◌, ℕ, ◌+◌, ◌-◌, ◌^◌, Bool, false, cond, not, min, Option, Some, None, Result, Ok, Err, List, [], ◌∷◌, length, take}
 use Rattle.std.specs.List.{list_all, filter}
 use Rattle.dg_world.specs.Question.{same_answer}
 use Rattle.dg_world.specs.World.{WorldView, new_world, edited, look, selected}

@@ -1,10 +1,11 @@
 -- What a session writes.
-use Rattle.std.specs.Prelude.{ℕ, List, [], ◌∷◌, ◌++◌, ◌≡◌, ◌⊎◌, map, take, Option, Some, None, Result, Ok, Err}
+use Rattle.std.specs.Prelude.{ℕ, List, [], ◌∷◌, ◌++◌, ◌≡◌, ◌⊎◌, map, take, Option, Some, None, Result, Ok, Err, IsTrue}
 use Rattle.std.specs.Result.{result_unwrap_or}
 use Rattle.std.specs.List.{flat_map}
 use Rattle.std.specs.Io.KnownBytes.{Appends}
 use Rattle.bstr.specs.Records.{records, trim_record}
 use Rattle.dg_world.specs.Refusal.{refusal_number}
+use Rattle.dg_world.specs.World.{takes_memory}
 use Rattle.dg_core.specs.Core.{CoreView, edited_core, settled, evaluated}
 use Rattle.dg_core.specs.Scratch.{scratch}
 use Rattle.runtest.specs.declared.answer.LineAnswer.{LineAnswer}
@@ -62,10 +63,10 @@ text_of_all given = flat_map text_of given
 abbrev pub session_text : CoreView → List ℕ → List ℕ
 session_text core input = text_of_all (answers core (requests_of input))
 
--- what a request is answered where memory runs out
+-- what a request is answered where memory runs out, which it can't in a removal
 abbrev pub short_answer : Request → Option LineAnswer
 short_answer (request.Put name content) = Some (answer.Refused 8)
-short_answer (request.Remove name) = Some (answer.Refused 8)
+short_answer (request.Remove name) = None
 short_answer request.Report = Some (answer.Fault 2)
 short_answer request.Unknown = None
 
@@ -91,9 +92,11 @@ Answers core input old new = (text : List ℕ) × IsAnswered core input text × 
 abbrev pub AnswersFront : CoreView → List ℕ → Option (List ℕ) → Option (List ℕ) → Type 0
 AnswersFront core input old new = (text : List ℕ) × IsAnswered core input text × AppendsFront old new text
 
--- an edit was made or refused, or memory ran out
+-- an edit was made or refused, or memory ran out where it takes some
 abbrev pub AnswersEdit : CoreView → CoreView → Edit → LineAnswer → Type 0
-AnswersEdit old new edit given = ((new ≡ result_unwrap_or (edited_core old edit) old) × (given ≡ edit_answer (edited_core old edit))) ⊎ (given ≡ answer.Refused 8)
+AnswersEdit old new edit given =
+    ((new ≡ result_unwrap_or (edited_core old edit) old) × (given ≡ edit_answer (edited_core old edit)))
+    ⊎ (IsTrue (takes_memory old.world edit) × (given ≡ answer.Refused 8))
 
 -- the report was given, or memory ran out
 abbrev pub AnswersReport : CoreView → CoreView → LineAnswer → Type 0

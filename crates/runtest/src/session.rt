@@ -39,7 +39,7 @@ fn answer_report(alloc: Global, core: &mut Core) -> LineAnswer
     }
 }
 
-/// Does what a request asks. Where memory runs out, an edit is refused with 8 and a report has the
+/// Does what a request asks. Where memory runs out, a put is refused with 8 and a report has the
 /// fault 2.
 #[tactic(auto, unfolding(crate::specs::Session::answer_to, crate::specs::Session::core_after))]
 fn answer_request(alloc: Global, core: &mut Core, request: Request) -> LineAnswer
@@ -106,7 +106,7 @@ pub fn serve<R: BufRead, W: Write>(
 }
 
 /// Answers every line of the input, in order, and flushes after each answer. Where memory runs out
-/// in an edit or in a report the line is answered `refused 8` or `fault 2`, and the session goes on.
+/// in a put or in a report the line is answered `refused 8` or `fault 2`, and the session goes on.
 pub fn run_session<R: BufRead, W: Write>(
     alloc: Global,
     reader: &mut R,
