@@ -2,8 +2,7 @@
 use Rattle.std.specs.Prelude.{◌≡◌, ℕ, ◌+◌, ◌-◌, ◌≤◌, ◌<◌, List, [], ◌∷◌, ◌++◌, length, get_or, refl, Bool, true, false, nat_lt}
 use Rattle.std.specs.List.{slice_range}
 use Rattle.std.proofs.Common.{◌∙◌, ap, sym, arith, subst, append_assoc, lt-ltb}
-use Rattle.std.proofs.lemmas.List.{append-nil}
-use Rattle.std.proofs.lemmas.List.Edits.{between_none, between_more}
+use Rattle.std.proofs.lemmas.List.Edits.{between_more}
 use Rattle.dg_words.specs.declared.kinds.Class.{Class}
 use Rattle.dg_words.specs.declared.kinds.Class.TheVariants as class
 use Rattle.dg_words.specs.declared.kinds.Deed.TheVariants as deed
@@ -20,9 +19,6 @@ use Rattle.dg_words.specs.Turns.{does, goes, in_bare, in_braced, in_comment, in_
 use Rattle.dg_words.specs.Machine.{Draft, State, Go, add, is_none, level_in, step, take_turn}
 use Rattle.dg_words.specs.Runs.{Reaches, commented, in_mode, is_comment, is_text}
 use Rattle.dg_words.proofs.Loop.{reads_move, step_depth}
-
-pub reaches_here : (text : List ℕ) (p : ℕ) (s : State) → p ≤ length text → Reaches text p s p s
-reaches_here text p s h = record { onward = omega arith; within = h; deep = omega arith; reads = λ l. refl }
 
 -- one byte further
 pub reaches_more : (text : List ℕ) (from : ℕ) (old : State) (i : ℕ) (n m : State) → Reaches text from old i n → i < length text → ((l : Level) → step l n (get_or text i 0) ≡ Go m) → Reaches text from old (i + 1) m
@@ -114,16 +110,9 @@ spot_puts l Quoted c b e = quoted_puts c b e
 spot_puts l Index c b e = index_puts c b e
 spot_puts l Alone c b e = absurd cc
 
--- the text of a run, from its first byte on
-add_none : (text : List ℕ) (p : ℕ) (d : Draft) → d ≡ add (slice_range text p p) d
-add_none text p d = ap (λ t. record d { text = t }) (sym (append-nil d.text) ∙ ap (λ t. d.text ++ t) (sym (between_none text p)))
-
+-- one byte more of a run's text
 add_more : (text : List ℕ) (from i : ℕ) (d : Draft) → from ≤ i → i < length text → add (get_or text i 0 ∷ []) (add (slice_range text from i) d) ≡ add (slice_range text from (i + 1)) d
 add_more text from i d le lt = ap (λ t. record d { text = t }) (append_assoc d.text (slice_range text from i) (get_or text i 0 ∷ []) ∙ ap (λ t. d.text ++ t) (sym (between_more text from i 0 le lt)))
-
-commented_none : (text : List ℕ) (p : ℕ) (os : List Outer) (d : Draft) → d ≡ commented os (slice_range text p p) d
-commented_none text p [] d = refl
-commented_none text p (o ∷ os) d = add_none text p d
 
 commented_more : (text : List ℕ) (from i : ℕ) (os : List Outer) (d : Draft) → from ≤ i → i < length text → commented os (get_or text i 0 ∷ []) (commented os (slice_range text from i) d) ≡ commented os (slice_range text from (i + 1)) d
 commented_more text from i [] d le lt = refl
@@ -132,9 +121,6 @@ commented_more text from i (o ∷ os) d le lt = add_more text from i d le lt
 -- a run of a braced word, from a place to another, with n braces open at first and then m
 abbrev pub BracedTo : List ℕ → ℕ → ℕ → ℕ → ℕ → Type 0
 BracedTo text from n to m = (os : List Outer) (d : Draft) → Reaches text from (in_mode Braced n os d) to (in_mode Braced m os (add (slice_range text from to) d))
-
-pub braced_none : (text : List ℕ) (p n : ℕ) → p ≤ length text → BracedTo text p n p n
-braced_none text p n h = λ os d. subst (λ e. Reaches text p (in_mode Braced n os d) p (in_mode Braced n os e)) (add_none text p d) (reaches_here text p (in_mode Braced n os d) h)
 
 braced_step : (text : List ℕ) (from n i m k : ℕ) → BracedTo text from n i m → i < length text → ((l : Level) (os : List Outer) (d : Draft) → step l (in_mode Braced m os d) (get_or text i 0) ≡ Go (in_mode Braced k os (add (get_or text i 0 ∷ []) d))) → BracedTo text from n (i + 1) k
 braced_step text from n i m k h lt e = λ os d.
@@ -161,9 +147,6 @@ braced_close text from n i m h lt e some = braced_step text from n i m (m - 1) h
 abbrev pub TextTo : List ℕ → Spot → ℕ → ℕ → Type 0
 TextTo text s from to = (n : ℕ) (os : List Outer) (d : Draft) → Reaches text from (in_mode (In s) n os d) to (in_mode (In s) n os (add (slice_range text from to) d))
 
-pub text_none : (text : List ℕ) (s : Spot) (p : ℕ) → p ≤ length text → TextTo text s p p
-text_none text s p h = λ n os d. subst (λ e. Reaches text p (in_mode (In s) n os d) p (in_mode (In s) n os e)) (add_none text p d) (reaches_here text p (in_mode (In s) n os d) h)
-
 pub text_more : (text : List ℕ) (s : Spot) (from i : ℕ) → TextTo text s from i → i < length text → is_text s (class_of (get_or text i 0)) ≡ true → TextTo text s from (i + 1)
 unfolding turn
 text_more text s from i h lt plain = λ n os d.
@@ -174,9 +157,6 @@ text_more text s from i h lt plain = λ n os d.
 
 abbrev pub CommentTo : List ℕ → ℕ → ℕ → Type 0
 CommentTo text from to = (n : ℕ) (os : List Outer) (d : Draft) → Reaches text from (in_mode Comment n os d) to (in_mode Comment n os (commented os (slice_range text from to) d))
-
-pub comment_none : (text : List ℕ) (p : ℕ) → p ≤ length text → CommentTo text p p
-comment_none text p h = λ n os d. subst (λ e. Reaches text p (in_mode Comment n os d) p (in_mode Comment n os e)) (commented_none text p os d) (reaches_here text p (in_mode Comment n os d) h)
 
 pub comment_more : (text : List ℕ) (from i : ℕ) → CommentTo text from i → i < length text → is_comment (class_of (get_or text i 0)) ≡ true → CommentTo text from (i + 1)
 unfolding turn

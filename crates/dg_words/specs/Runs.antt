@@ -1,5 +1,5 @@
 -- Runs of bytes that only add to what is open.
-use Rattle.std.specs.Prelude.{◌≡◌, ◌≤◌, ℕ, ◌+◌, List, [], ◌∷◌, Bool, true, false, length, drop}
+use Rattle.std.specs.Prelude.{◌≡◌, ◌≤◌, ℕ, ◌+◌, List, [], ◌∷◌, Bool, true, false, ⊤, length, drop}
 use Rattle.dg_words.specs.declared.kinds.Class.{Class}
 use Rattle.dg_words.specs.declared.kinds.Class.TheVariants as class
 use Rattle.dg_words.specs.declared.kinds.Level.{Level}
@@ -36,6 +36,13 @@ abbrev pub is_comment : Class → Bool
 is_comment class.Newline = false
 is_comment class.Backslash = false
 is_comment c = true
+
+-- Between braces, with so many open inside of the word, a byte of this class is not one of a run: a backslash begins a
+-- pair, and with none open a brace closes the word.
+abbrev pub EndsRun : Class → ℕ → Type 0
+EndsRun class.Backslash n = ⊤
+EndsRun class.Close n = n ≡ 0
+EndsRun c n = ⊥
 
 -- Reading from a place on, with this state open, goes on as reading from a later place on with the other.
 pub record Reaches (text : List ℕ) (from : ℕ) (old : State) (to : ℕ) (new : State) : Type 0 where

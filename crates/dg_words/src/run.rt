@@ -1,9 +1,10 @@
 //! Runs of bytes that only add to what is open.
-ghost use Rattle.std.specs.Prelude.{◌≡◌, ◌≤◌, ◌+◌, [], List, ℕ, length};
+ghost use Rattle.std.specs.Prelude.{◌≡◌, ◌≤◌, ◌<◌, List, ℕ, false, length, slice_index};
 ghost use Rattle.std.specs.List.{slice_range};
 ghost use Rattle.dg_words.specs.declared.kinds.Outer.{Outer};
+ghost use Rattle.dg_words.specs.Classes.{class_of};
 ghost use Rattle.dg_words.specs.Machine.{Draft, add};
-ghost use Rattle.dg_words.specs.Runs.{Reaches, commented, in_mode, is_comment, is_text};
+ghost use Rattle.dg_words.specs.Runs.{EndsRun, Reaches, commented, in_mode, is_comment, is_text};
 
 use crate::kinds::{Class, Mode, Spot};
 use crate::turn::class_of;
@@ -21,7 +22,9 @@ pub fn braced_run(text: &[u8], from: usize, depth: u64) -> BracedRun
     requires deep { depth ≤ from }
     ensures onward { from ≤ result.end }
     ensures within { result.end ≤ length text.now }
-    ensures run { (os : List Outer) (d : Draft) → Reaches text.now from (in_mode Mode.Braced depth os d) result.end (in_mode Mode.Braced result.depth os (add (slice_range text.now from result.end) d)) }
+    // It ends where the text does, at a backslash, or at the brace that closes the word.
+    ensures stops { result.end < length text.now → EndsRun (class_of (slice_index text.now result.end)) result.depth }
+    ensures run { (outers : List Outer) (draft : Draft) → Reaches text.now from (in_mode Mode.Braced depth outers draft) result.end (in_mode Mode.Braced result.depth outers (add (slice_range text.now from result.end) draft)) }
 {
     let mut inside = depth;
     for place in from..text.len() {
@@ -82,7 +85,9 @@ impl Spot {
         requires { from ≤ length text.now }
         ensures onward { from ≤ result }
         ensures within { result ≤ length text.now }
-        ensures run { (n : ℕ) (os : List Outer) (d : Draft) → Reaches text.now from (in_mode (Mode.In self) n os d) result (in_mode (Mode.In self) n os (add (slice_range text.now from result) d)) }
+        // It ends where the text does, or at a byte that may be none of its own.
+        ensures stops { result < length text.now → is_text self (class_of (slice_index text.now result)) ≡ false }
+        ensures run { (depth : ℕ) (outers : List Outer) (draft : Draft) → Reaches text.now from (in_mode (Mode.In self) depth outers draft) result (in_mode (Mode.In self) depth outers (add (slice_range text.now from result) draft)) }
     {
         for place in from..text.len() {
             if !self.is_text(class_of(text[place])) {
@@ -105,7 +110,9 @@ pub fn comment_run(text: &[u8], from: usize) -> usize
     requires { from ≤ length text.now }
     ensures onward { from ≤ result }
     ensures within { result ≤ length text.now }
-    ensures run { (n : ℕ) (os : List Outer) (d : Draft) → Reaches text.now from (in_mode Mode.Comment n os d) result (in_mode Mode.Comment n os (commented os (slice_range text.now from result) d)) }
+    // It ends where the text does, or at a byte that is none of its own.
+    ensures stops { result < length text.now → is_comment (class_of (slice_index text.now result)) ≡ false }
+    ensures run { (depth : ℕ) (outers : List Outer) (draft : Draft) → Reaches text.now from (in_mode Mode.Comment depth outers draft) result (in_mode Mode.Comment depth outers (commented outers (slice_range text.now from result) draft)) }
 {
     for place in from..text.len() {
         if !is_comment(class_of(text[place])) {
