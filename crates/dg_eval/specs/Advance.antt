@@ -24,11 +24,16 @@ going old reads = record { test = old.test; reads = reads; asked = None; live = 
 abbrev pub over : TestId → ℕ → JobView
 over test steps = record { test = test; reads = []; asked = None; live = false; failed = false; steps = steps }
 
+-- the steps after a turn: while a question stands no more are taken
+abbrev pub steps_after : Option Question → ℕ → ℕ → ℕ
+steps_after None before now = now
+steps_after (Some q) before now = before
+
 -- What a turn comes to with the answers so far: to the question that the judging needs next, which then stands, or to a
 -- record of its verdict, with just these answers as the reads.
 abbrev pub Advances : JobView → JobView → Turn → Type 0
 Advances old new (Need q) =
-    (old.live ≡ true) × NeedsNext old.test old.reads q × (new ≡ record old { asked = Some q; steps = new.steps })
+    (old.live ≡ true) × NeedsNext old.test old.reads q × (new ≡ record old { asked = Some q; steps = steps_after old.asked old.steps new.steps })
 Advances old new (Done r) =
     (old.live ≡ true) × HasEnded old.test old.reads (record { verdict = r.verdict; steps = new.steps })
     × (r.test ≡ old.test) × (r.reads ≡ old.reads) × (new ≡ over old.test new.steps)
