@@ -9,4 +9,5 @@ pub mod Complete
 pub mod Low
 pub mod Tokens
 pub mod Running
+pub mod Applying
 pub mod Spelling
