@@ -1,6 +1,7 @@
 -- The value of a tree is the one that its operator has of the operands that it needs.
 use Rattle.std.proofs.Common.{◌≡◌, ℕ, List, [], Bool, true, false, Option, None, Some, Ok, Err, refl, ap, subst, ◌∙◌}
 use Rattle.std.specs.Prelude.{if◌then◌else◌}
+use Rattle.dg_words.specs.Piece.{Piece}
 use Rattle.dg_expr.specs.declared.code.Joins.TheVariants as joins
 use Rattle.dg_expr.specs.declared.fault.ExprFault.TheVariants.{NotTruth}
 use Rattle.dg_expr.specs.declared.operator.Infix.{Infix}
@@ -9,7 +10,7 @@ use Rattle.dg_expr.specs.declared.operator.Prefix.{Prefix}
 use Rattle.dg_expr.specs.Code.{Host, joining, judge, settle, truth_behind, truth_text, value, value_behind}
 use Rattle.dg_expr.specs.Operator.{Value, and_then, or_else, value_of, value_of_one}
 use Rattle.dg_expr.specs.ShortCircuit.{Comes, DoesAs, Ends, Settles, needs_right, told_first, told_second}
-use Rattle.dg_expr.specs.Tree.{Tree, One, Two, Choice}
+use Rattle.dg_expr.specs.Tree.{Tree, Operand, One, Two, Choice}
 use Rattle.dg_expr.specs.Truth.{truth_of}
 
 -- the two that need not have their right operand, and the others
@@ -168,6 +169,15 @@ module _ {S R Q : Type 0} (host : Host S R) (see : R → Q) where
   pub one_applied : (op : Prefix) (a : Tree) (s t : S) (x : List ℕ) → Comes host see a s x t → Settles host see (One op a) s (value_of_one op x) x [] t
   unfolding value
   one_applied op a s t x c = settles (value_of_one op x) (One op a) s t x [] (λ k. c (λ z s'. settle host (value_of_one op z) z [] s' k))
+
+  pub operand_loaded : (pieces : List Piece) (s t : S) (x : List ℕ) → ((k : List ℕ → S → R) → see (host.load pieces s k) ≡ see (k x t))
+      → Comes host see (Operand pieces) s x t
+  unfolding value
+  operand_loaded pieces s t x h = h
+
+  pub one_ends : (op : Prefix) (a : Tree) (s : S) (end : R) → Ends host see a s end → Ends host see (One op a) s end
+  unfolding value
+  one_ends op a s end c = λ k. c (λ z s'. settle host (value_of_one op z) z [] s' k)
 
   pub left_ends : (op : Infix) (a b : Tree) (s : S) (end : R) → Ends host see a s end → Ends host see (Two op a b) s end
   unfolding value

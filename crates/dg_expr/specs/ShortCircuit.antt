@@ -1,12 +1,13 @@
 -- Which operands an operator needs, and what a tree makes of their values.
 use Rattle.std.specs.Prelude.{◌≡◌, ℕ, List, [], Bool, true, false, not, Option, None, Some, Ok, Err, if◌then◌else◌}
+use Rattle.dg_words.specs.Piece.{Piece}
 use Rattle.dg_expr.specs.declared.fault.ExprFault.TheVariants.{NotTruth}
 use Rattle.dg_expr.specs.declared.operator.Infix.{Infix}
 use Rattle.dg_expr.specs.declared.operator.Infix.TheVariants as between
 use Rattle.dg_expr.specs.declared.operator.Prefix.{Prefix}
 use Rattle.dg_expr.specs.Code.{Host, code_of, run, value}
 use Rattle.dg_expr.specs.Operator.{Value, value_of, value_of_one}
-use Rattle.dg_expr.specs.Tree.{Tree, One, Two, Choice}
+use Rattle.dg_expr.specs.Tree.{Tree, Operand, One, Two, Choice}
 use Rattle.dg_expr.specs.Truth.{truth_of}
 
 -- Whether an operator needs its right operand, by the truth of the left: `&&` where that is true, `||` where it is false.
@@ -69,11 +70,21 @@ RightIsTaken S R Q =
     → Comes host see a s x t → needs_right op (truth_of x) ≡ true → Comes host see b t y u
     → Settles host see (Two op a b) s (value_of op x y) (told_first op x y) (told_second op x y) u
 
--- An operator before a tree has the value that it has of the tree's.
+-- An operand comes to the text that is substituted for it.
+abbrev pub OperandIsLoaded : Type 0 → Type 0 → Type 0 → Type 0
+OperandIsLoaded S R Q =
+    (host : Host S R) (see : R → Q) (pieces : List Piece) (s t : S) (x : List ℕ)
+    → ((then_do : List ℕ → S → R) → see (host.load pieces s then_do) ≡ see (then_do x t)) → Comes host see (Operand pieces) s x t
+
+-- An operator before a tree has the value that it has of the tree's, and ends where that ends without a value.
 abbrev pub OneIsApplied : Type 0 → Type 0 → Type 0 → Type 0
 OneIsApplied S R Q =
     (host : Host S R) (see : R → Q) (op : Prefix) (a : Tree) (s t : S) (x : List ℕ)
     → Comes host see a s x t → Settles host see (One op a) s (value_of_one op x) x [] t
+
+abbrev pub OneEnds : Type 0 → Type 0 → Type 0 → Type 0
+OneEnds S R Q =
+    (host : Host S R) (see : R → Q) (op : Prefix) (a : Tree) (s : S) (end : R) → Ends host see a s end → Ends host see (One op a) s end
 
 -- Where a side ends without a value, so does the tree, if it needs that side.
 abbrev pub LeftEnds : Type 0 → Type 0 → Type 0 → Type 0

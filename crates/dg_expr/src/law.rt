@@ -1,5 +1,5 @@
 //! What the value of a tree and the values of operators have in common.
-ghost use Rattle.dg_expr.specs.ShortCircuit.{CodeDoesAsItsTree, ConditionEnds, LeftEnds, NoBranchIsChosen, OneBranchIsChosen, OneIsApplied, RightEnds, RightIsLeftAlone, RightIsTaken, SidesAreApplied};
+ghost use Rattle.dg_expr.specs.ShortCircuit.{CodeDoesAsItsTree, ConditionEnds, LeftEnds, NoBranchIsChosen, OneBranchIsChosen, OneEnds, OneIsApplied, OperandIsLoaded, RightEnds, RightIsLeftAlone, RightIsTaken, SidesAreApplied};
 
 /// A law: where the sides of an operator have values, the tree's is the one that `apply` gives on them (and
 /// `apply_one` on one), and so is its fault. Whatever substitutes operands, in states `S` and with answers `R`,
@@ -8,6 +8,7 @@ pub fn values_are_applied<S, R, Q>()
     ensures sides { SidesAreApplied S R Q }
     ensures both { RightIsTaken S R Q }
     ensures one { OneIsApplied S R Q }
+    ensures operand { OperandIsLoaded S R Q }
 {}
 
 /// A law: a right side that `&&` or `||` doesn't need is not evaluated, whatever it is: the tree does what `apply`
@@ -16,6 +17,7 @@ pub fn sides_are_taken_as_needed<S, R, Q>()
     ensures alone { RightIsLeftAlone S R Q }
     ensures left { LeftEnds S R Q }
     ensures right { RightEnds S R Q }
+    ensures only { OneEnds S R Q }
 {}
 
 /// A law: just the chosen branch of a condition is evaluated; none is where the condition has no truth.
