@@ -9,5 +9,6 @@ pub mod Complete
 pub mod Low
 pub mod Tokens
 pub mod Running
+pub mod Applying
 pub mod Spelling
 pub mod Crosses

@@ -12,3 +12,4 @@ pub mod Grammar
 pub mod Reading
 pub mod Steps
 pub mod Code
+pub mod ShortCircuit
