@@ -7,11 +7,11 @@ use Rattle.dg_expr.specs.declared.fault.ExprFault.TheVariants.{NotTruth}
 use Rattle.dg_expr.specs.declared.operator.Infix.{Infix}
 use Rattle.dg_expr.specs.declared.operator.Infix.TheVariants as between
 use Rattle.dg_expr.specs.declared.operator.Prefix.{Prefix}
-use Rattle.dg_expr.specs.Code.{Host, joining, judge, settle, truth_behind, truth_text, value, value_behind}
+use Rattle.dg_expr.specs.Code.{Host, joining, judge, settle, truth_behind, value, value_behind}
 use Rattle.dg_expr.specs.Operator.{Value, and_then, or_else, value_of, value_of_one}
 use Rattle.dg_expr.specs.ShortCircuit.{Comes, DoesAs, Ends, Settles, needs_right, told_first, told_second}
 use Rattle.dg_expr.specs.Tree.{Tree, Operand, One, Two, Choice}
-use Rattle.dg_expr.specs.Truth.{truth_of}
+use Rattle.dg_expr.specs.Truth.{truth_of, truth_text}
 
 -- the two that need not have their right operand, and the others
 data Kind : Infix → Type 0 where
