@@ -11,4 +11,3 @@ pub mod Tokens
 pub mod Running
 pub mod Applying
 pub mod Spelling
-pub mod Crosses

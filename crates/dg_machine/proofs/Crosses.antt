@@ -4,8 +4,7 @@ use Rattle.std.proofs.Crossing.{Arc-send}
 use Rattle.dg_words.proofs.bytes.Bytes.TheSendSync as bytes
 use Rattle.dg_words.proofs.seq.Seq.TheSendSync as seq
 use Rattle.dg_words.specs.contracts.seq.Seq as Seq
-use Rattle.dg_expr.proofs.Crosses.{Instruction-send}
-use Rattle.dg_language.proofs.Crosses.{Commands-send, Commands-sync}
+use Rattle.dg_language.proofs.Crosses.{Commands-send, Commands-sync, Instruction-send}
 use Rattle.dg_language.proofs.queue.Queue.TheSendSync as queue
 use Rattle.dg_language.proofs.state.State.TheSendSync as state
 use Rattle.dg_language.specs.contracts.command.Command as Command

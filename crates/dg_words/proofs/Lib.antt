@@ -9,4 +9,3 @@ pub mod Advance
 pub mod Listing
 pub mod RoundTrip
 pub mod First
-pub mod Crosses
