@@ -4,7 +4,7 @@ PREFIX ?= /usr/local
 
 PROGRAM = crates/runtest/out/runtest
 
-.PHONY: all demo check bench install clean
+.PHONY: all demo check times bench kills examples install clean
 
 # Proves the program and all that it stands on, and builds it.
 all: $(PROGRAM)
@@ -21,13 +21,27 @@ demo: $(PROGRAM)
 check:
 	$(RT) ci
 
+# The merge gate, and docs/TIMES.md: the processor seconds of each crate's proof, tests and wrong bodies.
+times:
+	python3 tests/gate/times.py
+
 # Times this program and its crates beside tclsh and Expect; all of these have to be on the path.
 bench: $(PROGRAM)
 	for it in bench/*/run.sh; do echo "== $$it"; sh $$it || exit 1; done
 
+# Kills runs at 100 random moments: every file is whole after each, no child is left, and the next run works.
+kills: $(PROGRAM)
+	sh tests/kills/run.sh
+
+# Judges the example suites by their stored transcripts, and beside these with children: their reports are the stored ones.
+examples: $(PROGRAM)
+	sh tests/examples/run.sh live
+
 install: $(PROGRAM)
 	install -d $(DESTDIR)$(PREFIX)/bin
 	install -m 755 $(PROGRAM) $(DESTDIR)$(PREFIX)/bin/runtest
+	install -d $(DESTDIR)$(PREFIX)/share/man/man1
+	install -m 644 runtest.1 $(DESTDIR)$(PREFIX)/share/man/man1/runtest.1
 
 clean:
 	rm -rf crates/*/out

@@ -25,6 +25,69 @@ set loops {
         }
         pass [sums]
     }
+    {switch} {
+        proc kinds {} {
+            set n 0
+            for {set i 0} {$i < 15000} {incr i} {switch -- [expr {$i % 3}] {0 {incr n} 1 {incr n 2} default {}}}
+            return $n
+        }
+        pass [kinds]
+    }
+    {calls} {
+        proc add {a b} {return [expr {$a + $b}]}
+        proc calls {} {
+            set s 0
+            for {set i 0} {$i < 10000} {incr i} {set s [add $s $i]}
+            return $s
+        }
+        pass [calls]
+    }
+    {append, 10,000} {
+        set s ""
+        for {set i 0} {$i < 10000} {incr i} {append s 0123456789012345678901234567890123456789}
+        pass [string length $s]
+    }
+    {append, 20,000} {
+        set s ""
+        for {set i 0} {$i < 20000} {incr i} {append s 0123456789012345678901234567890123456789}
+        pass [string length $s]
+    }
+    {lappend, 10,000} {
+        proc grow {} {
+            for {set i 0} {$i < 10000} {incr i} {lappend l elem$i}
+            return [llength $l]
+        }
+        pass [grow]
+    }
+    {lappend, 20,000} {
+        proc grow {} {
+            for {set i 0} {$i < 20000} {incr i} {lappend l elem$i}
+            return [llength $l]
+        }
+        pass [grow]
+    }
+    {lindex, 5,000 of 5,000} {
+        set l {}
+        for {set i 0} {$i < 5000} {incr i} {lappend l elem$i}
+        proc find {} {
+            global l
+            set n 0
+            for {set i 0} {$i < 5000} {incr i} {if {[lindex $l $i] eq "elem7"} {incr n}}
+            return $n
+        }
+        pass [find]
+    }
+    {foreach over 15,000} {
+        set l {}
+        for {set i 0} {$i < 15000} {incr i} {lappend l elem$i}
+        proc pairs {} {
+            global l
+            set n 0
+            foreach {a b} $l {if {$a eq $b} {incr n}}
+            return $n
+        }
+        pass [pairs]
+    }
     {lists} {
         proc lists {} {
             set l {}
@@ -38,13 +101,14 @@ set loops {
 }
 
 
-# The least seconds of three runs of a command on an input.
+# The least seconds of three runs of a command on an input; one that takes over three isn't run again.
 proc seconds {command input} {
     set best 1e9
     foreach run {1 2 3} {
         set begun [clock microseconds]
         exec {*}$command << $input > /dev/null
         set best [expr {min($best, ([clock microseconds] - $begun) / 1e6)}]
+        if {$best > 3} break
     }
     return $best
 }

@@ -3,8 +3,6 @@
 
 mod fault;
 mod table;
-#[cfg(test)]
-mod tests;
 mod triplet;
 
 pub use crate::fault::TripletFault;

@@ -3,7 +3,7 @@ ghost use Rattle.std.specs.Prelude.{◌≡◌, ◌++◌, ◌∷◌, [], is_some,
 ghost use Rattle.std.specs.Option.{option_copied};
 ghost use Rattle.dg_boards.specs.Table.{setting, without};
 
-use dg_words::Bytes;
+use dg_bytes::Bytes;
 use indexmap::IndexMap;
 use std::alloc::{AllocError, Global};
 use std::marker::Model;

@@ -7,8 +7,8 @@ ghost use Rattle.dg_boards.specs.Triplet as word;
 ghost use Rattle.dg_glob.specs.Glob.{Matches};
 
 use crate::fault::TripletFault;
+use dg_bytes::{Bytes, TryCopy};
 use dg_glob::string_match;
-use dg_words::{Bytes, TryCopy};
 use std::alloc::{AllocError, Global};
 use std::fmt;
 use std::marker::Model;

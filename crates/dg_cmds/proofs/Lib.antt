@@ -1,5 +1,4 @@
 pub mod PlaceLemmas
-pub mod GlobLemmas
 pub mod SetLemmas
 pub mod ListLemmas
 pub mod AnswerLemmas

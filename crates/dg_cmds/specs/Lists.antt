@@ -28,6 +28,10 @@ read_list text = or_error (elements_of text)
 abbrev pub list_of : List (List ℕ) → Answer
 list_of args = limited (text_of_list args)
 
+-- how many elements a list has
+abbrev pub count_of : List ℕ → Result ℕ CmdFault
+count_of l = read_list l >>= λ xs. Ok (length xs)
+
 abbrev pub llength_of : List (List ℕ) → Answer
 llength_of (l ∷ []) = read_list l >>= λ xs. Ok (decimal (length xs))
 llength_of args = wrong_count (codes "llength")
@@ -100,8 +104,11 @@ only_text [] = []
 only_text (x ∷ xs) = x
 
 -- the element at an index, or the empty text
+abbrev pub element_at : List ℕ → List ℕ → Answer
+element_at l i = read_list l >>= λ xs. read_index i >>= λ at. limited (only_text (part_of at at xs))
+
 abbrev pub lindex_of : List (List ℕ) → Answer
-lindex_of (l ∷ i ∷ []) = read_list l >>= λ xs. read_index i >>= λ at. limited (only_text (part_of at at xs))
+lindex_of (l ∷ i ∷ []) = element_at l i
 lindex_of args = wrong_count (codes "lindex")
 
 -- the list of the elements from one index to another

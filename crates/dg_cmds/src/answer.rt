@@ -6,8 +6,8 @@ ghost use Rattle.dg_expr.specs.Truth.{truth_text};
 ghost use Rattle.dg_cmds.specs.declared.fault.CmdFault.TheVariants.{Tcl};
 
 use crate::fault::CmdFault;
+use dg_bytes::Bytes;
 use dg_expr::truth_text;
-use dg_words::Bytes;
 use std::alloc::Global;
 
 /// The most bytes of a value.

@@ -8,7 +8,7 @@ use crate::fault::CmdFault;
 use crate::format::run_format;
 use crate::lists::{concat, join, lindex, list, llength, lrange, lsearch, split};
 use crate::strings::run_string;
-use dg_words::Bytes;
+use dg_bytes::Bytes;
 use std::alloc::Global;
 
 /// A command.

@@ -1,5 +1,5 @@
 //! Why a command gives no value.
-use dg_words::Bytes;
+use dg_bytes::Bytes;
 use std::alloc::{AllocError, AllocFailed};
 use thiserror::Error;
 

@@ -7,7 +7,7 @@ ghost use Rattle.dg_cmds.specs.Formats.{field_of, minus, number_in, padded, size
 use crate::bytes::trimmed_left;
 use crate::fault::CmdFault;
 use crate::numbers::read_number;
-use dg_words::Bytes;
+use dg_bytes::Bytes;
 use std::alloc::{AllocError, Global};
 
 /// A width that no value has.

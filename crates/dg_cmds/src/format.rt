@@ -7,7 +7,7 @@ use crate::answer::{add, fail, give, wrong_count};
 use crate::fault::CmdFault;
 use crate::field::read_field;
 use crate::lists::cut;
-use dg_words::Bytes;
+use dg_bytes::Bytes;
 use std::alloc::Global;
 
 /// Adds a value in its field and what stands behind the field.

@@ -5,8 +5,8 @@ ghost use Rattle.dg_cmds.specs.Indices.{before, from_end, index_of, part_of, rea
 
 use crate::answer::fail_about;
 use crate::fault::CmdFault;
+use dg_bytes::Bytes;
 use dg_expr::number;
-use dg_words::Bytes;
 use std::alloc::Global;
 
 /// An index, counted from the first element on or from the last one back.

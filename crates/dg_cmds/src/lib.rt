@@ -18,6 +18,3 @@ pub use crate::fault::CmdFault;
 pub use crate::format::run_format;
 pub use crate::places::glob_matches;
 pub use crate::strings::run_string;
-
-#[cfg(test)]
-mod tests;

@@ -4,21 +4,22 @@ ghost use Rattle.std.specs.List.{flat_map, slice_split};
 ghost use Rattle.dg_words.specs.Canonical.{text_of_list};
 ghost use Rattle.dg_cmds.specs.Answers.{Adds, Gives, limited};
 ghost use Rattle.dg_cmds.specs.Bytes.{member};
-ghost use Rattle.dg_cmds.specs.Lists.{concat_of, is_some_text, join_of, joined, lindex_of, list_of, llength_of, lrange_of, lsearch_of, parts_of, passes, read_list, search_named, search_of, split_of, without_blanks};
+ghost use Rattle.dg_cmds.specs.Lists.{concat_of, count_of, element_at, is_some_text, join_of, joined, lindex_of, list_of, llength_of, lrange_of, lsearch_of, parts_of, passes, read_list, search_named, search_of, split_of, without_blanks};
 
 use crate::answer::{LONGEST, add, fail, fail_about, give, give_count, give_place, wrong_count};
 use crate::bytes::{BLANKS, set_of, trimmed_left, trimmed_right};
 use crate::fault::CmdFault;
 use crate::index::{part, read_index};
 use crate::places::glob_matches;
-use dg_words::{Bytes, Seq, WordFault, fault_text, list_fits, list_text, split_list};
+use dg_bytes::{Bytes, Seq};
+use dg_words::{Text, WordFault, fault_text, kept_elements, list_elements, list_fits, list_text};
 use std::alloc::{AllocError, Global};
 
 /// The elements of a list.
 pub(crate) fn read_list(alloc: Global, text: &Bytes) -> Result<Seq<Bytes>, CmdFault>
     ensures { Gives result (read_list text.now) }
 {
-    match split_list(alloc, text.as_slice()) {
+    match list_elements(alloc, text) {
         Ok(elements) => Ok(elements),
         Err(WordFault::Memory) => Err(CmdFault::Memory),
         Err(fault) => fail(alloc, fault_text(fault)),
@@ -46,12 +47,22 @@ pub(crate) fn list(alloc: Global, args: &[Bytes]) -> Result<Bytes, CmdFault>
     give_list(alloc, args)
 }
 
+/// How many elements a list has. They aren't read where they are kept beside it.
+fn count_of(alloc: Global, list: &Bytes) -> Result<usize, CmdFault>
+    ensures { Gives result (count_of list.now) }
+{
+    if let Some(kept) = kept_elements(list) {
+        return Ok(kept.len());
+    }
+    Ok(read_list(alloc, list)?.len())
+}
+
 /// `llength`: how many elements a list has.
 pub(crate) fn llength(alloc: Global, args: &[Bytes]) -> Result<Bytes, CmdFault>
     ensures { Gives result (llength_of args.now) }
 {
     match args {
-        [list] => give_count(alloc, read_list(alloc, list)?.len()),
+        [list] => give_count(alloc, count_of(alloc, list)?),
         _ => wrong_count(alloc, b"llength"),
     }
 }
@@ -270,6 +281,37 @@ pub(crate) fn lsearch(alloc: Global, args: &[Bytes]) -> Result<Bytes, CmdFault>
     }
 }
 
+/// An element that is kept, if a value may have so many bytes. It isn't copied.
+#[tactic(auto, unfolding(crate::specs::Answers::limited))]
+fn give_kept(element: &Text) -> Result<Bytes, CmdFault>
+    ensures { Gives result (limited element.now) }
+{
+    if element.len() > LONGEST {
+        return Err(CmdFault::TooLong);
+    }
+    Ok(Bytes::from_text(element.share()?))
+}
+
+/// The element at an index of a list, or the empty text. The list isn't read where its elements are kept
+/// beside it.
+fn element_at(alloc: Global, list: &Bytes, index: &Bytes) -> Result<Bytes, CmdFault>
+    ensures { Gives result (element_at list.now index.now) }
+{
+    if let Some(kept) = kept_elements(list) {
+        let at = read_index(alloc, index)?;
+        return match part(kept, at, at) {
+            [] => give(alloc, b""),
+            [element, ..] => give_kept(element),
+        };
+    }
+    let elements = read_list(alloc, list)?;
+    let at = read_index(alloc, index)?;
+    match part(elements.as_slice(), at, at) {
+        [] => give(alloc, b""),
+        [element, ..] => give(alloc, element.as_slice()),
+    }
+}
+
 /// `lindex`: the element at an index, or the empty text.
 pub(crate) fn lindex(alloc: Global, args: &[Bytes]) -> Result<Bytes, CmdFault>
     ensures { Gives result (lindex_of args.now) }
@@ -277,12 +319,7 @@ pub(crate) fn lindex(alloc: Global, args: &[Bytes]) -> Result<Bytes, CmdFault>
     let [list, index] = args else {
         return wrong_count(alloc, b"lindex");
     };
-    let elements = read_list(alloc, list)?;
-    let at = read_index(alloc, index)?;
-    match part(elements.as_slice(), at, at) {
-        [] => give(alloc, b""),
-        [element, ..] => give(alloc, element.as_slice()),
-    }
+    element_at(alloc, list, index)
 }
 
 /// `lrange`: the list of the elements from one index to another, as far as there are any.

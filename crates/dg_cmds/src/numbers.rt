@@ -5,8 +5,8 @@ ghost use Rattle.std.specs.Prelude.{◌≡◌};
 
 use crate::answer::fail_about;
 use crate::fault::CmdFault;
+use dg_bytes::Bytes;
 use dg_expr::number;
-use dg_words::Bytes;
 use std::alloc::Global;
 
 /// The number that a word is, or the script error of a word that is none.

@@ -11,7 +11,7 @@ use crate::fault::CmdFault;
 use crate::index::{part, read_index};
 use crate::numbers::{at_least_zero, read_number};
 use crate::places::{first_place, glob_matches, last_place};
-use dg_words::Bytes;
+use dg_bytes::Bytes;
 use std::alloc::{AllocError, Global};
 use std::cmp::Ordering;
 

@@ -1,49 +1,34 @@
--- A job that is told what a world answers.
-use Rattle.std.proofs.Common.{◌≡◌, ◌<◌, ◌+◌, ℕ, true, false, List, [], ◌∷◌, ◌++◌, length, length-append, true≢false, refl, ap, sym, ◌∙◌, subst, arith}
+-- A job that is told what a world answers, whose book may grow meanwhile.
+use Rattle.std.proofs.Common.{◌≡◌, ◌<◌, ◌≤◌, Bool, true, false, List, [], ◌∷◌, ◌++◌, true≢false, refl, ap, sym, ◌∙◌, subst, arith}
 use Rattle.std.proofs.lemmas.List.{append-nil}
 use Rattle.std.specs.Prelude.{Option, Some, None}
-use Rattle.dg_world.specs.World.{WorldView, look, content_of, answer_of, setting_answer}
-use Rattle.dg_world.specs.Setting.{value_of}
-use Rattle.dg_world.specs.Question.{fits}
+use Rattle.dg_world.specs.World.{WorldView, look, IsAsked}
+use Rattle.dg_world.specs.Question.{fits, same_question}
 use Rattle.dg_world.specs.declared.question.Question.{Question}
-use Rattle.dg_world.specs.declared.question.Question.TheVariants.{File, Tool, Triplet, Variable}
+use Rattle.dg_world.specs.declared.question.Question.TheVariants as question
 use Rattle.dg_world.specs.declared.question.Answer.{Answer}
 use Rattle.dg_world.specs.declared.question.Read.{Read}
 use Rattle.dg_world.specs.declared.test_id.TestId.{TestId}
-use Rattle.dg_language.specs.Play.{Play, Ends, Asks, Source, heard, end_of, Gives, Leads, reads_in, read_on}
+use Rattle.dg_language.specs.declared.ask.Ask.{Ask}
+use Rattle.dg_language.specs.Play.{Play, Ends, Asks, Source, heard, lookup, end_of, Gives, Leads, reads_in, read_on}
 use Rattle.dg_language.specs.Evaluation.{Ending}
 use Rattle.dg_language.specs.Judge.{judge, verdict_in, verdict_of}
+use Rattle.dg_language.proofs.Sources.{run-leads, leads_more}
 use Rattle.dg_records.specs.Truth.{RecordView, answers_of}
-use Rattle.dg_language.proofs.Sources.{run-leads}
+use Rattle.dg_records.proofs.HoldsLemmas.{heard-look}
 use Rattle.dg_eval.specs.Truth.{JobView}
 use Rattle.dg_eval.specs.Evaluating.{NeedsNext, HasEnded}
-use Rattle.dg_core.specs.Core.{record_in, lines_or_none}
-use Rattle.dg_core.specs.Asking.{IsTold, Takes, all_reads}
-use Rattle.dg_eval.specs.Advance.{Advances, Tells, Halts, Refuses}
+use Rattle.dg_eval.specs.Advance.{started, Advances, Tells, Halts, Refuses}
 use Rattle.dg_eval.specs.declared.job.Turn.TheVariants.{Need, Done}
 use Rattle.dg_eval.specs.declared.job.JobFault.{JobFault}
-use Rattle.dg_eval.specs.declared.job.JobFault.TheVariants.{NotAsked, WrongKind, Memory, Failed}
+use Rattle.dg_eval.specs.declared.job.JobFault.TheVariants.{NotAsked, WrongKind, PatternLost, Memory, Failed}
+use Rattle.dg_core.specs.Core.{record_in, lines_or_none}
+use Rattle.dg_core.specs.Turns.{left_of, bound, over_answers, turns_left}
+use Rattle.dg_core.specs.Asking.{all_reads, IsTold, IsToldMore, Judges, Fails}
+use Rattle.dg_core.proofs.Growing.{asked-grown, grown-gives, bound-grown}
 
 some≢none : {A : Type 0} (a : A) → Some a ≡ None → ⊥
 some≢none a h = cc
-
--- a world's answers are of the questions' kinds
-pub fits-look : (w : WorldView) (q : Question) → fits q (look w q) ≡ true
-fits-look w (File n) = kind (content_of w n)
-  where
-    kind : (o : Option (List ℕ)) → fits (File n) (answer_of o) ≡ true
-    kind None = refl
-    kind (Some t) = refl
-fits-look w Tool = refl
-fits-look w (Triplet m) = refl
-fits-look w (Variable n) = kind (value_of w.selection.variables n)
-  where
-    kind : (o : Option (List ℕ)) → fits (Variable n) (setting_answer o) ≡ true
-    kind None = refl
-    kind (Some v) = refl
-
-pub heard-look : (w : WorldView) (q : Question) → heard q (answers_of w q) ≡ Some (look w q)
-heard-look w q = ap (λ b. elim b as (λ _. Option Answer) [ true ↦ Some (look w q) | false ↦ None ]) (fits-look w q)
 
 -- reads that the source gave, and where they led to, are the first of all reads
 pub reads-along : {A : Type 0} (p : Play A) (source : Source) (reads : List Read) (rest : Play A) → Leads p reads rest → Gives source reads
@@ -51,61 +36,116 @@ pub reads-along : {A : Type 0} (p : Play A) (source : Source) (reads : List Read
 reads-along p source [] rest l g = ap (reads_in source) l
 reads-along (Ends a) source (r ∷ rs) rest l g = absurd l
 reads-along (Asks q k) source (r ∷ rs) rest l g =
-    let e : heard q (source q) ≡ Some r.answer = subst (λ x. heard x (source x) ≡ Some r.answer) (sym l.0) g.0 in
-    ap (λ o. read_on q o (λ a. reads_in source (k a))) e
+    let e : heard q.question (source q.question) ≡ Some r.answer = subst (λ x. heard x (source x) ≡ Some r.answer) (sym l.0) g.0 in
+    ap (λ o. read_on q.question o (λ a. reads_in source (k a))) e
     ∙ ap (λ x. record { question = x; answer = r.answer } ∷ reads_in source (k r.answer)) l.0
     ∙ ap (λ x. r ∷ x) (reads-along (k r.answer) source rs rest l.2 g.1)
+
+-- and what is left is where they led to
+left-along : {A : Type 0} (p : Play A) (reads : List Read) (rest : Play A) → Leads p reads rest → left_of p reads ≡ rest
+left-along p [] rest l = l
+left-along (Ends a) (r ∷ rs) rest l = absurd l
+left-along (Asks q k) (r ∷ rs) rest l = left-along (k r.answer) rs rest l.2
 
 pub gives-more : (source : Source) (rs : List Read) (r : Read) → Gives source rs → heard r.question (source r.question) ≡ Some r.answer → Gives source (rs ++ r ∷ [])
 gives-more source [] r h e = (e, tt)
 gives-more source (x ∷ rs) r h e = (h.0, gives-more source rs r h.1 e)
 
--- the questions that are left
-pub reads_left : (w : WorldView) (t : TestId) (reads : List Read) (q : Question) → NeedsNext t reads q → Gives (answers_of w) reads → length reads < length (all_reads w t)
-unfolding all_reads
-reads_left w t reads q n g =
-    let l = n.leads in
-    let e = ap length (reads-along (judge t) (answers_of w) reads (Asks q l.0) l.1 g) in
-    let next : length (reads_in (answers_of w) (Asks q l.0)) ≡ length (reads_in (answers_of w) (l.0 (look w q))) + 1 =
-    ap (λ o. length (read_on q o (λ a. reads_in (answers_of w) (l.0 a)))) (heard-look w q) ∙ omega arith in
-    omega (arith, e, next, length-append reads (reads_in (answers_of w) (Asks q l.0)))
+-- what a world answers is heard, and is of its question's kind
+heard-given : (w : WorldView) (q : Question) (a : Answer) → look w q ≡ Some a → heard q (look w q) ≡ Some a
+heard-given w q a e = heard-look w q ∙ e
+
+fits-given : (w : WorldView) (q : Question) (a : Answer) → look w q ≡ Some a → fits q a ≡ true
+fits-given w q a e = step (fits q a) refl (sym (ap (heard q) e) ∙ heard-given w q a e)
+  where
+    step : (b : Bool) → fits q a ≡ b → elim b as (λ _. Option Answer) [ true ↦ Some a | false ↦ None ] ≡ Some a → fits q a ≡ true
+    step true f h = f
+    step false f h = absurd (some≢none a (sym h))
+
+-- the first answer to a question stays where more was read
+lookup-first : (q : Question) (reads more : List Read) (a : Answer) → lookup q reads ≡ Some a → lookup q (reads ++ more) ≡ Some a
+unfolding lookup
+lookup-first q [] more a h = cc
+lookup-first q (r ∷ rs) more a h = step (same_question r.question q) h (lookup-first q rs more a)
+  where
+    step : (b : Bool) → elim b as (λ _. Option Answer) [ true ↦ Some r.answer | false ↦ lookup q rs ] ≡ Some a → (lookup q rs ≡ Some a → lookup q (rs ++ more) ≡ Some a)
+        → elim b as (λ _. Option Answer) [ true ↦ Some r.answer | false ↦ lookup q (rs ++ more) ] ≡ Some a
+    step true h ih = h
+    step false h ih = ih h
+
+-- a job that has just begun was told nothing
+pub told-first : (w : WorldView) (t : TestId) (j : JobView) → j ≡ started t → IsTold w t j
+told-first w t j is =
+    record {
+      test = ap (λ (x : JobView). x.test) is;
+      live = ap (λ (x : JobView). x.live) is;
+      failed = ap (λ (x : JobView). x.failed) is;
+      asked = ap (λ (x : JobView). x.asked) is;
+      gives = subst (Gives (answers_of w)) (sym (ap (λ (x : JobView). x.reads) is)) tt;
+      rest = judge t;
+      leads = subst (λ rs. Leads (judge t) rs (judge t)) (sym (ap (λ (x : JobView). x.reads) is)) refl;
+    }
 
 -- the record of a job that has ended is the record of its test in that world
-pub record-ended : (w : WorldView) (t : TestId) (reads : List Read) (e : Ending) (r : RecordView) → HasEnded t reads e → Gives (answers_of w) reads
-    → r.test ≡ t → r.reads ≡ reads → r.verdict ≡ e.verdict → r ≡ record_in w t
-unfolding record_in all_reads
+record-ended : (w : WorldView) (t : TestId) (reads : List Read) (e : Ending) (r : RecordView) → HasEnded t reads e → Gives (answers_of w) reads
+    → r.test ≡ t → r.reads ≡ reads → r.verdict ≡ e.verdict → Judges w t r
+unfolding record_in
 record-ended w t reads e r h g et er ev =
-    let all : reads ≡ all_reads w t = sym (reads-along (judge t) (answers_of w) reads (Ends e) h.leads g ∙ append-nil reads) in
+    let all : reads ≡ reads_in (answers_of w) (judge t) = sym (reads-along (judge t) (answers_of w) reads (Ends e) h.leads g ∙ append-nil reads) in
     let lines : verdict_in (answers_of w) t ≡ Some e.verdict =
     ap (λ c. verdict_of (end_of c)) (run-leads (judge t) (answers_of w) reads (Ends e) h.leads g) in
-    λ i. record { test = et i; reads = (er ∙ all) i; verdict = (ev ∙ sym (ap lines_or_none lines)) i }
+    record {
+      made = λ i. record { test = et i; reads = (er ∙ all) i; verdict = (ev ∙ sym (ap lines_or_none lines)) i };
+      ends = (e.verdict, lines);
+    }
 
 -- the job has come to its end
-pub told-done : (w : WorldView) (old new : JobView) (r : RecordView) → IsTold w old.test old → Advances old new (Done r) → r ≡ record_in w old.test
-told-done w old new r k a = record-ended w old.test old.reads _ r a.1 k.gives a.2 a.3 refl
+pub told-done : (w : WorldView) (old new : JobView) (r : RecordView) → IsTold w old.test old → Advances old new (Done r) → Judges w old.test r
+told-done w old new r k a = record-ended w old.test old.reads _ r a.1.has_ended k.gives a.2 a.3 (sym a.1.lines)
 
--- a job that goes on fails for want of memory alone
-pub halts-memory : (w : WorldView) (old new : JobView) (f : JobFault) → IsTold w old.test old → Halts old new f → f ≡ Memory
-halts-memory w old new NotAsked k h = absurd h
-halts-memory w old new WrongKind k h = absurd h
-halts-memory w old new Memory k h = refl
-halts-memory w old new Failed k h = absurd (true≢false (sym k.live ∙ h.0))
+-- a job that goes on fails for want of memory, or where it was told that a pattern is read
+pub halts-fails : (w : WorldView) (old new : JobView) (f : JobFault) → IsTold w old.test old → Halts old new f → Fails w old.test f
+unfolding all_reads
+halts-fails w old new NotAsked k h = absurd h
+halts-fails w old new WrongKind k h = absurd h
+halts-fails w old new PatternLost k h =
+    let text = h.1.0 in
+    let along = reads-along (judge old.test) (answers_of w) old.reads k.rest k.leads k.gives in
+    (text, ap (lookup (question.Pattern text)) along ∙ lookup-first (question.Pattern text) old.reads (reads_in (answers_of w) k.rest) _ h.1.1)
+halts-fails w old new Memory k h = tt
+halts-fails w old new Failed k h = absurd (true≢false (sym k.live ∙ h.0))
 
--- and so does one that is told what the world answers
-pub refuses-memory : (w : WorldView) (old mid new : JobView) (q : Question) (a : Answer) (f : JobFault) → IsTold w old.test old → Advances old mid (Need q)
-    → a ≡ look w q → Refuses mid new a f → f ≡ Memory
-refuses-memory w old mid new q a NotAsked k n e h = absurd (some≢none q (sym (ap (λ j. j.asked) n.2) ∙ h.1))
-refuses-memory w old mid new q a WrongKind k n e h =
+-- one that is told what the world answers fails for want of memory
+pub refuses-fails : (v w : WorldView) (old mid new : JobView) (q : Ask) (a : Answer) (f : JobFault) → IsTold v old.test old → Advances old mid (Need q)
+    → IsAsked v w q.question a → Refuses mid new a f → Fails w old.test f
+refuses-fails v w old mid new q a NotAsked k n e h = absurd (some≢none q (sym (ap (λ j. j.asked) n.2) ∙ h.1))
+refuses-fails v w old mid new q a WrongKind k n e h =
     let kind = rw n.2 at h.0 in
-    absurd (true≢false (sym (fits-look w q) ∙ sym (ap (λ x. fits q x) e) ∙ kind))
-refuses-memory w old mid new q a Memory k n e h = refl
-refuses-memory w old mid new q a Failed k n e h = absurd (true≢false (sym h.0 ∙ ap (λ j. j.failed) n.2 ∙ k.failed))
+    absurd (true≢false (sym (fits-given w q.question a e.answered) ∙ kind))
+refuses-fails v w old mid new q a PatternLost k n e h = absurd h
+refuses-fails v w old mid new q a Memory k n e h = tt
+refuses-fails v w old mid new q a Failed k n e h = absurd (true≢false (sym h.0 ∙ ap (λ j. j.failed) n.2 ∙ k.failed))
+
+-- an answer leaves fewer turns
+fewer-turns : (v w : WorldView) (t : TestId) (reads : List Read) (q : Ask) (a : Answer) → NeedsNext t reads q → IsAsked v w q.question a
+    → turns_left w t (reads ++ record { question = q.question; answer = a } ∷ []) < turns_left v t reads
+unfolding turns_left
+fewer-turns v w t reads q a n asked =
+    let k = n.leads.0 in
+    let here : left_of (judge t) reads ≡ Asks q k = left-along (judge t) reads (Asks q k) n.leads.1 in
+    let next : left_of (judge t) (reads ++ record { question = q.question; answer = a } ∷ []) ≡ k a =
+    left-along (judge t) (reads ++ record { question = q.question; answer = a } ∷ []) (k a)
+    (leads_more (judge t) reads q a k n.leads.1 (fits-given w q.question a asked.answered)) in
+    let grown : bound w (Asks q k) ≤ bound v (Asks q k) = bound-grown v w (asked-grown v w q.question a asked) (Asks q k) in
+    let told : over_answers (look w q.question) (λ b. bound w (k b)) ≡ bound w (k a) = ap (λ o. over_answers o (λ b. bound w (k b))) asked.answered in
+    omega (arith, grown, told, ap (bound w) next, ap (bound v) here)
 
 -- the job has one answer more
-pub told-more : (w : WorldView) (old mid new : JobView) (q : Question) (a : Answer) → IsTold w old.test old → Advances old mid (Need q)
-    → a ≡ look w q → Tells mid new a mid.asked → Takes w old new None
-told-more w old mid new q a k n e h =
+pub told-more : (v w : WorldView) (old mid new : JobView) (q : Ask) (a : Answer) → IsTold v old.test old → Advances old mid (Need q)
+    → IsAsked v w q.question a → Tells mid new a mid.asked → IsToldMore v w old new
+told-more v w old mid new q a k n e h =
     let t = rw n.2 at h in
+    let l = n.1.leads in
     rw t.1
     (record {
       told = record {
@@ -113,9 +153,11 @@ told-more w old mid new q a k n e h =
         live = k.live;
         failed = k.failed;
         asked = refl;
-        gives = gives-more (answers_of w) old.reads (record { question = q; answer = a }) k.gives (heard-look w q ∙ ap Some (sym e));
+        gives = gives-more (answers_of w) old.reads (record { question = q.question; answer = a }) (grown-gives v w (asked-grown v w q.question a e) old.reads k.gives)
+            (heard-given w q.question a e.answered);
+        rest = l.0 a;
+        leads = leads_more (judge old.test) old.reads q a l.0 l.1 (fits-given w q.question a e.answered);
       };
       same = refl;
-      before = reads_left w old.test old.reads q n.1 k.gives;
-      more = length-append old.reads (record { question = q; answer = a } ∷ []);
+      fewer = fewer-turns v w old.test old.reads q a n.1 e;
     })

@@ -1,4 +1,6 @@
-pub mod Holding
+pub mod Growing
 pub mod Asking
 pub mod Settling
+pub mod Completing
 pub mod UnreadLemmas
+pub mod EventLemmas

@@ -3,23 +3,22 @@ use Rattle.std.proofs.Common.{◌≡◌, ◌&&◌, cond, List, [], ◌∷◌, re
 use Rattle.std.specs.Prelude.{Option, Some, None, All, IfSome, not}
 use Rattle.std.specs.List.{filter}
 use Rattle.std.proofs.lemmas.List.Elements.{All-head, All-tail}
-use Rattle.dg_world.specs.Question.{same_answer}
 use Rattle.dg_world.specs.World.{WorldView, look, selected}
 use Rattle.dg_world.specs.declared.question.Read.{Read}
 use Rattle.dg_world.specs.declared.test_id.TestId.{TestId}
-use Rattle.dg_records.specs.Truth.{RecordView}
+use Rattle.dg_records.specs.Truth.{RecordView, is_given}
 use Rattle.dg_records.specs.Shelf.{kept}
 use Rattle.dg_core.specs.Core.{CoreView, is_held, holds_if_kept, pending}
 use Rattle.dg_core.specs.Unread.{IsUnread, IsUnreadBy}
-use Rattle.dg_core.proofs.Holding.{agree}
+use Rattle.dg_records.proofs.HoldsLemmas.{all_given}
 
 -- reads whose answers stayed agree as they did
-agree-unread : (old new : WorldView) (rs : List Read) → All (λ read. look new read.question ≡ look old read.question) rs → agree new rs ≡ agree old rs
+agree-unread : (old new : WorldView) (rs : List Read) → All (λ read. look new read.question ≡ look old read.question) rs → all_given new rs ≡ all_given old rs
 agree-unread old new [] h = refl
 agree-unread old new (r ∷ rs) h =
     let first = All-head (λ read. look new read.question ≡ look old read.question) r rs h in
     let rest = agree-unread old new rs (All-tail (λ read. look new read.question ≡ look old read.question) r rs h) in
-    ap (λ a. same_answer a r.answer && agree new rs) first ∙ ap (λ b. same_answer (look old r.question) r.answer && b) rest
+    ap (λ a. is_given a r.answer && all_given new rs) first ∙ ap (λ b. is_given (look old r.question) r.answer && b) rest
 
 -- and so does a kept record
 held-unread : (old new : WorldView) (o : Option RecordView) → IfSome o (IsUnreadBy old new) → holds_if_kept new o ≡ holds_if_kept old o

@@ -1,17 +1,27 @@
--- A job that is told what a world answers.
-use Rattle.std.specs.Prelude.{◌≡◌, ◌<◌, ◌+◌, true, false, length, Option, Some, None, List}
+-- A job that is told what a world answers, whose book may grow meanwhile.
+use Rattle.std.specs.Prelude.{◌≡◌, ◌<◌, true, false, Option, Some, None, List}
 use Rattle.dg_world.specs.World.{WorldView}
 use Rattle.dg_world.specs.declared.question.Read.{Read}
 use Rattle.dg_world.specs.declared.test_id.TestId.{TestId}
-use Rattle.dg_language.specs.Play.{Gives, reads_in}
-use Rattle.dg_language.specs.Judge.{judge}
+use Rattle.dg_results.specs.declared.verdict.Line.{Line}
+use Rattle.dg_language.specs.Evaluation.{Ending}
+use Rattle.dg_language.specs.Play.{Play, Gives, Leads, reads_in}
+use Rattle.dg_language.specs.Judge.{judge, verdict_in}
 use Rattle.dg_records.specs.Truth.{RecordView, answers_of}
+use Rattle.dg_eval.specs.Lost.{HasReadPattern}
 use Rattle.dg_eval.specs.Truth.{JobView}
+use Rattle.dg_eval.specs.declared.job.JobFault.{JobFault}
+use Rattle.dg_eval.specs.declared.job.JobFault.TheVariants.{NotAsked, WrongKind, PatternLost, Memory, Failed}
 use Rattle.dg_core.specs.Core.{record_in}
+use Rattle.dg_core.specs.Turns.{turns_left}
 
 -- all that the judging of a test reads in a world
 unfoldable pub all_reads : WorldView → TestId → List Read
 all_reads w t = reads_in (answers_of w) (judge t)
+
+-- the judging of a test comes to its end in a world
+abbrev pub HasVerdict : WorldView → TestId → Type 0
+HasVerdict w t = (lines : List Line) × (verdict_in (answers_of w) t ≡ Some lines)
 
 -- a job of a test that was told nothing but this world's answers, and asks nothing now
 pub record IsTold (w : WorldView) (t : TestId) (j : JobView) : Type 0 where
@@ -20,15 +30,29 @@ pub record IsTold (w : WorldView) (t : TestId) (j : JobView) : Type 0 where
   pub failed : j.failed ≡ false
   pub asked : j.asked ≡ None
   pub gives : Gives (answers_of w) j.reads
+  pub rest : Play Ending
+  pub leads : Leads (judge t) j.reads rest
 
--- one answer more, of those that the judging reads
-pub record IsToldMore (w : WorldView) (old new : JobView) : Type 0 where
-  pub told : IsTold w old.test new
+-- it was told one answer more, of a world that may have grown, and fewer turns are left
+pub record IsToldMore (before after : WorldView) (old new : JobView) : Type 0 where
+  pub told : IsTold after old.test new
   pub same : new.test ≡ old.test
-  pub before : length old.reads < length (all_reads w old.test)
-  pub more : length new.reads ≡ length old.reads + 1
+  pub fewer : turns_left after old.test new.reads < turns_left before old.test old.reads
 
--- a turn comes to one answer more, or to the record of the test in this world
-abbrev pub Takes : WorldView → JobView → JobView → Option RecordView → Type 0
-Takes w old new None = IsToldMore w old new
-Takes w old new (Some r) = r ≡ record_in w old.test
+-- the record of a test in a world, where its judging comes to its end
+pub record Judges (w : WorldView) (t : TestId) (r : RecordView) : Type 0 where
+  pub made : r ≡ record_in w t
+  pub ends : HasVerdict w t
+
+-- what a turn comes to: one answer more, or the record of the test in this world
+abbrev pub Takes : WorldView → WorldView → JobView → JobView → Option RecordView → Type 0
+Takes before after old new None = IsToldMore before after old new
+Takes before after old new (Some r) = Judges after old.test r
+
+-- why a judging fails in a world: for want of memory, or where it reads a pattern that is answered as read
+abbrev pub Fails : WorldView → TestId → JobFault → Type 0
+Fails w t NotAsked = ⊥
+Fails w t WrongKind = ⊥
+Fails w t PatternLost = HasReadPattern (all_reads w t)
+Fails w t Memory = Unit {0}
+Fails w t Failed = ⊥

@@ -1,15 +1,17 @@
 -- A world, and the records that are kept of it.
 use Rattle.std.specs.Prelude.{◌≡◌, ◌≤◌, ℕ, ◌+◌, ◌-◌, ◌^◌, Bool, false, cond, not, min, Option, Some, None, Result, Ok, Err, List, [], ◌∷◌, length, take}
-use Rattle.std.specs.List.{list_all, filter}
-use Rattle.dg_world.specs.Question.{same_answer}
-use Rattle.dg_world.specs.World.{WorldView, new_world, edited, look, selected}
+use Rattle.std.specs.List.{filter}
+use Rattle.dg_transcript.specs.declared.entry.Entry.{Entry}
+use Rattle.dg_world.specs.World.{WorldView, new_world, edited, recorded, selected, IsAsked}
+use Rattle.dg_world.specs.declared.question.Question.{Question}
+use Rattle.dg_world.specs.declared.question.Answer.{Answer}
 use Rattle.dg_world.specs.declared.edit.Edit.{Edit}
 use Rattle.dg_world.specs.declared.refusal.Refusal.{Refusal}
 use Rattle.dg_world.specs.declared.test_id.TestId.{TestId}
 use Rattle.dg_results.specs.declared.verdict.Line.{Line}
 use Rattle.dg_language.specs.Play.{reads_in}
 use Rattle.dg_language.specs.Judge.{judge, verdict_in}
-use Rattle.dg_records.specs.Truth.{RecordView, answers_of}
+use Rattle.dg_records.specs.Truth.{RecordView, answers_of, holds}
 use Rattle.dg_records.specs.Shelf.{kept, with_record}
 
 -- a world, the newest record of each test that had one, and how many evaluations were begun
@@ -20,10 +22,6 @@ pub record CoreView : Type 0 where
 
 abbrev pub new_core : CoreView
 new_core = record { world = new_world; shelf = []; evaluations = 0 }
-
--- whether each question that a record read still has its answer
-abbrev pub holds : WorldView → RecordView → Bool
-holds w r = list_all (λ read. same_answer (look w read.question) read.answer) r.reads
 
 abbrev pub holds_if_kept : WorldView → Option RecordView → Bool
 holds_if_kept w None = false
@@ -58,28 +56,28 @@ shelf_with w shelf (t ∷ ts) = shelf_with w (with_record shelf (record_in w t))
 abbrev pub counted : ℕ → ℕ → ℕ
 counted count more = min (count + more) (2 ^ 64 - 1)
 
--- the core after so many of its pending tests were judged and their records kept, and so many evaluations begun
-unfoldable pub settled_up_to : ℕ → ℕ → CoreView → CoreView
-settled_up_to kept_records begun c =
-    record { world = c.world; shelf = shelf_with c.world c.shelf (take kept_records (pending c)); evaluations = counted c.evaluations begun }
+-- the core over a world, once so many of the tests that were pending are judged in it and their records kept, and so many evaluations begun
+unfoldable pub settled_up_to : ℕ → ℕ → WorldView → CoreView → CoreView
+settled_up_to kept_records begun w c =
+    record { world = w; shelf = shelf_with w c.shelf (take kept_records (pending c)); evaluations = counted c.evaluations begun }
 
--- the core after a test was judged and its record kept
-abbrev pub with_judged : CoreView → TestId → CoreView
-with_judged c t =
-    record { world = c.world; shelf = with_record c.shelf (record_in c.world t); evaluations = counted c.evaluations 1 }
+-- the core over a world, once a test is judged in it and its record kept
+abbrev pub with_judged : WorldView → CoreView → TestId → CoreView
+with_judged w c t = record { world = w; shelf = with_record c.shelf (record_in w t); evaluations = counted c.evaluations 1 }
 
--- Some first pending tests were judged and their records kept, and at most one evaluation more was begun.
+-- Some first pending tests were judged, in the world as it now stands, and their records kept, and at most one evaluation
+-- more was begun.
 pub record IsPartlySettled (old new : CoreView) : Type 0 where
   pub kept_records : ℕ
   pub begun : ℕ
   pub within : begun ≤ length (pending old)
   pub all_kept : kept_records ≤ begun
   pub at_most_one : begun ≤ kept_records + 1
-  pub is_settled : new ≡ settled_up_to kept_records begun old
+  pub is_settled : new ≡ settled_up_to kept_records begun new.world old
 
--- the core after all of them were
-abbrev pub settled : CoreView → CoreView
-settled c = settled_up_to (length (pending c)) (length (pending c)) c
+-- the core over a world, once all tests that were pending are judged in it
+abbrev pub settled : WorldView → CoreView → CoreView
+settled w c = settled_up_to (length (pending c)) (length (pending c)) w c
 
 -- how far the count of evaluations rises then
 abbrev pub evaluated : CoreView → ℕ
@@ -92,3 +90,20 @@ with_world c (Err refusal) = Err refusal
 
 abbrev pub edited_core : CoreView → Edit → Result CoreView Refusal
 edited_core c e = with_world c (edited c.world e)
+
+-- the core after a question: its world may have one pattern more in its book, and nothing else has changed
+abbrev pub IsAskedOf : CoreView → CoreView → Question → Answer → Type 0
+IsAskedOf old new q a = IsAsked old.world new.world q a × (new ≡ record old { world = new.world })
+
+-- the core after a record was kept, in the place of the one that its test had
+abbrev pub committed : CoreView → RecordView → CoreView
+committed c r = record c { shelf = with_record c.shelf r }
+
+-- the core after a live run was kept, or the refusal of its transcript
+abbrev pub with_live : CoreView → RecordView → Result WorldView Refusal → Result CoreView Refusal
+with_live c r (Ok w) = Ok (record c { world = w; shelf = with_record c.shelf r })
+with_live c r (Err refusal) = Err refusal
+
+-- the core after a live run: its record is kept, in the place of the one that its test had, and these sessions are the transcript of its test; or the refusal for want of room
+abbrev pub committed_live : CoreView → RecordView → List (List Entry) → Result CoreView Refusal
+committed_live c r sessions = with_live c r (recorded c.world r.test sessions)

@@ -1,5 +1,9 @@
+pub mod Grown
 pub mod Scratch
 pub mod Core
 pub mod Reply
+pub mod Turns
 pub mod Asking
+pub mod Fault
 pub mod Unread
+pub mod Events

@@ -1,56 +1,37 @@
-//! The evaluation of a test in a world.
-ghost use Rattle.std.specs.Prelude.{◌≡◌, IfOk};
-ghost use Rattle.dg_core.specs.Core.{record_in};
-ghost use Rattle.dg_core.specs.Asking.{IsTold, Takes};
-ghost use Rattle.dg_world.specs.World.{look};
+//! The evaluation of a test in a world, whose book takes up each new pattern.
+ghost use Rattle.std.specs.Prelude.{◌≡◌, MatchResult};
+ghost use Rattle.dg_core.specs.Asking.{IsTold, Takes, Judges, Fails};
+ghost use Rattle.dg_core.specs.Grown.{IsGrown};
 
 use dg_eval::{Job, JobFault, Turn};
 use dg_records::Record;
-use dg_world::{Answer, Question, TestId, World};
-use std::alloc::{AllocError, Global};
+use dg_world::{TestId, World};
+use std::alloc::Global;
 
-/// The only fault that a job has where it is asked in turn.
-fn want_of_memory(fault: JobFault) -> AllocError
-    requires { fault ≡ JobFault.Memory }
-{
-    match fault {
-        JobFault::Memory => AllocError,
-        JobFault::NotAsked | JobFault::WrongKind | JobFault::Failed => unreachable!(),
-    }
-}
-
-/// What a world answers to a question.
-fn answer(alloc: Global, world: &World, question: &Question) -> Result<Answer, AllocError>
-    ensures { IfOk result (λ a. a ≡ look world.now question.now) }
-{
-    match world.answer(alloc, question)? {
-        Some(answer) => Ok(answer),
-        None => unreachable!(),
-    }
-}
-
-/// Tells a job what the world answers to its next question, or gives its record. All that it was
-/// told so far are this world's answers.
+/// Tells a job what the world answers to its next question, or gives its record. All that it was told so far are this
+/// world's answers.
 #[tactic(none)]
-fn take_turn(alloc: Global, world: &World, job: &mut Job) -> Result<Option<Record>, AllocError>
-    requires { IsTold world.now job.old.test job.old }
-    ensures { IfOk result (λ r. Takes world.now job.old job.new r) }
+fn take_turn(alloc: Global, world: &mut World, job: &mut Job) -> Result<Option<Record>, JobFault>
+    requires { IsTold world.old job.old.test job.old }
+    ensures grown { IsGrown world.old world.new }
+    ensures turn { MatchResult result (Takes world.old world.new job.old job.new) (Fails world.new job.old.test) }
 {
-    let question = match job.advance(alloc) {
-        Ok(Turn::Need(question)) => question,
+    let ask = match job.advance(alloc) {
+        Ok(Turn::Need(ask)) => ask,
         Ok(Turn::Done(record)) => return Ok(Some(record)),
-        Err(fault) => return Err(want_of_memory(fault)),
+        Err(fault) => return Err(fault),
     };
-    let told = answer(alloc, world, &question)?;
+    let told = world.ask(alloc, &ask.question)?;
     match job.answer(told) {
         Ok(()) => Ok(None),
-        Err(fault) => Err(want_of_memory(fault)),
+        Err(fault) => Err(fault),
     }
 }
 
-/// Judges a test in a world.
-pub(crate) fn evaluate(alloc: Global, world: &World, test: &TestId) -> Result<Record, AllocError>
-    ensures { IfOk result (λ r. r ≡ record_in world.now test.now) }
+/// Judges a test in a world. A pattern that its evaluation is the first to ask for enters the world's book.
+pub(crate) fn evaluate(alloc: Global, world: &mut World, test: &TestId) -> Result<Record, JobFault>
+    ensures grown { IsGrown world.old world.new }
+    ensures record { MatchResult result (Judges world.new test.now) (Fails world.new test.now) }
 {
     let mut job = Job::start(alloc, test.copy(alloc)?)?;
     'turns: loop {

@@ -1,25 +1,33 @@
 //! A world with the records that are kept of it.
 ghost use Rattle.std.specs.Prelude.{◌≡◌, ◌⊎◌, ◌++◌, [], Ok, Err, Some, true, IfOk, IfErr, OnOk, OnErr, IsTrue};
-ghost use Rattle.dg_core.specs.Core.{new_core, pending, is_held, record_in, settled, counted, edited_core, unheld, with_judged, IsPartlySettled};
+ghost use Rattle.dg_core.specs.Core.{committed, committed_live, IsAskedOf, new_core, pending, is_held, record_in, settled, counted, edited_core, unheld, with_judged, IsPartlySettled};
 ghost use Rattle.dg_core.specs.Scratch.{scratch, all_judged, IsJudged};
 ghost use Rattle.dg_core.specs.Reply.{Replies};
+ghost use Rattle.dg_core.specs.Asking.{HasVerdict};
+ghost use Rattle.dg_core.specs.Fault.{Blames, Tells};
+ghost use Rattle.dg_core.specs.Grown.{IsGrown};
 ghost use Rattle.dg_records.specs.Truth.{answers_of};
 ghost use Rattle.dg_records.specs.Shelf.{with_record};
-ghost use Rattle.dg_world.specs.World.{selected, takes_memory};
+ghost use Rattle.dg_world.specs.World.{look, selected, takes_memory};
 
 use crate::evaluate::evaluate;
 use crate::reply::Reply;
-use dg_records::Shelf;
+use dg_bytes::{Bytes, Seq, TryCopy};
+use dg_eval::JobFault;
+use dg_records::{Record, Shelf};
 use dg_sum::{Judged, exit_status, sum_text};
-use dg_words::{Bytes, Seq};
-use dg_world::{Edit, Refusal, TestId, World};
+use dg_transcript::Transcript;
+use dg_world::{Answer, Edit, Question, Refusal, TestId, World};
 use std::alloc::{AllocError, Global};
 use std::marker::Model;
 use thiserror::Error;
 
 /// Why a settling gives no report.
-#[derive(Clone, Copy, Debug, PartialEq, Eq, Drop, Error)]
+#[derive(Debug, PartialEq, Eq, Drop, Error)]
 pub enum CoreFault {
+    /// The evaluation of this test needs a pattern that was answered as read, and it can't be built.
+    #[error("a pattern answered as read could not be built")]
+    PatternLost(TestId),
     /// A growth was refused.
     #[error("out of memory")]
     Memory,
@@ -80,6 +88,66 @@ impl Core {
         ensures { IfOk result (λ l. l ≡ selected self.now.world) }
     {
         self.world.selected(alloc)
+    }
+
+    /// The answer to a question. A pattern that is asked for the first time is read, and its answer goes into the book for
+    /// good; no other question changes anything, nor does want of memory.
+    pub fn ask(&mut self, alloc: Global, question: &Question) -> Result<Answer, AllocError>
+        ensures ok { IfOk result (IsAskedOf self.old self.new question.now) }
+        ensures err { OnErr result (self.new ≡ self.old) }
+    {
+        self.world.ask(alloc, question)
+    }
+
+    /// The answer to a question, if there is one: there is none only to a pattern that was never asked for. It changes
+    /// nothing.
+    pub fn answer(&self, alloc: Global, question: &Question) -> Result<Option<Answer>, AllocError>
+        ensures { IfOk result (λ a. a ≡ look self.now.world question.now) }
+    {
+        self.world.answer(alloc, question)
+    }
+
+    /// Keeps a record in the place of the one that its test had, or gives it back and changes nothing where there is no
+    /// room for it.
+    pub fn commit(&mut self, alloc: Global, newest: Record) -> Result<(), Record>
+        ensures ok { OnOk result (self.new ≡ committed self.old newest) }
+        ensures err { OnErr result (self.new ≡ self.old) }
+        ensures back { IfErr result (λ r. r ≡ newest) }
+    {
+        self.shelf.keep(alloc, newest)
+    }
+
+    /// Keeps the record of a live run, in the place of the one that its test had, and makes its transcript that of its
+    /// test: both, or neither, and then both come back. `TooMany` only where it is a new test beside 65,536 transcripts,
+    /// and `Memory` where a growth was refused, which comes first.
+    pub fn commit_live(
+        &mut self,
+        alloc: Global,
+        newest: Record,
+        transcript: Transcript,
+    ) -> Result<(), (Refusal, Record, Transcript)>
+        ensures ok { OnOk result (committed_live self.old newest transcript ≡ Ok self.new) }
+        ensures which { IfErr result (λ r. (r.0 ≡ Refusal.Memory) ⊎ (committed_live self.old newest transcript ≡ Err r.0)) }
+        ensures err { OnErr result (self.new ≡ self.old) }
+        ensures back { IfErr result (λ r. (r.1 ≡ newest) × (r.2 ≡ transcript)) }
+    {
+        let Ok(copy) = transcript.copy(alloc) else {
+            return Err((Refusal::Memory, newest, transcript));
+        };
+        let Ok(test) = newest.test().copy(alloc) else {
+            return Err((Refusal::Memory, newest, transcript));
+        };
+        let previous = match self.shelf.exchange(alloc, newest) {
+            Ok(previous) => previous,
+            Err(newest) => return Err((Refusal::Memory, newest, transcript)),
+        };
+        match self.world.put_transcript(alloc, &test, copy) {
+            Ok(()) => Ok(()),
+            Err(refusal) => {
+                let newest = self.shelf.put_back(&test, previous);
+                Err((refusal, newest, transcript))
+            }
+        }
     }
 
     /// How many evaluations were begun; the count stays at its last value.
@@ -181,27 +249,39 @@ impl Core {
     }
 
     /// Evaluates a test and keeps its record.
-    fn judge(&mut self, alloc: Global, test: &TestId) -> Result<(), AllocError>
-        ensures ok { OnOk result (self.new ≡ with_judged self.old test.now) }
-        ensures err { OnErr result (self.new ≡ record self.old { evaluations = counted self.old.evaluations 1 }) }
+    fn judge(&mut self, alloc: Global, test: &TestId) -> Result<(), CoreFault>
+        ensures grown { IsGrown self.old.world self.new.world }
+        ensures ok { OnOk result (self.new ≡ with_judged self.new.world self.old test.now) }
+        ensures ends { OnOk result (HasVerdict self.new.world test.now) }
+        ensures err { OnErr result (self.new ≡ record self.old { world = self.new.world; evaluations = counted self.old.evaluations 1 }) }
+        ensures why { IfErr result (Blames test.now self.new.world) }
     {
         self.evaluations = self.evaluations.saturating_add(1);
-        let judged = evaluate(alloc, &self.world, test)?;
+        let judged = match evaluate(alloc, &mut self.world, test) {
+            Ok(judged) => judged,
+            Err(JobFault::PatternLost) => return Err(CoreFault::PatternLost(test.copy(alloc)?)),
+            Err(JobFault::Memory) => return Err(CoreFault::Memory),
+            Err(JobFault::NotAsked | JobFault::WrongKind | JobFault::Failed) => unreachable!(),
+        };
         match self.shelf.keep(alloc, judged) {
             Ok(()) => Ok(()),
-            Err(_) => Err(AllocError),
+            Err(_) => Err(CoreFault::Memory),
         }
     }
 
-    /// The report of the world as it stands: its bytes and the exit status. Just the selected tests
-    /// without a kept record that holds are evaluated first, in order, and their records kept.
+    /// The report of the world as it then stands: its bytes and the exit status. Just the selected tests
+    /// without a kept record that holds as it begins are evaluated first, in order, and their records kept. A pattern that
+    /// they are the first to ask for enters the book, for good; nothing else of the world changes.
     ///
     /// # Errors
-    /// `Memory` where a growth is refused; the records that were made before are kept.
+    /// `PatternLost` where the evaluation of a test needs a pattern that was answered as read and can't be built, `Memory`
+    /// where a growth is refused; the records, pattern answers and counts that were made before stay.
     pub fn settle(&mut self, alloc: Global) -> Result<(Bytes, u8), CoreFault>
         ensures sum { IfOk result (λ r. scratch self.new.world ≡ Some (r.0, r.1)) }
-        ensures settles { OnOk result (self.new ≡ settled self.old) }
+        ensures grown { IsGrown self.old.world self.new.world }
+        ensures settles { OnOk result (self.new ≡ settled self.new.world self.old) }
         ensures kept { OnErr result (IsPartlySettled self.old self.new) }
+        ensures why { IfErr result (Tells self.old self.new.world) }
     {
         let _begun = self.evaluations();
         let pending = self.pending(alloc)?;

@@ -9,5 +9,5 @@ mod reply;
 mod tests;
 
 pub use crate::judging_core::{Core, CoreFault};
-pub use crate::law::unread_changes_leave_the_pending;
+pub use crate::law::{reports_after_events_are_from_scratch, unread_changes_leave_the_pending};
 pub use crate::reply::Reply;

@@ -1,12 +1,13 @@
 //! A core over one script, from its first report to a mended one, and over what a line sets.
 
 mod growth;
+mod patterns;
 mod selections;
 mod suites;
 
 use crate::judging_core::Core;
 use crate::reply::Reply;
-use dg_words::{Bytes, Seq};
+use dg_bytes::{Bytes, Seq};
 use dg_world::{Edit, Refusal, Selection, Setting};
 use std::alloc::{AllocError, Global};
 use std::test::Fail;

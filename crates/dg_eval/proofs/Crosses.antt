@@ -9,4 +9,4 @@ Stage-send : IsSend Stage.the_field.row
 Stage-send = search (sendable, Asking-send, Evaluation-send) depth 20
 
 pub Job-send : IsSend Job.the_row
-Job-send = search (sendable, test.the_field_send, Stage-send) depth 20
+Job-send = search (sendable, test.the_send, Stage-send) depth 20

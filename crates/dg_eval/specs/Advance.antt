@@ -1,15 +1,18 @@
 -- What the turns of a job come to.
 use Rattle.std.specs.Prelude.{◌≡◌, ℕ, Bool, true, false, List, [], ◌∷◌, ◌++◌, Option, Some, None}
-use Rattle.dg_world.specs.declared.question.Question.{Question}
+use Rattle.dg_language.specs.declared.ask.Ask.{Ask}
+use Rattle.dg_language.specs.Evaluation.{Ending}
 use Rattle.dg_world.specs.declared.question.Answer.{Answer}
 use Rattle.dg_world.specs.declared.question.Read.{Read}
 use Rattle.dg_world.specs.declared.test_id.TestId.{TestId}
 use Rattle.dg_world.specs.Question.{fits}
+use Rattle.dg_results.specs.declared.verdict.Line.{Line}
 use Rattle.dg_machine.specs.Evaluating.{NeedsNext, HasEnded}
+use Rattle.dg_machine.specs.Lost.{HasReadPattern}
 use Rattle.dg_eval.specs.declared.job.Turn.{Turn}
 use Rattle.dg_eval.specs.declared.job.Turn.TheVariants.{Need, Done}
 use Rattle.dg_eval.specs.declared.job.JobFault.{JobFault}
-use Rattle.dg_eval.specs.declared.job.JobFault.TheVariants.{NotAsked, WrongKind, Memory, Failed}
+use Rattle.dg_eval.specs.declared.job.JobFault.TheVariants.{NotAsked, WrongKind, PatternLost, Memory, Failed}
 use Rattle.dg_eval.specs.Truth.{JobView}
 
 -- the job that was started for a test
@@ -25,9 +28,16 @@ abbrev pub over : TestId → ℕ → JobView
 over test steps = record { test = test; reads = []; asked = None; live = false; failed = false; steps = steps }
 
 -- the steps after a turn: while a question stands no more are taken
-abbrev pub steps_after : Option Question → ℕ → ℕ → ℕ
+abbrev pub steps_after : Option Ask → ℕ → ℕ → ℕ
 steps_after None before now = now
-steps_after (Some q) before now = before
+steps_after (Some ask) before now = before
+
+-- the judging has ended with this verdict and after so many steps, with just these answers as the source
+pub record HasEndedWith (test : TestId) (reads : List Read) (verdict : List Line) (steps : ℕ) : Type 0 where
+  pub ending : Ending
+  pub has_ended : HasEnded test reads ending
+  pub lines : ending.verdict ≡ verdict
+  pub count : ending.steps ≡ steps
 
 -- What a turn comes to with the answers so far: to the question that the judging needs next, which then stands, or to a
 -- record of its verdict, with just these answers as the reads.
@@ -35,34 +45,40 @@ abbrev pub Advances : JobView → JobView → Turn → Type 0
 Advances old new (Need q) =
     (old.live ≡ true) × NeedsNext old.test old.reads q × (new ≡ record old { asked = Some q; steps = steps_after old.asked old.steps new.steps })
 Advances old new (Done r) =
-    (old.live ≡ true) × HasEnded old.test old.reads (record { verdict = r.verdict; steps = new.steps })
+    (old.live ≡ true) × HasEndedWith old.test old.reads r.verdict new.steps
     × (r.test ≡ old.test) × (r.reads ≡ old.reads) × (new ≡ over old.test new.steps)
 
--- the job has failed, for good
-abbrev pub HasFailed : JobView → Type 0
-HasFailed new = (new.live ≡ false) × (new.failed ≡ true)
+-- the job of a test that has failed, for good, with the steps that it had taken
+abbrev pub failed : TestId → ℕ → JobView
+failed test steps = record { test = test; reads = []; asked = None; live = false; failed = true; steps = steps }
 
--- a turn that comes to nothing: the job fails for want of memory, or it had failed or ended before and stays as it was
+-- the job has failed, for good
+abbrev pub HasFailed : JobView → JobView → Type 0
+HasFailed old new = new ≡ failed old.test old.steps
+
+-- a turn that comes to nothing: the job fails for want of memory, or where a pattern that it was told is read can't be built; or it had failed or ended before and stays as it was
 abbrev pub Halts : JobView → JobView → JobFault → Type 0
 Halts old new NotAsked = ⊥
 Halts old new WrongKind = ⊥
-Halts old new Memory = (old.live ≡ true) × HasFailed new
+Halts old new PatternLost = (old.live ≡ true) × HasReadPattern old.reads × HasFailed old new
+Halts old new Memory = (old.live ≡ true) × HasFailed old new
 Halts old new Failed = (old.live ≡ false) × (new ≡ old)
 
 -- the answer goes to the question that stood, and none stands then
-abbrev pub Tells : JobView → JobView → Answer → Option Question → Type 0
+abbrev pub Tells : JobView → JobView → Answer → Option Ask → Type 0
 Tells old new a None = ⊥
-Tells old new a (Some q) =
-    (fits q a ≡ true) × (new ≡ record old { reads = old.reads ++ record { question = q; answer = a } ∷ []; asked = None })
+Tells old new a (Some ask) =
+    (fits ask.question a ≡ true) × (new ≡ record old { reads = old.reads ++ record { question = ask.question; answer = a } ∷ []; asked = None })
 
 -- whether a question stands, and whether the answer is of its kind
-abbrev pub IsOfKind : Option Question → Answer → Bool → Type 0
+abbrev pub IsOfKind : Option Ask → Answer → Bool → Type 0
 IsOfKind None a right = ⊥
-IsOfKind (Some q) a right = fits q a ≡ right
+IsOfKind (Some ask) a right = fits ask.question a ≡ right
 
 -- an answer that is not taken; only want of memory changes the job, which then has failed
 abbrev pub Refuses : JobView → JobView → Answer → JobFault → Type 0
 Refuses old new a NotAsked = (old.failed ≡ false) × (old.asked ≡ None) × (new ≡ old)
 Refuses old new a WrongKind = IsOfKind old.asked a false × (new ≡ old)
-Refuses old new a Memory = IsOfKind old.asked a true × HasFailed new
+Refuses old new a PatternLost = ⊥
+Refuses old new a Memory = IsOfKind old.asked a true × HasFailed old new
 Refuses old new a Failed = (old.failed ≡ true) × (new ≡ old)

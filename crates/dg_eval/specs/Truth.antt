@@ -1,6 +1,6 @@
 -- What a job keeps.
 use Rattle.std.specs.Prelude.{◌≡◌, ℕ, Bool, true, false, List, [], Option, Some, None}
-use Rattle.dg_world.specs.declared.question.Question.{Question}
+use Rattle.dg_language.specs.declared.ask.Ask.{Ask}
 use Rattle.dg_world.specs.declared.question.Read.{Read}
 use Rattle.dg_world.specs.declared.test_id.TestId.{TestId}
 use Rattle.dg_eval.specs.declared.stage.Stage.{Stage}
@@ -19,9 +19,9 @@ reads_of (Asking a) = a.reads
 reads_of Finished = []
 reads_of Failed = []
 
-abbrev pub asked_of : Stage → Option Question
+abbrev pub asked_of : Stage → Option Ask
 asked_of (Running e) = None
-asked_of (Asking a) = Some a.question
+asked_of (Asking a) = Some a.ask
 asked_of Finished = None
 asked_of Failed = None
 
@@ -42,7 +42,7 @@ has_failed Failed = true
 pub record JobView : Type 0 where
   pub test : TestId
   pub reads : List Read
-  pub asked : Option Question
+  pub asked : Option Ask
   pub live : Bool
   pub failed : Bool
   pub steps : ℕ

@@ -3,9 +3,10 @@ ghost use Rattle.std.specs.Prelude.{◌≡◌, true, IfOk, MatchResult};
 ghost use Rattle.dg_eval.specs.Advance.{Advances, Halts, HasFailed, Tells, Refuses, started, going};
 
 use crate::stage::Stage;
+use dg_language::Ask;
 use dg_machine::{Arrival, Evaluation};
 use dg_records::Record;
-use dg_world::{Answer, Question, TestId};
+use dg_world::{Answer, TestId};
 use std::alloc::{AllocError, Global};
 use std::marker::Model;
 use std::mem;
@@ -14,8 +15,9 @@ use thiserror::Error;
 /// What a turn of a job came to.
 #[derive(Drop)]
 pub enum Turn {
-    /// The evaluation needs the answer to this question.
-    Need(Question),
+    /// The evaluation needs the answer to this question; where that is an entry of a session, it is to answer the
+    /// action beside it.
+    Need(Ask),
     /// The evaluation has ended.
     Done(Record),
 }
@@ -29,6 +31,9 @@ pub enum JobFault {
     /// The answer is not of the question's kind.
     #[error("the answer is of another kind")]
     WrongKind,
+    /// A pattern that was answered as read can't be built. Every later call answers `Failed`.
+    #[error("a pattern answered as read could not be built")]
+    PatternLost,
     /// A growth was refused. Every later call answers `Failed`.
     #[error("out of memory")]
     Memory,
@@ -90,15 +95,15 @@ impl Job {
     /// Goes on to the next question or to the end. While a question stands it is given again.
     ///
     /// # Errors
-    /// `Memory` where a growth is refused, and the job has then failed; `Failed` where it has failed
-    /// before, or is done.
+    /// `PatternLost` where a pattern that was answered as read can't be built, `Memory` where a growth
+    /// is refused, and the job has then failed; `Failed` where it has failed before, or is done.
     pub fn advance(&mut self, alloc: Global) -> Result<Turn, JobFault>
         ensures { MatchResult result (Advances self.old self.new) (Halts self.old self.new) }
     {
         match mem::replace(&mut self.stage, Stage::Failed) {
-            Stage::Running(evaluation) => Ok(self.go_on(alloc, evaluation)?),
+            Stage::Running(evaluation) => self.go_on(alloc, evaluation),
             Stage::Asking(asking) => {
-                let copy = asking.question().copy(alloc)?;
+                let copy = asking.ask().copy(alloc)?;
                 self.stage.set(Stage::Asking(asking));
                 Ok(Turn::Need(copy))
             }
@@ -110,15 +115,15 @@ impl Job {
         }
     }
 
-    /// The evaluation moves up to a question, or to the end.
-    fn go_on(&mut self, alloc: Global, evaluation: Evaluation) -> Result<Turn, AllocError>
+    /// The evaluation moves up to a question, or to the end, or fails.
+    fn go_on(&mut self, alloc: Global, evaluation: Evaluation) -> Result<Turn, JobFault>
         requires test { evaluation.test ≡ self.old.test }
-        requires failed { HasFailed self.old }
-        ensures { MatchResult result (Advances (going self.old evaluation.reads) self.new) (λ _. HasFailed self.new) }
+        requires failed { HasFailed self.old self.old }
+        ensures { MatchResult result (Advances (going self.old evaluation.reads) self.new) (Halts (going self.old evaluation.reads) self.new) }
     {
         match evaluation.run_on(alloc)? {
             Arrival::AtQuestion(asking) => {
-                let copy = asking.question().copy(alloc)?;
+                let copy = asking.ask().copy(alloc)?;
                 self.steps = asking.steps();
                 self.stage.set(Stage::Asking(asking));
                 Ok(Turn::Need(copy))
@@ -129,6 +134,7 @@ impl Job {
                 let record = Record::from_parts(ended.test, ended.reads, ended.verdict);
                 Ok(Turn::Done(record))
             }
+            Arrival::Lost => Err(JobFault::PatternLost),
         }
     }
 
@@ -143,7 +149,7 @@ impl Job {
     {
         match mem::replace(&mut self.stage, Stage::Failed) {
             Stage::Asking(asking) => {
-                if !asking.question().fits(&answer) {
+                if !asking.ask().question.fits(&answer) {
                     self.stage.set(Stage::Asking(asking));
                     return Err(JobFault::WrongKind);
                 }

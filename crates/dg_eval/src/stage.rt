@@ -13,7 +13,7 @@ pub enum Stage {
     Asking(Asking),
     /// The record was handed out.
     Finished,
-    /// A growth was refused.
+    /// A growth was refused, or a pattern could not be built.
     Failed,
 }
 

@@ -2,9 +2,11 @@
 
 use crate::job::{Job, JobFault, Turn};
 use dg_boards::Triplet;
+use dg_bytes::Bytes;
+use dg_language::Ask;
+use dg_match::Reading;
 use dg_records::Record;
 use dg_results::Class;
-use dg_words::Bytes;
 use dg_world::{Answer, Question, TestId};
 use std::alloc::{AllocError, Global};
 use std::test::Fail;
@@ -18,17 +20,28 @@ fn begun(alloc: Global) -> Result<Job, AllocError> {
     }
 }
 
+/// The question of the next turn, where it answers no action.
+fn plain_question(alloc: Global, job: &mut Job) -> Option<Question> {
+    let Ok(Turn::Need(Ask { question, action })) = job.advance(alloc) else {
+        return None;
+    };
+    match action {
+        None => Some(question),
+        Some(_) => None,
+    }
+}
+
 /// Whether the next turn asks for the file of this name.
 fn asks_for_file(alloc: Global, job: &mut Job, wanted: &[u8]) -> bool {
-    match job.advance(alloc) {
-        Ok(Turn::Need(Question::File(name))) => name.as_slice() == wanted,
+    match plain_question(alloc, job) {
+        Some(Question::File(name)) => name.as_slice() == wanted,
         _ => false,
     }
 }
 
 /// Whether the next turn asks for the tool.
 fn asks_for_tool(alloc: Global, job: &mut Job) -> bool {
-    matches!(job.advance(alloc), Ok(Turn::Need(Question::Tool)))
+    matches!(plain_question(alloc, job), Some(Question::Tool))
 }
 
 /// Whether a new job asks for the board's file, the tool, its library and then for the script, each once the one before is answered.
@@ -44,8 +57,8 @@ fn comes_to_its_script(alloc: Global, job: &mut Job, tool: Bytes) -> bool {
 
 /// Whether the next turn asks for the global `who`.
 fn asks_for_who(alloc: Global, job: &mut Job) -> bool {
-    match job.advance(alloc) {
-        Ok(Turn::Need(Question::Variable(name))) => name.is(b"who"),
+    match plain_question(alloc, job) {
+        Some(Question::Variable(name)) => name.is(b"who"),
         _ => false,
     }
 }
@@ -132,6 +145,29 @@ fn a_job_goes_to_another_thread(rt: HostRuntime) -> Result<(), Fail> {
     let asked = asker.join(&rt).ok_or("no question")?;
     let teller = thread::spawn(&rt, move || is_told_to_its_end(alloc, asked, tool, script))?;
     assert!(rt; teller.join(&rt));
+    Ok(())
+}
+
+/// Whether the next turn asks how this pattern is read.
+fn asks_for_pattern(alloc: Global, job: &mut Job, wanted: &[u8]) -> bool {
+    match plain_question(alloc, job) {
+        Some(Question::Pattern(text)) => text.is(wanted),
+        _ => false,
+    }
+}
+
+#[test]
+fn a_pattern_that_cannot_be_built_is_lost(rt: HostRuntime) -> Result<(), Fail> {
+    let alloc = rt.alloc();
+    let mut job = begun(alloc)?;
+    let tool = Bytes::from_slice(alloc, b"t")?;
+    assert!(rt; comes_to_its_script(alloc, &mut job, tool));
+    let script = Bytes::from_slice(alloc, b"regexp ( a")?;
+    assert!(rt; job.answer(Answer::Content(script)).is_ok());
+    assert!(rt; asks_for_pattern(alloc, &mut job, b"("));
+    assert!(rt; job.answer(Answer::Reading(Reading::Read)).is_ok());
+    assert!(rt; matches!(job.advance(alloc), Err(JobFault::PatternLost)));
+    assert!(rt; matches!(job.advance(alloc), Err(JobFault::Failed)));
     Ok(())
 }
 

@@ -5,7 +5,8 @@ ghost use Rattle.dg_expr.specs.Tree.{Tree as Spelled};
 
 use crate::operator::{Infix, Prefix};
 use crate::tree::{Node, Tree};
-use dg_words::{Parts, Seq};
+use dg_bytes::Seq;
+use dg_words::Parts;
 use std::alloc::{AllocError, Global};
 
 /// An instruction, which works on a stack of texts.

@@ -12,7 +12,8 @@ use crate::operator::Infix;
 use crate::token::{
     Kind, Lexeme, Token, double_sign, is_letter, is_run_byte, kind_of, single_sign,
 };
-use dg_words::{Bytes, Part, Parts, Seq, Word, WordFault, parse_operand};
+use dg_bytes::{Bytes, Seq};
+use dg_words::{Part, Parts, Word, WordFault, parse_operand};
 use std::alloc::{AllocError, Global};
 
 /// How many bytes of a run a text begins with.

@@ -25,6 +25,3 @@ pub use crate::reading::{one_tree, read_expr};
 pub use crate::tree::{Node, Tree};
 pub use crate::value::{apply, apply_one};
 pub use crate::whole::number;
-
-#[cfg(test)]
-mod tests;

@@ -12,7 +12,8 @@ use crate::boolean::{truth, truth_text};
 use crate::fault::{ExprFault, Side};
 use crate::operator::{Infix, Prefix};
 use crate::whole::number;
-use dg_words::{Bytes, WordFault, split_list};
+use dg_bytes::Bytes;
+use dg_words::{WordFault, split_list};
 use std::alloc::{AllocError, Global};
 use std::cmp::Ordering;
 

@@ -3,6 +3,7 @@ use Rattle.std.proofs.Common.{◌≡◌, true, false, Some, None, [], refl}
 use Rattle.std.specs.Prelude.{codes}
 use Rattle.dg_glob.specs.Items.{after_item}
 use Rattle.dg_glob.specs.Glob.{binds_end, body}
+use Rattle.dg_glob.specs.Tests.{glob_matches, is_span, last_end, first_span}
 
 -- a bracket is left behind the first `]` past the item that takes the byte
 left_early : after_item (codes "[ab-]c]") 97 ≡ Some (codes "c]")
@@ -39,3 +40,16 @@ two_backslashes = refl
 
 bound_twice : body (codes "^a$") ≡ codes "a"
 bound_twice = refl
+
+-- the first span has the least start, and the greatest end of those
+first_of_two : first_span (codes "ab*") (codes "xabyab") ≡ Some (1, 6)
+unfolding first_span last_end is_span glob_matches
+first_of_two = refl
+
+first_of_bound : first_span (codes "ab$") (codes "xabyab") ≡ Some (4, 6)
+unfolding first_span last_end is_span glob_matches
+first_of_bound = refl
+
+no_first_of_bound : first_span (codes "^a") (codes "xab") ≡ None
+unfolding first_span last_end is_span glob_matches
+no_first_of_bound = refl

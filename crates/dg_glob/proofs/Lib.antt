@@ -5,4 +5,7 @@ pub mod SearchLemmas
 pub mod SpanLemmas
 pub mod MarkLemmas
 pub mod RowLemmas
+pub mod LeastLemmas
+pub mod TestLemmas
+pub mod FirstLemmas
 mod Examples

@@ -1,6 +1,7 @@
 //! Matches of a pattern with a whole text, and its spans in a text.
-ghost use Rattle.std.specs.Prelude.{◌≡◌, ◌≤◌, ◌<◌, ◌-◌, ◌↔◌, ◌∷◌, [], IfSome, IfNone, IsTrue, List, ℕ, length, drop, None};
+ghost use Rattle.std.specs.Prelude.{◌≡◌, ◌≤◌, ◌<◌, ◌-◌, ◌↔◌, ◌∷◌, [], IfSome, IfNone, IsTrue, List, ℕ, length, drop, None, option_map};
 ghost use Rattle.dg_glob.specs.Glob as word;
+ghost use Rattle.dg_glob.specs.Tests.{first_span, glob_matches};
 ghost use Rattle.dg_glob.specs.Search.{Ends, IsFirstReach};
 
 use crate::search::{longest, skip_ahead};
@@ -11,7 +12,8 @@ use crate::search::{longest, skip_ahead};
 /// bytes and ranges in either order, and `\x` for the byte x. What follows a bracket begins behind
 /// the first `]` past the item that took the byte.
 pub fn string_match(pattern: &[u8], text: &[u8]) -> bool
-    ensures { IsTrue result ↔ word.Matches pattern.now text.now }
+    ensures value { result ≡ glob_matches pattern.now text.now }
+    ensures relation { IsTrue result ↔ word.Matches pattern.now text.now }
 {
     longest(pattern, text, true).left.is_some()
 }
@@ -90,6 +92,7 @@ fn first_reach(body: &[u8], text: &[u8], whole: bool) -> Option<Span>
 /// The pattern is one of [`string_match`], but a `^` at its front binds it to the text's start, and a
 /// `$` at its end, without a backslash, to the text's end.
 pub fn find_glob(pattern: &[u8], text: &[u8]) -> Option<Span>
+    ensures value { option_map (λ s. (s.start, s.end)) result ≡ first_span pattern.now text.now }
     ensures found { IfSome result (λ s. word.IsFirstSpan pattern.now text.now s.start s.end) }
     ensures none { IfNone result ((s e : ℕ) → word.IsSpan pattern.now text.now s e → ⊥) }
 {

@@ -6,7 +6,5 @@ mod items;
 mod marks;
 mod rows;
 mod search;
-#[cfg(test)]
-mod tests;
 
 pub use crate::glob::{Span, find_glob, string_match};

@@ -3,13 +3,14 @@ use Rattle.std.proofs.Common.{◌≡◌, Bool, true, false, List, [], ◌∷◌,
 use Rattle.std.specs.Prelude.{Option, Some, None}
 use Rattle.std.specs.Cmp.Lexicographic.{nat_list_eq_equiv, same_text}
 use Rattle.dg_world.specs.declared.question.Question.{Question}
-use Rattle.dg_world.specs.declared.question.Question.TheVariants.{File, Tool, Triplet, Variable}
+use Rattle.dg_world.specs.declared.question.Question.TheVariants.{File, Tool, Triplet, Variable, Entry, Pattern}
 use Rattle.dg_world.specs.declared.question.Machine.{Machine}
 use Rattle.dg_world.specs.declared.question.Machine.TheVariants.{Target, Host, Build}
 use Rattle.dg_world.specs.declared.question.Answer.{Answer}
 use Rattle.dg_world.specs.declared.question.Read.{Read}
 use Rattle.dg_world.specs.Question.{same_machine, same_question}
-use Rattle.dg_language.specs.Play.{Play, Asks, lookup}
+use Rattle.dg_language.proofs.Places.{same_place-refl, same_place-true}
+use Rattle.dg_language.specs.Play.{Play, Asks, plain, lookup}
 use Rattle.dg_language.specs.State.{State, learn}
 use Rattle.dg_language.specs.Evaluation.{Ending, ask, hear}
 
@@ -29,12 +30,16 @@ same_question-refl (File n) = nat_list_eq_equiv.refl n
 same_question-refl Tool = refl
 same_question-refl (Triplet m) = same_machine-refl m
 same_question-refl (Variable n) = nat_list_eq_equiv.refl n
+same_question-refl (Entry p) = same_place-refl p
+same_question-refl (Pattern t) = nat_list_eq_equiv.refl t
 
 pub same_question-true : (p q : Question) → same_question p q ≡ true → p ≡ q
 same_question-true (File m) (File n) e = ap File (same_text m n (sym e))
 same_question-true Tool Tool e = refl
 same_question-true (Triplet m) (Triplet n) e = ap Triplet (same_machine-true m n e)
 same_question-true (Variable m) (Variable n) e = ap Variable (same_text m n (sym e))
+same_question-true (Entry p) (Entry q) e = ap Entry (same_place-true p q e)
+same_question-true (Pattern m) (Pattern n) e = ap Pattern (same_text m n (sym e))
 same_question-true _ _ e = cc
 
 pub lookup-learned : (q : Question) (a : Answer) (rs : List Read) → lookup q rs ≡ None
@@ -65,8 +70,8 @@ unfolding ask
 ask-known q a s k e = ap (λ o. hear o q s k) e
 
 pub ask-asks : (q : Question) (s : State) (k : Answer → State → Play Ending) → lookup q s.known ≡ None
-    → ask q s k ≡ Asks q (λ a. ask q (learn q a s) k)
+    → ask q s k ≡ Asks (plain q) (λ a. ask q (learn q a s) k)
 unfolding ask learn
 ask-asks q s k e =
     ap (λ o. hear o q s k) e
-    ∙ ap (Asks q) (λ i a. sym (ap (λ o. hear o q (learn q a s) k) (lookup-learned q a s.known e)) i)
+    ∙ ap (Asks (plain q)) (λ i a. sym (ap (λ o. hear o q (learn q a s) k) (lookup-learned q a s.known e)) i)

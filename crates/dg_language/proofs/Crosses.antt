@@ -1,10 +1,10 @@
 -- The words and commands of a text, and an expression's instructions, may go to another thread; threads may share commands.
 use denote.Param.Send.{IsSend, IsSync, sendable}
 use Rattle.std.proofs.Crossing.{Vec-send, Vec-sync}
-use Rattle.dg_words.proofs.bytes.Bytes.TheSendSync as bytes
-use Rattle.dg_words.proofs.seq.Seq.TheSendSync as seq
+use Rattle.dg_bytes.proofs.bytes.Bytes.TheSendSync as bytes
+use Rattle.dg_bytes.proofs.seq.Seq.TheSendSync as seq
 use Rattle.dg_words.proofs.word.Parts.TheLaws.TheKnot.{both_send-Parts, both_sync-Parts}
-use Rattle.dg_words.specs.contracts.seq.Seq as Seq
+use Rattle.dg_bytes.specs.contracts.seq.Seq as Seq
 use Rattle.dg_words.specs.contracts.word.Parts as Parts
 use Rattle.dg_words.specs.contracts.word.Word as Word
 use Rattle.dg_expr.proofs.operator.Infix.TheSendSync as between

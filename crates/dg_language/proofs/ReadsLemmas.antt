@@ -4,7 +4,7 @@ use Rattle.std.specs.Prelude.{Option, Some, None}
 use Rattle.std.specs.Map as entries
 use Rattle.std.specs.Cmp.Lexicographic.{nat_list_eq_equiv}
 use Rattle.dg_world.specs.declared.question.Question.{Question}
-use Rattle.dg_world.specs.declared.question.Question.TheVariants.{File, Tool, Triplet, Variable}
+use Rattle.dg_world.specs.declared.question.Question.TheVariants.{File, Tool, Triplet, Variable, Entry, Pattern}
 use Rattle.dg_world.specs.declared.question.Machine.{Machine}
 use Rattle.dg_world.specs.declared.question.Machine.TheVariants.{Target, Host, Build}
 use Rattle.dg_world.specs.declared.question.Answer.{Answer}
@@ -14,6 +14,7 @@ use Rattle.dg_world.specs.contracts.question.QuestionPartialEq.TheImpl as derive
 use Rattle.dg_world.specs.Question.{same_machine, same_question}
 use Rattle.indexmap.specs.IndexMap.{insert_entry}
 use Rattle.dg_language.specs.Play.{lookup}
+use Rattle.dg_language.proofs.Places.{equal_place}
 
 -- a question and its answer are a read
 abbrev pub read_of : Question × Answer → Read
@@ -31,6 +32,8 @@ equal_same (File m) (File n) = nat_list_eq_equiv.symm m n
 equal_same Tool Tool = refl
 equal_same (Triplet m) (Triplet n) = equal_machine m n
 equal_same (Variable m) (Variable n) = nat_list_eq_equiv.symm m n
+equal_same (Entry p) (Entry q) = equal_place p q
+equal_same (Pattern m) (Pattern n) = nat_list_eq_equiv.symm m n
 equal_same _ _ = refl
 
 -- what the map has at a question is the first answer to it

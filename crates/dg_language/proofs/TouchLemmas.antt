@@ -5,7 +5,7 @@ use Rattle.dg_scope.specs.Names.{global_name}
 use Rattle.dg_world.specs.declared.question.Question.{Question}
 use Rattle.dg_world.specs.declared.question.Question.TheVariants.{Variable}
 use Rattle.dg_world.specs.declared.question.Answer.{Answer}
-use Rattle.dg_language.specs.Play.{Play, Asks, lookup}
+use Rattle.dg_language.specs.Play.{Play, Asks, plain, lookup}
 use Rattle.dg_language.specs.State.{State, learn, began, began_with}
 use Rattle.dg_language.specs.Evaluation.{Ending, ask, cut, within}
 use Rattle.dg_language.specs.Variables.{touch, is_to_begin, begin, first_value}
@@ -44,12 +44,12 @@ module _ (n m : List ℕ) (s : State) (e : m ≡ global_name n) where
       ap (λ c. elim c as (λ _. Play Ending) [ true ↦ ask (Variable (global_name n)) (learn q a s) (λ a' s'. begin (global_name n) (first_value (global_name n) a') s' k) | false ↦ k (learn q a s) ]) (sym h ∙ f)
 
   pub touch-asks : (b : Bool) → b ≡ is_to_begin n s → b ≡ true → lookup (Variable m) s.known ≡ None → (k : State → Play Ending)
-      → touch n s k ≡ Asks (Variable m) (λ a. touch n (learn (Variable m) a s) k)
+      → touch n s k ≡ Asks (plain (Variable m)) (λ a. touch n (learn (Variable m) a s) k)
   touch-asks b h f none k =
       rw e
       (touch-asking b h f k
       ∙ ask-asks (Variable (global_name n)) s (λ a s'. begin (global_name n) (first_value (global_name n) a) s' k) (rw e at none)
-      ∙ ap (Asks (Variable (global_name n))) (λ i a. sym (touch-asked b h f (Variable (global_name n)) a k) i))
+      ∙ ap (Asks (plain (Variable (global_name n)))) (λ i a. sym (touch-asked b h f (Variable (global_name n)) a k) i))
 
   pub touch-known : (b : Bool) → b ≡ is_to_begin n s → b ≡ true → (a : Answer) → lookup (Variable m) s.known ≡ Some a → (k : State → Play Ending)
       → touch n s k ≡ begin m (first_value m a) s k

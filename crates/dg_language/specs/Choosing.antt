@@ -1,12 +1,12 @@
 -- The commands that choose and repeat: if(n), while(n), for(n).
 use Rattle.std.specs.Prelude.{ℕ, suc, zero, Bool, true, false, Option, Some, None, List, [], ◌∷◌, nat_eq, codes}
 use Rattle.std.specs.Cmp.Lexicographic.{pointwise}
-use Rattle.dg_language.specs.declared.code.Code.TheVariants.{Done, Failed, Returned, Broken, Continued}
+use Rattle.dg_language.specs.declared.code.Code.TheVariants.{Done, Failed, Returned, Broken, Continued, ExpContinued}
 use Rattle.dg_language.specs.declared.clause.Clause.{Clause}
 use Rattle.dg_language.specs.declared.clause.Clauses.{Clauses}
-use Rattle.dg_language.specs.Play.{Play}
+use Rattle.dg_language.specs.Play.{Play, Ends}
 use Rattle.dg_language.specs.State.{State}
-use Rattle.dg_language.specs.Evaluation.{Ending, Then, Nested, cut, tick, fail, if_done, loop_after, on, two_of, four_of, wrong_count}
+use Rattle.dg_language.specs.Evaluation.{Ending, Then, Nested, out_of_steps, tick, fail, if_done, loop_after, on, two_of, four_of, wrong_count}
 use Rattle.dg_language.specs.Expressions.{condition}
 
 -- a clause before others
@@ -65,6 +65,7 @@ abbrev pub next_after : (State → Play Ending) → Then → Then
 next_after again k Done v s = again s
 next_after again k Broken v s = k Done [] s
 next_after again k Continued v s = k Continued v s
+next_after again k ExpContinued v s = k ExpContinued v s
 next_after again k Failed v s = k Failed v s
 next_after again k Returned v s = k Returned v s
 
@@ -80,7 +81,7 @@ body_if false nested body next again s k = k Done [] s
 
 -- The tests of a loop, which are at most this many. Each takes a step; the body comes after each that is true.
 unfoldable pub repeat : Nested → ℕ → List ℕ → Option (List ℕ) → List ℕ → State → Then → Play Ending
-repeat nested zero test next body s k = cut (codes "step limit reached") s
+repeat nested zero test next body s k = Ends (out_of_steps s)
 repeat nested (suc r) test next body s k =
     tick s (λ t. condition nested test t (λ holds u. body_if holds nested body next (λ w. repeat nested r test next body w k) u k) k)
 

@@ -1,12 +1,12 @@
 -- The commands on the course of a script: foreach(n), break(n), continue(n), return(n), error(n), catch(n).
 use Rattle.std.specs.Prelude.{ℕ, suc, zero, Option, Some, None, List, [], ◌∷◌, length, codes, Result, Ok, Err}
 use Rattle.dg_language.specs.declared.code.Code.{Code}
-use Rattle.dg_language.specs.declared.code.Code.TheVariants.{Done, Failed, Returned, Broken, Continued}
+use Rattle.dg_language.specs.declared.code.Code.TheVariants.{Done, Failed, Returned, Broken, Continued, ExpContinued}
 use Rattle.dg_language.specs.declared.command.ControlCommand.{ControlCommand}
 use Rattle.dg_language.specs.declared.command.ControlCommand.TheVariants.{Proc, Foreach, Break, Continue, Return, Error, Catch}
-use Rattle.dg_language.specs.Play.{Play}
+use Rattle.dg_language.specs.Play.{Play, Ends}
 use Rattle.dg_language.specs.State.{State, assigned}
-use Rattle.dg_language.specs.Evaluation.{Ending, Then, Nested, cut, tick, within, fail, loop_after, on, first_of, three_of, wrong_count, list_in}
+use Rattle.dg_language.specs.Evaluation.{Ending, Then, Nested, out_of_steps, tick, within, fail, loop_after, on, first_of, three_of, wrong_count, list_in}
 use Rattle.dg_language.specs.Variables.{touch}
 use Rattle.dg_language.specs.Procedures.{do_proc}
 
@@ -16,6 +16,7 @@ digit_of Failed = codes "1"
 digit_of Returned = codes "2"
 digit_of Broken = codes "3"
 digit_of Continued = codes "4"
+digit_of ExpContinued = codes "5"
 
 -- what `catch script name` does when the script has ended: its value goes to the name, and its code is the value
 unfoldable pub caught : Option (List ℕ) → Then → Then
@@ -75,7 +76,7 @@ give_each (n ∷ ns) vs s f =
 -- The rounds of `foreach names values body`, which are at most this many. Each takes a step.
 unfoldable pub each : Nested → ℕ → List (List ℕ) → List ℕ → List (List ℕ) → State → Then → Play Ending
 each nested r names body [] s k = k Done [] s
-each nested zero names body (v ∷ vs) s k = cut (codes "step limit reached") s
+each nested zero names body (v ∷ vs) s k = Ends (out_of_steps s)
 each nested (suc r) names body (v ∷ vs) s k =
     tick s (λ s'. give_each names (v ∷ vs) s' (λ left t. nested body t (loop_after (λ u. each nested r names body left u k) k)))
 

@@ -6,7 +6,7 @@ use Rattle.dg_world.specs.declared.question.Answer.{Answer}
 use Rattle.dg_world.specs.declared.question.Answer.TheVariants as answer
 use Rattle.dg_world.specs.declared.test_id.TestId.{TestId}
 use Rattle.dg_results.specs.declared.verdict.Line.{Line}
-use Rattle.dg_language.specs.declared.code.Code.TheVariants.{Done, Failed, Returned, Broken, Continued}
+use Rattle.dg_language.specs.declared.code.Code.TheVariants.{Done, Failed, Returned, Broken, Continued, ExpContinued}
 use Rattle.dg_language.specs.Play.{Play, Ends, Source, run, end_of}
 use Rattle.dg_language.specs.State.{State, fresh, marked, with_board_made}
 use Rattle.dg_language.specs.Evaluation.{Ending, Then, ask, fail, if_done, ended, aborted, quoted, outside}
@@ -20,6 +20,7 @@ close Failed v s = Ends (aborted v s)
 close Returned v s = Ends (ended s)
 close Broken v s = Ends (ended s)
 close Continued v s = Ends (ended s)
+close ExpContinued v s = Ends (ended s)
 
 -- a script that `break` or `continue` leaves has failed
 unfoldable pub finish : Then

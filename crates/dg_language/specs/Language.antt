@@ -11,7 +11,7 @@ use Rattle.dg_language.specs.declared.procedure.Procedure.{Procedure}
 use Rattle.dg_language.specs.declared.command.Command.{Command}
 use Rattle.dg_language.specs.declared.command.Command.TheVariants.{Words, Unreadable}
 use Rattle.dg_language.specs.declared.command.Builtin.{Builtin}
-use Rattle.dg_language.specs.declared.command.Builtin.TheVariants.{Result as ResultBuiltin, Variable as VariableBuiltin, Control as ControlBuiltin, Choice as ChoiceBuiltin, Board as BoardBuiltin, Target as TargetBuiltin, Flag as FlagBuiltin, Silent}
+use Rattle.dg_language.specs.declared.command.Builtin.TheVariants.{Result as ResultBuiltin, Variable as VariableBuiltin, Control as ControlBuiltin, Choice as ChoiceBuiltin, Board as BoardBuiltin, Target as TargetBuiltin, Flag as FlagBuiltin, Session as SessionBuiltin, Expect as ExpectBuiltin, ExpContinue as ExpContinueBuiltin, Regexp as RegexpBuiltin, Silent}
 use Rattle.dg_language.specs.declared.command.ResultCommand.TheVariants.{Pass, Fail, Unresolved, Untested, Unsupported, Note, Perror, Warning}
 use Rattle.dg_language.specs.declared.command.VariableCommand.TheVariants.{Set, Append, ListAppend, Increase, Unset, Info, Global}
 use Rattle.dg_language.specs.declared.command.ControlCommand.TheVariants.{Proc, Foreach, Break, Continue, Return, Error, Catch}
@@ -19,8 +19,9 @@ use Rattle.dg_language.specs.declared.command.ChoiceCommand.TheVariants.{Expr, E
 use Rattle.dg_language.specs.declared.command.BoardCommand.TheVariants.{SetBoardInfo, UnsetBoardInfo, LoadGenericConfig, TargetInfo, BoardInfo, LoadLib}
 use Rattle.dg_language.specs.declared.command.TargetCommand.TheVariants.{IsTarget, IsHost, IsBuild, IsNative}
 use Rattle.dg_language.specs.declared.command.FlagCommand.TheVariants.{SetupXfail, SetupKfail, ClearXfail, ClearKfail}
+use Rattle.dg_language.specs.declared.command.SessionCommand.TheVariants.{Spawn, Send, Close, Wait, MatchMax}
 use Rattle.dg_language.specs.declared.substitution.Purpose.{Purpose}
-use Rattle.dg_language.specs.declared.substitution.Purpose.TheVariants.{Run, Load}
+use Rattle.dg_language.specs.declared.substitution.Purpose.TheVariants.{Run, Load, Expect}
 use Rattle.dg_language.specs.Play.{Play}
 use Rattle.dg_language.specs.State.{State}
 use Rattle.dg_language.specs.Evaluation.{Ending, Then, Nested, cut, tick, fail, if_done, quoted}
@@ -31,6 +32,9 @@ use Rattle.dg_language.specs.Control.{do_control, head_or_empty}
 use Rattle.dg_language.specs.Switching.{do_choice}
 use Rattle.dg_language.specs.Boards.{do_board, do_target, do_flag}
 use Rattle.dg_language.specs.Words.{Act, gather, substitutions}
+use Rattle.dg_language.specs.Sessions.{do_session}
+use Rattle.dg_language.specs.Expecting.{do_expect, do_exp_continue, expect_with}
+use Rattle.dg_language.specs.Matching.{do_regexp}
 use Rattle.dg_cmds.specs.Commands.{pure_of}
 use Rattle.dg_cmds.specs.declared.fault.CmdFault.{CmdFault}
 use Rattle.dg_cmds.specs.declared.fault.CmdFault.TheVariants.{Unknown, Tcl, TooLong, Memory}
@@ -43,6 +47,10 @@ builtin nested (ChoiceBuiltin c) args s k = do_choice nested c args s k
 builtin nested (BoardBuiltin c) args s k = do_board nested c args s k
 builtin nested (TargetBuiltin c) args s k = do_target c args s k
 builtin nested (FlagBuiltin c) args s k = do_flag c args s k
+builtin nested (SessionBuiltin c) args s k = do_session c args s k
+builtin nested ExpectBuiltin args s k = do_expect nested args s k
+builtin nested ExpContinueBuiltin args s k = do_exp_continue args s k
+builtin nested RegexpBuiltin args s k = do_regexp args s k
 builtin nested Silent args s k = k Done [] s
 
 -- the first of a list that has a name
@@ -62,7 +70,8 @@ abbrev pub variable_commands : List (List ℕ × Builtin)
 variable_commands =
     (codes "set", VariableBuiltin Set) ∷ (codes "append", VariableBuiltin Append) ∷ (codes "lappend", VariableBuiltin ListAppend)
     ∷ (codes "incr", VariableBuiltin Increase)
-    ∷ (codes "unset", VariableBuiltin Unset) ∷ (codes "info", VariableBuiltin Info) ∷ (codes "global", VariableBuiltin Global) ∷ []
+    ∷ (codes "unset", VariableBuiltin Unset) ∷ (codes "info", VariableBuiltin Info) ∷ (codes "global", VariableBuiltin Global)
+    ∷ (codes "regexp", RegexpBuiltin) ∷ []
 
 abbrev pub control_commands : List (List ℕ × Builtin)
 control_commands =
@@ -87,6 +96,12 @@ target_commands =
     ∷ (codes "isnative", TargetBuiltin IsNative) ∷ (codes "setup_xfail", FlagBuiltin SetupXfail) ∷ (codes "setup_kfail", FlagBuiltin SetupKfail)
     ∷ (codes "clear_xfail", FlagBuiltin ClearXfail) ∷ (codes "clear_kfail", FlagBuiltin ClearKfail) ∷ []
 
+abbrev pub session_commands : List (List ℕ × Builtin)
+session_commands =
+    (codes "spawn", SessionBuiltin Spawn) ∷ (codes "send", SessionBuiltin Send) ∷ (codes "close", SessionBuiltin Close)
+    ∷ (codes "wait", SessionBuiltin Wait) ∷ (codes "match_max", SessionBuiltin MatchMax) ∷ (codes "expect", ExpectBuiltin)
+    ∷ (codes "exp_continue", ExpContinueBuiltin) ∷ []
+
 abbrev pub or_else : Option Builtin → Option Builtin → Option Builtin
 or_else (Some b) more = Some b
 or_else None more = more
@@ -96,12 +111,15 @@ builtin_of n =
     or_else (with_name n result_commands)
     (or_else (with_name n variable_commands)
     (or_else (with_name n control_commands)
-    (or_else (with_name n choice_commands) (or_else (with_name n board_commands) (with_name n target_commands)))))
+    (or_else (with_name n choice_commands) (or_else (with_name n board_commands) (or_else (with_name n target_commands) (with_name n session_commands))))))
 
--- a command that records a result, or sets or clears a flag for the next one
+-- a command that belongs to scripts alone: it records a result, sets or clears a flag for the next one, or is about sessions
 abbrev pub records : Builtin → Bool
 records (ResultBuiltin c) = true
 records (FlagBuiltin c) = true
+records (SessionBuiltin c) = true
+records ExpectBuiltin = true
+records ExpContinueBuiltin = true
 records _ = false
 
 -- in a board's file those are no commands
@@ -135,6 +153,7 @@ command nested (n ∷ args) s k = by_name nested (names.get s.procedures n) n ar
 abbrev pub used : Nested → Purpose → Act
 used nested Run = command nested
 used nested Load = λ made s k. k Done (head_or_empty made) s
+used nested Expect = expect_with nested
 
 -- commands one after another; v is the value of the last
 unfoldable pub sequence : Nested → List Command → List ℕ → State → Then → Play Ending

@@ -10,8 +10,15 @@ pub mod Words
 pub mod Expressions
 pub mod Choosing
 pub mod Switching
+pub mod SessionWords
+pub mod ExpectWords
+pub mod Patterns
+pub mod Sessions
+pub mod Expecting
+pub mod Matching
 pub mod Language
 pub mod Judge
 pub mod Law
 pub mod Calls
 pub mod Touch
+pub mod Growing

@@ -9,6 +9,7 @@ use Rattle.dg_world.specs.declared.test_id.TestId.{TestId}
 use Rattle.dg_results.specs.Calls.{Call}
 use Rattle.dg_boards.specs.Table.{setting, without}
 use Rattle.dg_scope.specs.Scopes.{Names, Variables, no_variables, with_value, with_global, without_value, with_link, with_scope, with_outermost, without_scope}
+use Rattle.dg_sessions.specs.Views.{SessionsView, no_sessions}
 use Rattle.dg_language.specs.declared.procedure.Binding.{Binding}
 use Rattle.dg_language.specs.declared.procedure.Procedure.{Procedure}
 
@@ -23,6 +24,11 @@ pub record State : Type 0 where
   pub earlier : ℕ
   -- the steps that were taken since
   pub steps : ℕ
+  -- the sessions of the test, and how many entries of their records are used up
+  pub sessions : SessionsView
+  -- for each procedure call, library and action of `expect` that evaluation stands in, from the innermost out, whether it is
+  -- an action
+  pub actions : List Bool
   -- the questions that were answered, in order
   pub known : List Read
   pub variables : Variables
@@ -43,6 +49,8 @@ fresh t =
       on_board = true;
       earlier = 0;
       steps = 0;
+      sessions = no_sessions;
+      actions = [];
       known = [];
       variables = no_variables;
       begun = map.empty;
@@ -69,6 +77,10 @@ with_board_made s =
 abbrev pub taken : State → ℕ
 taken s = s.earlier + s.steps
 
+-- those of the board's file
+unfoldable pub board_steps : State → ℕ
+board_steps s = elim s.on_board [ true ↦ s.steps | false ↦ s.earlier ]
+
 unfoldable pub with_call : Call → State → State
 with_call c s = record s { calls = s.calls ++ c ∷ [] }
 
@@ -84,6 +96,10 @@ began g s = record s { begun = map.insert s.begun g tt }
 
 unfoldable pub began_with : List ℕ → List ℕ → State → State
 began_with g v s = record s { begun = map.insert s.begun g tt; variables = with_global s.variables g v }
+
+-- the same, but for globals that have begun as in another
+abbrev pub with_begun : State → State → State
+with_begun s t = record s { variables = t.variables; begun = t.begun }
 
 -- a variable has this value
 unfoldable pub assigned : List ℕ → List ℕ → State → State
@@ -105,12 +121,35 @@ bound (b ∷ bs) v = with_value (bound bs v) b.name b.value
 
 -- a procedure's own scope, in which its parameters have these values
 unfoldable pub entered : List Binding → State → State
-entered bs s = record s { variables = bound bs (with_scope s.variables) }
+entered bs s = record s { variables = bound bs (with_scope s.variables); actions = false ∷ s.actions }
+
+abbrev pub without_first : List Bool → List Bool
+without_first [] = []
+without_first (here ∷ outer) = outer
 
 -- the procedure's scope is gone; the first scope stays
 unfoldable pub departed : State → State
 departed s =
-    elim (nat_lt 1 (length s.variables.scopes)) [ true ↦ (record s { variables = without_scope s.variables }) | false ↦ s ]
+    elim (nat_lt 1 (length s.variables.scopes)) [
+      | true ↦ (record s { variables = without_scope s.variables; actions = without_first s.actions })
+      | false ↦ (record s { actions = without_first s.actions })
+    ]
+
+-- whether evaluation stands in an action of `expect`, and in no procedure or file inside of that
+abbrev pub stands_in_action : List Bool → Bool
+stands_in_action [] = false
+stands_in_action (here ∷ outer) = here
+
+-- an action of `expect` is evaluated from here on, in the same scope
+unfoldable pub in_action : State → State
+in_action s = record s { actions = true ∷ s.actions }
+
+unfoldable pub out_of_action : State → State
+out_of_action s = record s { actions = without_first s.actions }
+
+-- the sessions are these
+unfoldable pub with_sessions : SessionsView → State → State
+with_sessions ss s = record s { sessions = ss }
 
 -- a library has begun
 unfoldable pub marked : List ℕ → State → State
@@ -118,7 +157,7 @@ marked name s = record s { libraries = map.insert s.libraries name tt }
 
 -- a library is evaluated from here on, in the global scope
 unfoldable pub in_library : List ℕ → State → State
-in_library name s = record s { libraries = map.insert s.libraries name tt; variables = with_outermost s.variables }
+in_library name s = record s { libraries = map.insert s.libraries name tt; variables = with_outermost s.variables; actions = false ∷ s.actions }
 
 -- what the board has for a key; `name` always has the board's name
 unfoldable pub setting_of : List ℕ → State → Option (List ℕ)

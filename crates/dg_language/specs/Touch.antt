@@ -1,7 +1,7 @@
 -- What comes before the use of a variable.
 use Rattle.std.specs.Prelude.{◌≡◌, ℕ, List, None, codes}
-use Rattle.dg_language.specs.Play.{Play, Asks, lookup}
-use Rattle.dg_language.specs.State.{State, learn}
+use Rattle.dg_language.specs.Play.{Play, Asks, plain, lookup}
+use Rattle.dg_language.specs.State.{State, learn, with_begun}
 use Rattle.dg_language.specs.Evaluation.{Ending, cut}
 use Rattle.dg_language.specs.Variables.{touch}
 use Rattle.dg_language.specs.declared.state.Touch.{Touch}
@@ -10,8 +10,8 @@ use Rattle.dg_language.specs.declared.state.Touch.TheVariants.{Ready, Asking, To
 -- the variable can be used, and may have begun; or a question stands, or a limit is met, and nothing has changed
 abbrev pub Touches : List ℕ → State → State → Touch → Type 0
 Touches n old new Ready =
-    ((k : State → Play Ending) → touch n old k ≡ k new) × (new.known ≡ old.known) × (new.steps ≡ old.steps)
+    ((k : State → Play Ending) → touch n old k ≡ k new) × (new ≡ with_begun old new)
 Touches n old new (Asking q) =
-    ((k : State → Play Ending) → touch n old k ≡ Asks q (λ a. touch n (learn q a old) k)) × (new ≡ old) × (lookup q old.known ≡ None)
+    ((k : State → Play Ending) → touch n old k ≡ Asks (plain q) (λ a. touch n (learn q a old) k)) × (new ≡ old) × (lookup q old.known ≡ None)
 Touches n old new TooLong =
     ((k : State → Play Ending) → touch n old k ≡ cut (codes "value too long") old) × (new ≡ old)

@@ -3,8 +3,8 @@ ghost use Rattle.std.specs.Prelude.{◌≡◌, [], ◌∷◌, ◌++◌, OnOk, If
 ghost use Rattle.dg_results.specs.Standing.{after_calls};
 ghost use Rattle.dg_language.specs.Calls.{call_of};
 
+use dg_bytes::Bytes;
 use dg_results::Judging;
-use dg_words::Bytes;
 use std::alloc::{AllocError, Global};
 use std::marker::Model;
 

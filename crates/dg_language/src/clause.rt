@@ -1,6 +1,6 @@
 //! Clauses of `if`.
 use crate::queue::Queue;
-use dg_words::Bytes;
+use dg_bytes::Bytes;
 
 /// A condition and the body that runs where it is true.
 #[derive(Drop)]

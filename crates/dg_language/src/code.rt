@@ -13,4 +13,6 @@ pub enum Code {
     Broken,
     /// `continue`.
     Continued,
+    /// `exp_continue`.
+    ExpContinued,
 }

@@ -1,5 +1,6 @@
 //! Commands of a script.
-use dg_words::{Seq, Word, WordFault};
+use dg_bytes::Seq;
+use dg_words::{Word, WordFault};
 
 /// A command of a script: its words, or why it can't be read.
 #[derive(Drop)]
@@ -86,6 +87,16 @@ pub enum FlagCommand {
     ClearKfail,
 }
 
+/// A command on a session: spawn, send, close, wait and match_max, by expect(1).
+#[derive(Clone, Copy, Debug, PartialEq, Eq)]
+pub enum SessionCommand {
+    Spawn,
+    Send,
+    Close,
+    Wait,
+    MatchMax,
+}
+
 /// A command that is known by its name.
 #[derive(Clone, Copy, Debug, PartialEq, Eq)]
 pub enum Builtin {
@@ -96,6 +107,13 @@ pub enum Builtin {
     Board(BoardCommand),
     Target(TargetCommand),
     Flag(FlagCommand),
+    Session(SessionCommand),
+    /// `expect`.
+    Expect,
+    /// `exp_continue`.
+    ExpContinue,
+    /// `regexp`.
+    Regexp,
     /// `verbose`, `send_user` and `send_log`, which have no effect.
     Silent,
 }

@@ -1,28 +1,37 @@
 //! The meaning of the script language, and the state of an evaluation.
 #![tactic(auto)]
 
+mod actions;
+mod ask;
 mod calls;
 mod clause;
+mod close;
 mod code;
 mod command;
+mod expect;
 mod law;
 mod procedure;
 mod queue;
 mod reads;
+mod search;
 mod state;
 mod substitution;
 mod switch;
 
+pub use crate::ask::Ask;
 pub use crate::calls::{Calls, ResultCall};
 pub use crate::clause::{Clause, Clauses};
+pub use crate::close::Close;
 pub use crate::code::Code;
 pub use crate::command::{
     BoardCommand, Builtin, ChoiceCommand, Command, ControlCommand, FlagCommand, ResultCommand,
-    TargetCommand, VariableCommand,
+    SessionCommand, TargetCommand, VariableCommand,
 };
+pub use crate::expect::{Awaited, Expectation, Pair, PatternKind};
 pub use crate::law::more_answers_keep_the_end;
 pub use crate::procedure::{Binding, Parameter, Procedure};
 pub use crate::queue::Queue;
+pub use crate::search::Search;
 pub use crate::state::{STEPS, State, Touch};
 pub use crate::substitution::{Purpose, Substitution};
 pub use crate::switch::Matching;

@@ -1,5 +1,5 @@
 //! Procedures of a script.
-use dg_words::{Bytes, Seq};
+use dg_bytes::{Bytes, Seq};
 
 /// A parameter of a procedure, by proc(n): its name, and the value that it has where a call gives none.
 #[derive(Drop)]

@@ -3,7 +3,7 @@ ghost use Rattle.std.specs.Prelude.{◌≡◌, ◌++◌, ◌∷◌, [], None, On
 ghost use Rattle.std.specs.Option.{option_copied};
 ghost use Rattle.dg_language.specs.Play.{lookup};
 
-use dg_words::Seq;
+use dg_bytes::Seq;
 use dg_world::{Answer, Question, Read};
 use indexmap::IndexMap;
 use std::alloc::{AllocError, Global};

@@ -1,21 +1,29 @@
 //! What an evaluation has made so far.
-ghost use Rattle.std.specs.Prelude.{◌≡◌, ◌<◌, ◌≤◌, None, OnOk, IfOk, length, nat_lt};
+ghost use Rattle.std.specs.Prelude.{◌≡◌, ◌<◌, ◌≤◌, ◌++◌, ℕ, List, None, Ok, Err, OnOk, IfOk, MatchResult, length, nat_lt};
 ghost use Rattle.std.specs.Option.{option_copied};
 ghost use Rattle.std.specs.FinMap as map;
 ghost use Rattle.dg_scope.specs.Scopes.{value_limit, value_of, with_value};
-ghost use Rattle.dg_language.specs.Variables.{is_to_begin, first_value, all_linked};
+ghost use Rattle.dg_words.specs.Canonical.{text_of_list};
+ghost use Rattle.dg_words.specs.Elements.{elements_of};
+ghost use Rattle.dg_language.specs.Growing.{Gets};
+ghost use Rattle.dg_language.specs.Variables.{is_to_begin, first_value, all_linked, or_empty};
 ghost use Rattle.dg_language.specs.Procedures.{longest};
 ghost use Rattle.dg_language.specs.Touch.{Touches};
 ghost use Rattle.dg_language.specs.Calls.{call_of};
 ghost use Rattle.dg_results.specs.Standing.{after_calls};
 
+use crate::actions::Actions;
 use crate::calls::{Calls, ResultCall};
 use crate::procedure::{Binding, Procedure};
 use crate::reads::Reads;
 use dg_boards::BoardTable;
+use dg_bytes::{Bytes, Seq, TryCopy};
+use dg_match::{Hit, Pattern};
 use dg_results::Judging;
 use dg_scope::{LONGEST_VALUE, ScopeFault, Scopes, Table, global_name, has_index};
-use dg_words::{Bytes, Seq, TryCopy};
+use dg_sessions::{Session, Sessions};
+use dg_transcript::{Act, Action, Entry};
+use dg_words::{ListFault, WordFault};
 use dg_world::{Answer, Question, Read, TestId};
 use std::alloc::{AllocError, Global};
 use std::marker::Model;
@@ -30,6 +38,8 @@ pub struct State {
     on_board: bool,
     earlier: u32,
     steps: u32,
+    sessions: Sessions,
+    actions: Actions,
     known: Reads,
     variables: Scopes,
     begun: Table<()>,
@@ -46,6 +56,8 @@ impl Drop for State {
             on_board: _,
             earlier: _,
             steps: _,
+            sessions: _,
+            actions: _,
             known: _,
             variables: _,
             begun: _,
@@ -78,16 +90,17 @@ impl Model for State {
     ghost use Rattle.std.specs.Cmp.Lexicographic.{slice_cmp};
     ghost use Rattle.std.specs.FinMap as map;
     ghost use Rattle.dg_scope.specs.contracts.scopes.Scopes as scopes;
+    ghost use Rattle.dg_sessions.specs.Views.{sessions_code};
     ghost use Rattle.dg_language.specs.contracts.procedure.Procedure as procedure;
 
-    ghost coded = { Prim.hlevel (codes, scopes.the_row.coded, map.code {R = slice_cmp nat_cmp} (coded_list coded_ℕ) procedure.the_row.coded, map.code {R = slice_cmp nat_cmp} (coded_list coded_ℕ) coded_unit) };
+    ghost coded = { Prim.hlevel (codes, scopes.the_row.coded, sessions_code, map.code {R = slice_cmp nat_cmp} (coded_list coded_ℕ) procedure.the_row.coded, map.code {R = slice_cmp nat_cmp} (coded_list coded_ℕ) coded_unit) };
 
-    ghost view = { λ s. record { test = s.test; calls = s.calls; on_board = s.on_board; earlier = s.earlier; steps = s.steps; known = s.known; variables = s.variables; begun = s.begun; procedures = s.procedures; libraries = s.libraries; settings = s.board } };
+    ghost view = { λ s. record { test = s.test; calls = s.calls; on_board = s.on_board; earlier = s.earlier; steps = s.steps; sessions = s.sessions; actions = s.actions; known = s.known; variables = s.variables; begun = s.begun; procedures = s.procedures; libraries = s.libraries; settings = s.board } };
 }
 
-#[tactic(auto, unfolding(crate::specs::State::fresh, crate::specs::State::with_call, crate::specs::State::stepped, crate::specs::State::learn))]
+#[tactic(auto, unfolding(crate::specs::State::fresh, crate::specs::State::with_call, crate::specs::State::board_steps, crate::specs::State::stepped, crate::specs::State::learn))]
 impl State {
-    ghost use Rattle.dg_language.specs.State.{fresh, with_call, stepped, taken, learn};
+    ghost use Rattle.dg_language.specs.State.{fresh, with_call, stepped, taken, board_steps, learn};
     ghost use Rattle.dg_language.specs.Play.{lookup};
 
     /// Nothing was done yet.
@@ -100,6 +113,8 @@ impl State {
             on_board: true,
             earlier: 0,
             steps: 0,
+            sessions: Sessions::new(alloc),
+            actions: Actions::new(alloc),
             known: Reads::new(alloc),
             variables: Scopes::new(alloc),
             begun: Table::new(alloc),
@@ -121,6 +136,17 @@ impl State {
         ensures { result ≡ taken self.now }
     {
         self.earlier as u64 + self.steps as u64
+    }
+
+    /// The steps that the board's file took.
+    pub fn board_steps(&self) -> u32
+        ensures { result ≡ board_steps self.now }
+    {
+        if self.on_board {
+            self.steps
+        } else {
+            self.earlier
+        }
     }
 
     /// Whether a step is left: of 100,000 for the board's file, and of as many for what comes after it.
@@ -177,6 +203,8 @@ impl State {
             on_board: _,
             earlier: _,
             steps: _,
+            sessions: _,
+            actions: _,
             known,
             variables: _,
             begun: _,
@@ -279,10 +307,10 @@ impl State {
     }
 
     /// The value of a variable, if it is set.
-    pub fn value_of(&self, name: &[u8]) -> Option<&[u8]>
+    pub fn value_of(&self, name: &[u8]) -> Option<&Bytes>
         ensures { option_copied result ≡ value_of self.now.variables name.now }
     {
-        self.variables.read(name).ok()
+        self.variables.value(name).ok()
     }
 
     /// Whether a variable is set.
@@ -299,6 +327,42 @@ impl State {
     {
         write(&mut self.variables, alloc, name, value)?;
         Ok(())
+    }
+
+    /// Puts bytes behind the value of a variable, of which one that isn't set has none. Tells whether the
+    /// value is no longer than a value may be then; if it would be longer nothing changes.
+    pub fn append_text(
+        &mut self,
+        alloc: Global,
+        name: &[u8],
+        more: &[u8],
+    ) -> Result<bool, AllocError>
+        ensures { IfOk result (Gets name.now (or_empty (value_of self.old.variables name.now) ++ more.now) self.old self.new) }
+    {
+        match self.variables.append_text(alloc, name, more) {
+            Ok(()) => Ok(true),
+            Err(ScopeFault::TooLong) => Ok(false),
+            Err(ScopeFault::NoSuchVariable | ScopeFault::Memory) => Err(AllocError),
+        }
+    }
+
+    /// Puts elements behind those of the list that is the value of a variable, of which one that isn't set
+    /// has none, or tells why that value is no list. Tells whether the value is no longer than a value may
+    /// be then; if it would be longer nothing changes.
+    pub fn append_elements(
+        &mut self,
+        alloc: Global,
+        name: &[u8],
+        more: &[Bytes],
+    ) -> Result<Result<bool, WordFault>, AllocError>
+        ensures { IfOk result (λ r. MatchResult r (λ fits. (xs : List (List ℕ)) × ((elements_of (or_empty (value_of self.old.variables name.now)) ≡ Ok xs) × Gets name.now (text_of_list (xs ++ more.now)) self.old self.new fits)) (λ fault. (elements_of (or_empty (value_of self.old.variables name.now)) ≡ Err fault) × (self.new ≡ self.old))) }
+    {
+        match self.variables.append_elements(alloc, name, more) {
+            Ok(()) => Ok(Ok(true)),
+            Err(ListFault::TooLong) => Ok(Ok(false)),
+            Err(ListFault::NoList(fault)) => Ok(Err(fault)),
+            Err(ListFault::Memory) => Err(AllocError),
+        }
     }
 
     /// Unsets a variable, if it is set.
@@ -354,6 +418,7 @@ impl State {
         requires { longest bindings ≤ value_limit }
         ensures { OnOk result (self.new ≡ entered bindings self.old) }
     {
+        self.actions.enter(false)?;
         self.variables.push(alloc)?;
         let mut left = bindings.into_vec();
         while let Some(Binding { name, value }) = left.pop() {
@@ -366,6 +431,7 @@ impl State {
     pub fn leave(&mut self)
         ensures { self.new ≡ departed self.old }
     {
+        self.actions.leave();
         if self.variables.can_pop() {
             self.variables.pop();
         }
@@ -416,6 +482,7 @@ impl State {
         ensures { OnOk result (self.new ≡ in_library library.now self.old) }
     {
         self.mark(alloc, library)?;
+        self.actions.enter(false)?;
         self.variables.push_outermost()?;
         Ok(())
     }
@@ -425,7 +492,7 @@ impl State {
         ensures { option_copied result ≡ setting_of key.now self.now }
     {
         if key.is(b"name") {
-            return Some(self.test.board.as_slice());
+            return Some(self.test.board().as_slice());
         }
         self.board.get(key).map(|value| value.as_slice())
     }
@@ -445,5 +512,127 @@ impl State {
         ensures { self.new ≡ without_setting key.now self.old }
     {
         self.board.unset(key);
+    }
+}
+
+#[tactic(auto, unfolding(crate::specs::State::with_sessions, crate::specs::State::in_action, crate::specs::State::out_of_action))]
+impl State {
+    ghost use Rattle.std.specs.Prelude.{IsSome, IsSomeAnd, IfSome, ◌<◌, ◌+◌, nat_lt, take};
+    ghost use Rattle.dg_sessions.specs.Views.{most_entries, most_kept, most_sessions, named, session_at};
+    ghost use Rattle.dg_sessions.specs.Steps.{all_acted, changed, emptied, limited, step_of, taken, with_session};
+    ghost use Rattle.dg_match.specs.Hits.{LiesIn, hit_of};
+    ghost use Rattle.dg_language.specs.State.{with_sessions, in_action, out_of_action, stands_in_action};
+
+    /// The sessions of the test.
+    pub fn sessions(&self) -> &Sessions
+        ensures { result.now ≡ self.now.sessions }
+    {
+        &self.sessions
+    }
+
+    /// The session of a number, from 1 on.
+    pub fn session(&self, number: u32) -> Option<&Session>
+        ensures { option_copied result ≡ session_at number self.now.sessions }
+    {
+        self.sessions.get(number)
+    }
+
+    /// The next session begins, which has not started, and its number is given.
+    pub fn begin_session(&mut self, alloc: Global) -> Result<u32, AllocError>
+        requires { length self.old.sessions.all < most_sessions }
+        ensures number { IfOk result (λ n. n ≡ length self.old.sessions.all + 1) }
+        ensures next { OnOk result (self.new ≡ with_sessions (with_session self.old.sessions) self.old) }
+    {
+        self.sessions.begin(alloc)
+    }
+
+    /// One step of an action of a session at its entry.
+    pub fn act(
+        &mut self,
+        alloc: Global,
+        number: u32,
+        action: &mut Action,
+        entry: &Entry,
+    ) -> Result<Act, AllocError>
+        requires there { IsSome (session_at number self.old.sessions) }
+        requires room { self.old.sessions.used < most_entries }
+        ensures gives { IfOk result (λ act. IfSome (session_at number self.old.sessions) (λ s. act ≡ (step_of s action.old entry.now).act)) }
+        ensures next { OnOk result (self.new ≡ with_sessions (all_acted number action.old entry.now self.old.sessions) self.old) }
+        ensures limit { IfSome (session_at number self.old.sessions) (λ s. action.new ≡ (step_of s action.old entry.now).action) }
+    {
+        self.sessions.act(alloc, number, action, entry)
+    }
+
+    /// The first of the patterns that has a match in what a session has read, with its match.
+    pub fn try_patterns(
+        &mut self,
+        alloc: Global,
+        number: u32,
+        patterns: &[Pattern],
+    ) -> Result<Option<Hit>, AllocError>
+        requires { IsSome (session_at number self.old.sessions) }
+        ensures hit { IfSome (session_at number self.old.sessions) (λ s. IfOk result (λ hit. hit ≡ hit_of patterns.now s.buffer)) }
+        ensures within { IfSome (session_at number self.old.sessions) (λ s. IfOk result (λ hit. IfSome hit (LiesIn s.buffer))) }
+        ensures same { self.new ≡ self.old }
+    {
+        self.sessions.try_patterns(alloc, number, patterns)
+    }
+
+    /// Takes what a session has read up to the end of a hit.
+    pub fn take_match(&mut self, alloc: Global, number: u32, hit: &Hit) -> Result<Bytes, AllocError>
+        requires { IsSomeAnd (session_at number self.old.sessions) (λ s. hit.now.end ≤ length s.buffer) }
+        ensures taken { IfSome (session_at number self.old.sessions) (λ s. IfOk result (λ bytes. bytes ≡ take hit.now.end s.buffer)) }
+        ensures left { OnOk result (self.new ≡ with_sessions (changed number (taken hit.now.end) self.old.sessions) self.old) }
+    {
+        self.sessions.take(alloc, number, hit)
+    }
+
+    /// Takes all that a session has read.
+    pub fn take_all(&mut self, alloc: Global, number: u32) -> Bytes
+        requires { IsSome (session_at number self.old.sessions) }
+        ensures taken { IfSome (session_at number self.old.sessions) (λ s. result ≡ s.buffer) }
+        ensures left { self.new ≡ with_sessions (changed number emptied self.old.sessions) self.old }
+    {
+        self.sessions.take_all(alloc, number)
+    }
+
+    /// A session keeps at most so many bytes.
+    pub fn set_session_limit(&mut self, number: u32, max: usize)
+        requires there { IsSome (session_at number self.old.sessions) }
+        requires some { 1 ≤ max }
+        requires most { max ≤ most_kept }
+        ensures { self.new ≡ with_sessions (changed number (limited max) self.old.sessions) self.old }
+    {
+        self.sessions.set_max(number, max);
+    }
+
+    /// Later sessions keep at most so many bytes.
+    pub fn set_later_limit(&mut self, max: usize)
+        requires some { 1 ≤ max }
+        requires most { max ≤ most_kept }
+        ensures { self.new ≡ with_sessions (record self.old.sessions { max = max }) self.old }
+    {
+        self.sessions.set_later_max(max);
+    }
+
+    /// Whether evaluation stands in an action of `expect`, and in no procedure or file inside of it.
+    pub fn is_in_action(&self) -> bool
+        ensures { result ≡ stands_in_action self.now.actions }
+    {
+        self.actions.is_in_action()
+    }
+
+    /// An action of `expect` begins.
+    pub fn enter_action(&mut self) -> Result<(), AllocError>
+        ensures { OnOk result (self.new ≡ in_action self.old) }
+    {
+        self.actions.enter(true)
+    }
+
+    /// An action of `expect` has ended.
+    pub fn leave_action(&mut self)
+        ensures { self.new ≡ out_of_action self.old }
+    {
+        self.actions.leave();
     }
 }

@@ -1,5 +1,5 @@
 //! How the words of a command are made, by Tcl(n).
-use dg_words::Bytes;
+use dg_bytes::Bytes;
 
 /// What the words that are made are for.
 #[derive(Clone, Copy, Debug, PartialEq, Eq)]
@@ -8,6 +8,8 @@ pub enum Purpose {
     Run,
     /// The first is an operand of an expression.
     Load,
+    /// They are the words of `expect`.
+    Expect,
 }
 
 /// A step in the making of a command's words, from left to right.

@@ -14,7 +14,7 @@ use Rattle.dg_cmds.specs.Places.{glob_matches}
 use Rattle.dg_results.specs.Calls.{Call}
 use Rattle.dg_language.specs.declared.code.Code.TheVariants.{Done}
 use Rattle.dg_language.specs.declared.command.FlagCommand.{FlagCommand}
-use Rattle.dg_language.specs.Play.{Play, Asks, lookup}
+use Rattle.dg_language.specs.Play.{Play, Asks, plain, lookup}
 use Rattle.dg_language.specs.State.{State, learn, in_library, with_call}
 use Rattle.dg_language.specs.Evaluation.{Ending, Then, Nested, ask, fail, on, one_of, wrong_count}
 use Rattle.dg_expr.specs.Truth.{truth_text}
@@ -44,10 +44,10 @@ module _ (nested : Nested) (f : List ℕ) where
       ap (λ b. elim b as (λ _. Play Ending) [ true ↦ k Done [] s | false ↦ ask (File (library_file f)) s (λ a t. found nested f (content_of a) t k) ]) e
 
   pub load-asks : (q : Question) (s : State) (k : Then) → map.contains_key s.libraries (library_file f) ≡ false
-      → Holds (library_file f) s (Unanswered q) → load nested f s k ≡ Asks q (λ a. load nested f (learn q a s) k)
+      → Holds (library_file f) s (Unanswered q) → load nested f s k ≡ Asks (plain q) (λ a. load nested f (learn q a s) k)
   load-asks q s k e h =
       load-new s k e ∙ h.0 (λ o t. found nested f o t k)
-      ∙ ap (Asks q) (λ i a. sym (load-new (learn q a s) k (ap (λ ls. map.contains_key ls (library_file f)) (libraries-learned q a s) ∙ e)) i)
+      ∙ ap (Asks (plain q)) (λ i a. sym (load-new (learn q a s) k (ap (λ ls. map.contains_key ls (library_file f)) (libraries-learned q a s) ∙ e)) i)
 
   pub load-known : (text : Option (List ℕ)) (s : State) (k : Then) → map.contains_key s.libraries (library_file f) ≡ false
       → Holds (library_file f) s (Known text) → load nested f s k ≡ found nested f text s k
@@ -80,7 +80,7 @@ info-other args m others v s k b e h g t =
 
 -- a command that asks a question first
 module _ (q : Question) (g : Answer → State → Then → Play Ending) (f : State → Then → Play Ending) (e : f ≡ (λ s k. ask q s (λ a t. g a t k))) (s : State) (k : Then) where
-  pub stands-at : lookup q s.known ≡ None → f s k ≡ Asks q (λ a. f (learn q a s) k)
+  pub stands-at : lookup q s.known ≡ None → f s k ≡ Asks (plain q) (λ a. f (learn q a s) k)
   stands-at n = rw e (ask-asks q s (λ a t. g a t k) n)
 
   pub goes-with : (a : Answer) → lookup q s.known ≡ Some a → f s k ≡ g a s k
@@ -113,13 +113,13 @@ known-learned q a s = refl
 
 module _ (args : List (List ℕ)) (e : args ≡ []) (b : Answer) (s : State) (k : Then) where
   pub native-asks : lookup (Triplet Build) s.known ≡ Some b → lookup (Triplet Target) s.known ≡ None
-      → do_is_native args s k ≡ Asks (Triplet Target) (λ a. do_is_native args (learn (Triplet Target) a s) k)
+      → do_is_native args s k ≡ Asks (plain (Triplet Target)) (λ a. do_is_native args (learn (Triplet Target) a s) k)
   native-asks h n =
       let known : (a : Answer) → lookup (Triplet Build) (learn (Triplet Target) a s).known ≡ Some b =
       λ a. ap (lookup (Triplet Build)) (known-learned (Triplet Target) a s) ∙ lookup-more (Triplet Build) s.known (record { question = Triplet Target; answer = a } ∷ []) b h in
       goes-with (Triplet Build) native_on (do_is_native args) (native-of args e) s k b h
       ∙ ask-asks (Triplet Target) s (λ t u. told_native b t u k) n
-      ∙ ap (Asks (Triplet Target)) (λ i a. sym (goes-with (Triplet Build) native_on (do_is_native args) (native-of args e) (learn (Triplet Target) a s) k b (known a)) i)
+      ∙ ap (Asks (plain (Triplet Target))) (λ i a. sym (goes-with (Triplet Build) native_on (do_is_native args) (native-of args e) (learn (Triplet Target) a s) k b (known a)) i)
 
   pub native-known : (t : Answer) → lookup (Triplet Build) s.known ≡ Some b → lookup (Triplet Target) s.known ≡ Some t
       → do_is_native args s k ≡ told_native b t s k

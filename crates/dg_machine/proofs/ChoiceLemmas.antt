@@ -2,8 +2,9 @@
 use Rattle.std.proofs.Common.{◌≡◌, ◌≢◌, ℕ, suc, zero, ◌+◌, ◌-◌, ◌^◌, ◌<◌, ◌≤◌, ◌⊎◌, inl, inr, true, false, List, [], ◌∷◌, refl, arith}
 use Rattle.std.specs.Prelude.{Option, codes}
 use Rattle.dg_language.specs.declared.clause.Clause.{Clause}
+use Rattle.dg_language.specs.Play.{Ends}
 use Rattle.dg_language.specs.State.{State, stepped}
-use Rattle.dg_language.specs.Evaluation.{Then, Nested, cut}
+use Rattle.dg_language.specs.Evaluation.{Then, Nested, out_of_steps}
 use Rattle.dg_language.specs.Expressions.{calculate, condition, decided}
 use Rattle.dg_language.specs.Choosing.{body_if, choose, do_otherwise, repeat}
 use Rattle.dg_machine.specs.declared.frame.Control.TheVariants.{Go}
@@ -24,18 +25,18 @@ module _ (nested : Nested) (left : List Clause) (otherwise : Option (List ℕ)) 
   choose-next c cs e = rw e refl
 
 module _ (nested : Nested) (test : List ℕ) (next : Option (List ℕ)) (body : List ℕ) (s : State) (k : Then) where
-  repeat-late : (left : ℕ) → 100000 ≤ s.steps → repeat nested left test next body s k ≡ cut (codes "step limit reached") s
+  repeat-late : (left : ℕ) → 100000 ≤ s.steps → repeat nested left test next body s k ≡ Ends (out_of_steps s)
   unfolding repeat
   repeat-late zero l = refl
   repeat-late (suc r) l =
       tick-none s (λ t. condition nested test t (λ holds u. body_if holds nested body next (λ w. repeat nested r test next body w k) u k) k) l
 
-  repeat-zero : repeat nested 0 test next body s k ≡ cut (codes "step limit reached") s
+  repeat-zero : repeat nested 0 test next body s k ≡ Ends (out_of_steps s)
   unfolding repeat
   repeat-zero = refl
 
   -- no test is left, or no step
-  pub repeat-cut : (left : ℕ) → (left ≡ 0) ⊎ (100000 ≤ s.steps) → repeat nested left test next body s k ≡ cut (codes "step limit reached") s
+  pub repeat-cut : (left : ℕ) → (left ≡ 0) ⊎ (100000 ≤ s.steps) → repeat nested left test next body s k ≡ Ends (out_of_steps s)
   repeat-cut left (inl e) = rw e repeat-zero
   repeat-cut left (inr l) = repeat-late left l
 

@@ -1,21 +1,29 @@
 -- An evaluation, running or asking, may go to another thread.
-use denote.Param.Send.{IsSend, sendable}
+use denote.Enum.Declared.{shape, variants}
+use denote.Param.Send.{EachSend, IsSend, enum_send, recorded_send, sendable}
 use Rattle.std.proofs.Crossing.{Arc-send}
-use Rattle.dg_words.proofs.bytes.Bytes.TheSendSync as bytes
-use Rattle.dg_words.proofs.seq.Seq.TheSendSync as seq
-use Rattle.dg_words.specs.contracts.seq.Seq as Seq
+use Rattle.dg_bytes.proofs.bytes.Bytes.TheSendSync as bytes
+use Rattle.dg_bytes.proofs.seq.Seq.TheSendSync as seq
+use Rattle.dg_bytes.specs.contracts.seq.Seq as Seq
 use Rattle.dg_language.proofs.Crosses.{Commands-send, Commands-sync, Instruction-send}
 use Rattle.dg_language.proofs.queue.Queue.TheSendSync as queue
 use Rattle.dg_language.proofs.state.State.TheSendSync as state
 use Rattle.dg_language.specs.contracts.command.Command as Command
-use Rattle.dg_world.proofs.question.Question.TheSendSync as question
+use Rattle.dg_language.proofs.ask.Ask.TheSendSync as ask
+use Rattle.dg_language.proofs.expect.Pair.TheSendSync as pair
+use Rattle.dg_match.proofs.Crosses.{Pattern-send, Programs-send}
 use Rattle.dg_world.proofs.test_id.TestId.TheSendSync as test
+use Rattle.dg_machine.proofs.frame.Acting.TheSendSync as acting
 use Rattle.dg_machine.proofs.frame.Choice.TheSendSync as choice
+use Rattle.dg_machine.proofs.frame.Compiling.TheSendSync as compiling
 use Rattle.dg_machine.proofs.frame.Control.TheSendSync as control
+use Rattle.dg_machine.proofs.frame.Limiting.TheSendSync as limiting
 use Rattle.dg_machine.proofs.frame.Making.TheSendSync as making
 use Rattle.dg_machine.proofs.frame.Opening.TheSendSync as opening
+use Rattle.dg_machine.proofs.frame.Reach.TheSendSync as reach
 use Rattle.dg_machine.proofs.frame.Stack.TheSendSync as stack
 use Rattle.dg_machine.proofs.frame.Stage.TheSendSync as stage
+use Rattle.dg_machine.specs.contracts.frame.Wait as Wait
 use Rattle.dg_machine.specs.contracts.evaluation.Asking as Asking
 use Rattle.dg_machine.specs.contracts.evaluation.Evaluation as Evaluation
 use Rattle.dg_machine.specs.contracts.frame.Calculation as Calculation
@@ -23,6 +31,7 @@ use Rattle.dg_machine.specs.contracts.frame.Frame as Frame
 use Rattle.dg_machine.specs.contracts.frame.Repetition as Repetition
 use Rattle.dg_machine.specs.contracts.frame.Rounds as Rounds
 use Rattle.dg_machine.specs.contracts.machine.Machine as Machine
+use Rattle.dg_machine.specs.contracts.patterns.Prepared as Prepared
 use Rattle.dg_machine.specs.contracts.script.Body as Body
 use Rattle.dg_machine.specs.contracts.script.Script as Script
 use Rattle.dg_machine.specs.contracts.script.Source as Source
@@ -45,14 +54,90 @@ Calculation-send = search (sendable, bytes.the_send, stack.the_send, queue.the_s
 Repetition-send : IsSend Repetition.the_field.row
 Repetition-send = search (sendable, bytes.the_send, stage.the_field_send, Body-send) depth 20
 
+Prepared-send : IsSend Prepared.the_row
+Prepared-send = search (sendable, seq.the_send, pair.the_field_send, Pattern-send) depth 20
+
+Wait-send : IsSend Wait.the_field.row
+Wait-send = search (sendable, Prepared-send) depth 20
+
+-- each of the frames in its order, and each of its fields
+Frames-send : EachSend (variants Frame.the_type)
+Frames-send = (
+  (opening.the_field_send, tt),
+  (
+    (opening.the_field_send, tt),
+    (
+      (Script-send, (search sendable, tt)),
+      (
+        (making.the_field_send, (search sendable, tt)),
+        (
+          (search (sendable, bytes.the_send, seq.the_send, queue.the_send) depth 20, (search sendable, tt)),
+          (
+            (search (sendable, bytes.the_send, seq.the_send, queue.the_send) depth 20, tt),
+            (
+              tt,
+              (
+                tt,
+                (
+                  (Rounds-send, tt),
+                  (
+                    (search sendable, (search (sendable, bytes.the_send, seq.the_send, queue.the_send) depth 20, tt)),
+                    (
+                      (Calculation-send, tt),
+                      (
+                        tt,
+                        (
+                          (choice.the_field_send, tt),
+                          (
+                            (Repetition-send, tt),
+                            (
+                              (acting.the_field_send, tt),
+                              (
+                                (search sendable, tt),
+                                (
+                                  (search (sendable, bytes.the_send, seq.the_send, queue.the_send) depth 20, (search sendable, tt)),
+                                  (
+                                    (limiting.the_field_send, tt),
+                                    (
+                                      (compiling.the_field_send, tt),
+                                      (
+                                        (reach.the_field_send, (Wait-send, tt)),
+                                        (
+                                          (
+                                            search (sendable, bytes.the_send, queue.the_send) depth 20,
+                                            (search (sendable, bytes.the_send, queue.the_send) depth 20, tt),
+                                          ),
+                                          tt,
+                                        ),
+                                      ),
+                                    ),
+                                  ),
+                                ),
+                              ),
+                            ),
+                          ),
+                        ),
+                      ),
+                    ),
+                  ),
+                ),
+              ),
+            ),
+          ),
+        ),
+      ),
+    ),
+  ),
+)
+
 Frame-send : IsSend Frame.the_row
-Frame-send = search (sendable, bytes.the_send, seq.the_send, queue.the_send, opening.the_field_send, making.the_field_send, choice.the_field_send, Script-send, Rounds-send, Calculation-send, Repetition-send) depth 60
+Frame-send = let each = enum_send (shape Frame.the_type) Frames-send in search (recorded_send) depth 20
 
 Machine-send : IsSend Machine.the_field.row
-Machine-send = let frames = stack.the_send Frame.the_row Frame-send in search (sendable, state.the_send, control.the_field_send) depth 20
+Machine-send = let frames = stack.the_send Frame.the_row Frame-send in search (sendable, state.the_send, control.the_field_send, Programs-send) depth 20
 
 pub Evaluation-send : IsSend Evaluation.the_row
-Evaluation-send = search (sendable, test.the_field_send, Machine-send) depth 20
+Evaluation-send = search (sendable, test.the_send, Machine-send) depth 20
 
 pub Asking-send : IsSend Asking.the_row
-Asking-send = search (sendable, test.the_field_send, question.the_field_send, Machine-send) depth 20
+Asking-send = search (sendable, test.the_send, ask.the_field_send, Machine-send) depth 20

@@ -12,3 +12,8 @@ pub mod OpeningLemmas
 pub mod BoardLemmas
 pub mod EvaluationLemmas
 pub mod Crosses
+pub mod ActingLemmas
+pub mod SessionLemmas
+pub mod AwaitingLemmas
+pub mod LimitLemmas
+pub mod PatternLemmas

@@ -2,13 +2,13 @@
 use Rattle.std.proofs.Common.{◌≡◌, ◌≢◌, ℕ, suc, zero, ◌+◌, ◌-◌, ◌^◌, ◌<◌, ◌≤◌, ◌⊎◌, inl, inr, List, [], ◌∷◌, get_or, drop, length, ap, sym, refl, ◌∙◌, arith}
 use Rattle.std.proofs.lemmas.List.{drop_more, drop_all}
 use Rattle.std.specs.Prelude.{Some, Ok, codes}
-use Rattle.dg_world.specs.declared.question.Question.{Question}
+use Rattle.dg_language.specs.declared.ask.Ask.{Ask}
 use Rattle.dg_world.specs.declared.question.Read.{Read}
 use Rattle.dg_language.specs.declared.code.Code.{Code}
 use Rattle.dg_language.specs.declared.code.Code.TheVariants.{Done}
-use Rattle.dg_language.specs.Play.{Play, Asks}
-use Rattle.dg_language.specs.State.{State, assigned, learn, stepped}
-use Rattle.dg_language.specs.Evaluation.{Ending, Then, Nested, cut, tick, within, fail, list_in, loop_after}
+use Rattle.dg_language.specs.Play.{Play, Ends, Asks}
+use Rattle.dg_language.specs.State.{State, assigned, learn, stepped, with_begun}
+use Rattle.dg_language.specs.Evaluation.{Ending, Then, Nested, out_of_steps, tick, within, fail, list_in, loop_after}
 use Rattle.dg_language.specs.Variables.{touch}
 use Rattle.dg_language.specs.Control.{caught, digit_of, do_foreach, with_names, each, give_each, head_or_empty, behind_first}
 use Rattle.dg_machine.specs.declared.frame.Frame.{Frame}
@@ -27,7 +27,7 @@ each-done nested left names body [] s k h = refl
 each-done nested left names body (v ∷ vs) s k h = absurd (omega arith)
 
 each-zero : (nested : Nested) (names : List (List ℕ)) (body : List ℕ) (values : List (List ℕ)) (s : State) (k : Then) → 0 < length values
-    → each nested 0 names body values s k ≡ cut (codes "step limit reached") s
+    → each nested 0 names body values s k ≡ Ends (out_of_steps s)
 unfolding each
 each-zero nested names body [] s k h = absurd (omega arith)
 each-zero nested names body (v ∷ vs) s k h = refl
@@ -41,7 +41,7 @@ each-suc nested r names body (v ∷ vs) s k h = refl
 
 -- no step is left
 each-late : (nested : Nested) (left : ℕ) (names : List (List ℕ)) (body : List ℕ) (values : List (List ℕ)) (s : State) (k : Then) → 0 < length values
-    → 100000 ≤ s.steps → each nested left names body values s k ≡ cut (codes "step limit reached") s
+    → 100000 ≤ s.steps → each nested left names body values s k ≡ Ends (out_of_steps s)
 each-late nested zero names body values s k h l = each-zero nested names body values s k h
 each-late nested (suc r) names body values s k h l =
     each-suc nested r names body values s k h
@@ -49,7 +49,7 @@ each-late nested (suc r) names body values s k h l =
 
 -- no round is left, or no step
 pub each-cut : (nested : Nested) (left : ℕ) (names : List (List ℕ)) (body : List ℕ) (values : List (List ℕ)) (s : State) (k : Then) → 0 < length values
-    → (left ≡ 0) ⊎ (100000 ≤ s.steps) → each nested left names body values s k ≡ cut (codes "step limit reached") s
+    → (left ≡ 0) ⊎ (100000 ≤ s.steps) → each nested left names body values s k ≡ Ends (out_of_steps s)
 each-cut nested left names body values s k h (inl e) = rw e (each-zero nested names body values s k h)
 each-cut nested left names body values s k h (inr l) = each-late nested left names body values s k h l
 
@@ -86,12 +86,12 @@ give-at names i n values s f l e =
 module _ (names : List (List ℕ)) (i : ℕ) (n : List ℕ) (l : i < length names) (e : n ≡ get_or names i []) (values : List (List ℕ))
     (f : List (List ℕ) → State → Play Ending) (s : State) where
   -- the name's variable asks first
-  pub give-asks : (q : Question) → ((k : State → Play Ending) → touch n s k ≡ Asks q (λ a. touch n (learn q a s) k))
-      → give_each (drop i names) values s f ≡ Asks q (λ a. give_each (drop i names) values (learn q a s) f)
+  pub give-asks : (q : Ask) → ((k : State → Play Ending) → touch n s k ≡ Asks q (λ a. touch n (learn q.question a s) k))
+      → give_each (drop i names) values s f ≡ Asks q (λ a. give_each (drop i names) values (learn q.question a s) f)
   give-asks q h =
       give-at names i n values s f l e
       ∙ h (λ s'. within (length (head_or_empty values)) s' (give_each (drop (i + 1) names) (behind_first values) (assigned n (head_or_empty values) s') f))
-      ∙ ap (Asks q) (λ j a. sym (give-at names i n values (learn q a s) f l e) j)
+      ∙ ap (Asks q) (λ j a. sym (give-at names i n values (learn q.question a s) f l e) j)
 
   -- the name's variable ends all
   pub give-over : (p : Play Ending) → ((k : State → Play Ending) → touch n s k ≡ p) → give_each (drop i names) values s f ≡ p
@@ -109,8 +109,8 @@ module _ (names : List (List ℕ)) (i : ℕ) (n : List ℕ) (l : i < length name
 
 module _ (n : List ℕ) (k : Then) (c : Code) (v : List ℕ) (s : State) where
   -- the name's variable asks first
-  pub caught-asks : (q : Question) → ((f : State → Play Ending) → touch n s f ≡ Asks q (λ a. touch n (learn q a s) f))
-      → caught (Some n) k c v s ≡ Asks q (λ a. caught (Some n) k c v (learn q a s))
+  pub caught-asks : (q : Ask) → ((f : State → Play Ending) → touch n s f ≡ Asks q (λ a. touch n (learn q.question a s) f))
+      → caught (Some n) k c v s ≡ Asks q (λ a. caught (Some n) k c v (learn q.question a s))
   unfolding caught
   caught-asks q h = h (λ s'. within (length v) s' (k Done (digit_of c) (assigned n v s')))
 
@@ -135,9 +135,9 @@ unfolding assigned
 known-assigned n v s = refl
 
 -- what readies a variable weighs nothing
-pub weight-readied : (s s' : State) (c : Control) (fs : List Frame) → s'.steps ≡ s.steps → weight c s' fs ≡ weight c s fs
+pub weight-readied : (s s' : State) (c : Control) (fs : List Frame) → s' ≡ with_begun s s' → weight c s' fs ≡ weight c s fs
 unfolding weight
-weight-readied s s' c fs e = rw e refl
+weight-readied s s' c fs e = ap (λ (t : State). weight c t fs) e
 
 -- what goes on from here goes on from an equal meaning with more weight
 pub Goes-on : (p : Pace) (play play' : Play Ending) (known known' : List Read) (w w' : ℕ) (m : Machine) → Goes play known w m p

@@ -1,12 +1,13 @@
 -- Ends, errors and limits.
-use Rattle.std.proofs.Common.{◌≡◌, ◌≢◌, Bool, ℕ, suc, zero, ◌+◌, ◌-◌, ◌^◌, ◌<◌, ◌≤◌, true, false, List, [], ◌∷◌, ◌++◌, length, ap, sym, ◌∙◌, refl, arith}
+use Rattle.std.proofs.Common.{◌≡◌, ◌≢◌, Bool, ℕ, suc, zero, ◌+◌, ◌-◌, ◌^◌, ◌<◌, ◌≤◌, true, false, List, [], ◌∷◌, ◌++◌, length, ap, sym, ◌∙◌, refl, subst, arith}
 use Rattle.std.proofs.lemmas.Bool.{lt-ltb}
 use Rattle.std.specs.Prelude.{nat_lt, codes}
 use Rattle.dg_results.specs.declared.verdict.Line.{Line}
 use Rattle.dg_results.specs.Lines.{lines_of, abort_lines}
 use Rattle.dg_language.specs.declared.code.Code.TheVariants.{Done, Failed}
-use Rattle.dg_language.specs.Play.{Play}
-use Rattle.dg_language.specs.State.{State, stepped, taken}
+use Rattle.dg_language.specs.declared.close.Close.TheVariants.{Aborted, OutOfSteps}
+use Rattle.dg_language.specs.Play.{Play, Ends}
+use Rattle.dg_language.specs.State.{State, stepped}
 use Rattle.dg_words.specs.declared.word.Word.{Word}
 use Rattle.dg_words.specs.declared.fault.WordFault.{WordFault}
 use Rattle.dg_world.specs.declared.question.Read.{Read}
@@ -14,7 +15,7 @@ use Rattle.dg_language.specs.declared.command.Command.{Command}
 use Rattle.dg_language.specs.declared.substitution.Purpose.TheVariants.{Run}
 use Rattle.dg_language.specs.declared.command.Command.TheVariants.{Words, Unreadable}
 use Rattle.dg_words.specs.Faults.{fault_text}
-use Rattle.dg_language.specs.Evaluation.{Ending, Then, cut, aborted, fail, tick, if_done}
+use Rattle.dg_language.specs.Evaluation.{Ending, Then, cut, aborted, out_of_steps, fail, tick, if_done}
 use Rattle.dg_language.specs.Language.{command, sequence, evaluate, commands_at}
 use Rattle.dg_language.specs.Words.{gather, substitutions}
 use Rattle.dg_machine.specs.declared.frame.Frame.{Frame}
@@ -22,13 +23,20 @@ use Rattle.dg_machine.specs.declared.frame.Frame.TheVariants.{Sequence, Gatherin
 use Rattle.dg_machine.specs.declared.frame.Making.{Making}
 use Rattle.dg_machine.specs.declared.frame.Control.TheVariants.{Go}
 use Rattle.dg_machine.specs.declared.frame.Pace.{Pace}
-use Rattle.dg_machine.specs.declared.frame.Pace.TheVariants.{Moved, Stands, Over}
+use Rattle.dg_machine.specs.declared.frame.Pace.TheVariants.{Moved, Stands, Over, Lost}
 use Rattle.dg_machine.specs.declared.machine.Machine.{Machine}
+use Rattle.dg_machine.specs.Lost.{HasReadPattern}
 use Rattle.dg_machine.specs.Meaning.{ends_with, budget, Goes, Comes, weight_of, weight, stack_weight, frame_weight, all_back, back}
 
-pub cut-ends : (why : List ℕ) (s : State) (v : List Line) → v ≡ lines_of s.calls ++ abort_lines s.test.script why → cut why s ≡ ends_with v (taken s)
+pub cut-ends : (why : List ℕ) (s : State) (v : List Line) → v ≡ lines_of s.calls ++ abort_lines s.test.script why
+    → cut why s ≡ ends_with (record { verdict = v; close = Aborted }) s
 unfolding cut aborted
 cut-ends why s v e = rw e refl
+
+pub steps-end : (s : State) (v : List Line) → v ≡ lines_of s.calls ++ abort_lines s.test.script (codes "step limit reached")
+    → Ends (out_of_steps s) ≡ ends_with (record { verdict = v; close = OutOfSteps }) s
+unfolding out_of_steps
+steps-end s v e = rw e refl
 
 pub nat_lt-false : (a b : ℕ) → b ≤ a → nat_lt a b ≡ false
 nat_lt-false a b h = grind arith
@@ -52,11 +60,11 @@ no-step s b e h = grind arith
 
 pub tick-step : (s : State) (f : State → Play Ending) → s.steps < 100000 → tick s f ≡ f (stepped s)
 unfolding tick
-tick-step s f h = ap (λ b. elim b as (λ _. Play Ending) [ true ↦ f (stepped s) | false ↦ cut (codes "step limit reached") s ]) (lt-ltb s.steps 100000 h)
+tick-step s f h = ap (λ b. elim b as (λ _. Play Ending) [ true ↦ f (stepped s) | false ↦ Ends (out_of_steps s) ]) (lt-ltb s.steps 100000 h)
 
-pub tick-none : (s : State) (f : State → Play Ending) → 100000 ≤ s.steps → tick s f ≡ cut (codes "step limit reached") s
+pub tick-none : (s : State) (f : State → Play Ending) → 100000 ≤ s.steps → tick s f ≡ Ends (out_of_steps s)
 unfolding tick
-tick-none s f h = ap (λ b. elim b as (λ _. Play Ending) [ true ↦ f (stepped s) | false ↦ cut (codes "step limit reached") s ]) (nat_lt-false s.steps 100000 h)
+tick-none s f h = ap (λ b. elim b as (λ _. Play Ending) [ true ↦ f (stepped s) | false ↦ Ends (out_of_steps s) ]) (nat_lt-false s.steps 100000 h)
 
 -- no command is left
 pub sequence-done : (d : ℕ) (cs : List Command) (v : List ℕ) (s : State) (k : Then) → cs ≡ [] → sequence (evaluate d) cs v s k ≡ k Done v s
@@ -78,7 +86,7 @@ sequence-next d ws cs more v s fs e h =
 
 -- no step is left for the next command
 pub sequence-cut : (d : ℕ) (ws : List Word) (cs more : List Command) (v : List ℕ) (s : State) (k : Then) → cs ≡ Words ws ∷ more → 100000 ≤ s.steps
-    → sequence (evaluate d) cs v s k ≡ cut (codes "step limit reached") s
+    → sequence (evaluate d) cs v s k ≡ Ends (out_of_steps s)
 unfolding sequence
 sequence-cut d ws cs more v s k e h =
     rw e (tick-none s (λ s'. gather (evaluate d) (command (evaluate d)) [] [] [] (substitutions ws) s' (if_done (λ v' s''. sequence (evaluate d) more v' s'' k) k)) h)
@@ -105,12 +113,14 @@ pub Goes-along : (p : Pace) (play play' : Play Ending) (known known' : List Read
 Goes-along Moved play play' known known' w w' m h e f l = (h.0 ∙ sym e, h.1 ∙ f, (let g : weight_of m < w = h.2 in omega arith))
 Goes-along (Stands q) play play' known known' w w' m h e f l = absurd h
 Goes-along (Over v) play play' known known' w w' m h e f l = (e ∙ h.0, h.1 ∙ f)
+Goes-along Lost play play' known known' w w' m h e f l = subst HasReadPattern f h
 
 pub Goes-comes : (p : Pace) (play play' : Play Ending) (known : List Read) (w w' : ℕ) (m : Machine) → Goes play known w m p
     → play' ≡ play → w ≤ w' → Comes play' known w' m p
 Goes-comes Moved play play' known w w' m h e l = (h.0 ∙ sym e, h.1, (let g : weight_of m < w = h.2 in omega arith))
 Goes-comes (Stands q) play play' known w w' m h e l = absurd h
 Goes-comes (Over v) play play' known w w' m h e l = (e ∙ h.0, h.1)
+Goes-comes Lost play play' known w w' m h e l = h
 
 evaluate-zero : (t : List ℕ) (s : State) (k : Then) → evaluate 0 t s k ≡ cut (codes "too many nested evaluations") s
 unfolding evaluate

@@ -1,16 +1,19 @@
 -- The commands on variables.
-use Rattle.std.proofs.Common.{◌≡◌, ℕ, ◌+◌, List, [], ◌∷◌, ◌++◌, ap, subst, sym, ◌∙◌, refl, true≢false, arith}
-use Rattle.std.specs.Prelude.{Bool, true, false, is_some, Some, None, codes}
+use Rattle.std.proofs.Common.{◌≡◌, ◌≢◌, ◌<◌, ◌≤◌, ℕ, ◌+◌, length, List, [], ◌∷◌, ◌++◌, ap, subst, sym, ◌∙◌, refl, true≢false, arith}
+use Rattle.std.specs.Prelude.{Bool, true, false, is_some, Some, None, Ok, codes}
 use Rattle.std.specs.List.{concat}
+use Rattle.dg_words.specs.Canonical.{text_of_list}
+use Rattle.dg_words.specs.Elements.{elements_of}
 use Rattle.dg_scope.specs.Scopes.{value_of}
-use Rattle.dg_world.specs.declared.question.Question.{Question}
+use Rattle.dg_language.specs.declared.ask.Ask.{Ask}
 use Rattle.dg_language.specs.declared.code.Code.TheVariants.{Done}
 use Rattle.dg_language.specs.Play.{Play, Asks}
-use Rattle.dg_language.specs.State.{State, learn, linked, unassigned}
-use Rattle.dg_language.specs.Evaluation.{Ending, Then, fail, on, wrong_count}
-use Rattle.dg_language.specs.Variables.{touch, all_linked, unset_all, unset_one, store, append_elements, add_number, addend, or_empty, do_append, do_lappend, do_incr}
+use Rattle.dg_language.specs.State.{State, assigned, learn, with_begun, linked, unassigned}
+use Rattle.dg_language.specs.Evaluation.{Ending, Then, fail, list_in, on, or_message, wrong_count}
+use Rattle.dg_language.specs.Variables.{touch, all_linked, unset_all, unset_one, store, append_elements, add_number, addend, or_empty, with_appended, do_append, do_lappend, do_incr}
+use Rattle.dg_language.proofs.TouchLemmas.{within-short}
 use Rattle.dg_machine.specs.declared.frame.Frame.{Frame}
-use Rattle.dg_machine.specs.declared.frame.Control.TheVariants.{Go}
+use Rattle.dg_machine.specs.declared.frame.Control.TheVariants.{Go, Ended}
 use Rattle.dg_machine.specs.declared.frame.Pace.{Pace}
 use Rattle.dg_machine.specs.declared.machine.Machine.{Machine}
 use Rattle.dg_machine.specs.Meaning.{all_back, weight, weight_of, stack_weight, frame_weight, Goes, Readies, RunsAs}
@@ -38,6 +41,23 @@ module _ (args : List (List ℕ)) (n : List ℕ) (vs : List (List ℕ)) (e : arg
   unfolding do_incr
   incr-of by h = rw e (ap (λ o. λ s k. on o (fail (wrong_count (codes "incr")) s k) (λ x. touch n s (λ t. add_number n x t k))) h)
 
+-- elements that go behind those of a list, where the whole is not too long
+pub elements-stored : (n old : List ℕ) (vs xs : List (List ℕ)) (s : State) (k : Then) → vs ≢ [] → elements_of old ≡ Ok xs
+    → length (text_of_list (xs ++ vs)) ≤ 1048576
+    → append_elements n old vs s k ≡ k Done (text_of_list (xs ++ vs)) (assigned n (text_of_list (xs ++ vs)) s)
+unfolding append_elements list_in store
+elements-stored n old [] xs s k some e l = absurd (some refl)
+elements-stored n old (v ∷ vs) xs s k some e l =
+    ap (λ r. with_appended n old (v ∷ vs) (or_message r) s k) e
+    ∙ within-short (length (text_of_list (xs ++ v ∷ vs))) s (k Done (text_of_list (xs ++ v ∷ vs)) (assigned n (text_of_list (xs ++ v ∷ vs)) s)) l
+
+pub elements-grown : (n old w : List ℕ) (vs xs : List (List ℕ)) (s t : State) (fs : List Frame) → vs ≢ [] → elements_of old ≡ Ok xs
+    → t ≡ assigned n (text_of_list (xs ++ vs)) s → w ≡ text_of_list (xs ++ vs) → length (text_of_list (xs ++ vs)) ≤ 1048576
+    → (all_back fs Done w t ≡ append_elements n old vs s (all_back fs)) × (t.known ≡ s.known) × (weight (Ended Done w) t fs < weight Go s fs + 2)
+unfolding weight assigned
+elements-grown n old w vs xs s t fs some e new same short =
+    (rw (same, new) (sym (elements-stored n old vs xs s (all_back fs) some e short)), ap (λ (u : State). u.known) new, (rw new (omega arith)))
+
 pub known-linked : (ns : List (List ℕ)) (s : State) → (all_linked ns s).known ≡ s.known
 unfolding linked
 known-linked [] s = refl
@@ -47,6 +67,11 @@ pub steps-linked : (ns : List (List ℕ)) (s : State) → (all_linked ns s).step
 unfolding linked
 steps-linked [] s = refl
 steps-linked (n ∷ ns) s = steps-linked ns (linked n s)
+
+pub used-linked : (ns : List (List ℕ)) (s : State) → (all_linked ns s).sessions.used ≡ s.sessions.used
+unfolding linked
+used-linked [] s = refl
+used-linked (n ∷ ns) s = used-linked ns (linked n s)
 
 -- no name is left
 pub unset-none : (complains : Bool) (names : List (List ℕ)) (s : State) (k : Then) → names ≡ [] → unset_all complains names s k ≡ k Done [] s
@@ -69,13 +94,13 @@ module _ (complains : Bool) (names : List (List ℕ)) (n : List ℕ) (more : Lis
   unset-ready s' h = unset-next ∙ h (λ s'. unset_one complains (is_some (value_of s'.variables n)) n s' (λ t. unset_all complains more t k) k)
 
 -- the name's variable asks first
-pub unset-asks : (complains : Bool) (names : List (List ℕ)) (n : List ℕ) (more : List (List ℕ)) → names ≡ n ∷ more → (k : Then) (s : State) (q : Question)
-    → ((f : State → Play Ending) → touch n s f ≡ Asks q (λ a. touch n (learn q a s) f))
-    → unset_all complains names s k ≡ Asks q (λ a. unset_all complains (n ∷ more) (learn q a s) k)
+pub unset-asks : (complains : Bool) (names : List (List ℕ)) (n : List ℕ) (more : List (List ℕ)) → names ≡ n ∷ more → (k : Then) (s : State) (q : Ask)
+    → ((f : State → Play Ending) → touch n s f ≡ Asks q (λ a. touch n (learn q.question a s) f))
+    → unset_all complains names s k ≡ Asks q (λ a. unset_all complains (n ∷ more) (learn q.question a s) k)
 unset-asks complains names n more e k s q h =
     unset-next complains names n more e k s
     ∙ h (λ s'. unset_one complains (is_some (value_of s'.variables n)) n s' (λ t. unset_all complains more t k) k)
-    ∙ ap (Asks q) (λ j a. sym (unset-next complains (n ∷ more) n more refl k (learn q a s)) j)
+    ∙ ap (Asks q) (λ j a. sym (unset-next complains (n ∷ more) n more refl k (learn q.question a s)) j)
 
 module _ (n : List ℕ) (s t : State) where
   -- a name that is set, or that none misses
@@ -91,12 +116,12 @@ module _ (n : List ℕ) (s t : State) where
   known-unset true set unset = ap (λ (x : State). x.known) (set refl)
   known-unset false set unset = ap (λ (x : State). x.known) (unset refl)
 
-  steps-unset : (was : Bool) → (was ≡ true → t ≡ unassigned n s) → (was ≡ false → t ≡ s) → t.steps ≡ s.steps
+  begun-unset : (was : Bool) → (was ≡ true → t ≡ unassigned n s) → (was ≡ false → t ≡ s) → t ≡ with_begun s t
   unfolding unassigned
-  steps-unset true set unset = ap (λ (x : State). x.steps) (set refl)
-  steps-unset false set unset = ap (λ (x : State). x.steps) (unset refl)
+  begun-unset true set unset = set refl ∙ sym (ap (λ (x : State). with_begun s x) (set refl))
+  begun-unset false set unset = unset refl ∙ sym (ap (λ (x : State). with_begun s x) (unset refl))
 
   pub weight-unset : (was : Bool) → (was ≡ true → t ≡ unassigned n s) → (was ≡ false → t ≡ s) → (f : Frame) (fs : List Frame)
       → weight Go t (f ∷ fs) ≡ weight Go s fs + frame_weight f
   unfolding weight stack_weight
-  weight-unset was set unset f fs = rw (steps-unset was set unset) (omega arith)
+  weight-unset was set unset f fs = ap (λ (x : State). weight Go x (f ∷ fs)) (begun-unset was set unset) ∙ (omega arith)

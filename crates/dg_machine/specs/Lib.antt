@@ -2,6 +2,12 @@ pub mod Script
 pub mod Source
 pub mod Choosing
 pub mod Opening
+pub mod Lost
+pub mod Patterns
+pub mod Giving
+pub mod Acting
 pub mod Meaning
+pub mod Performing
+pub mod Seeking
 pub mod Evaluating
 pub mod Arriving

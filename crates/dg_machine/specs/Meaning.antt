@@ -4,11 +4,11 @@ use Rattle.dg_world.specs.declared.question.Question.{Question}
 use Rattle.dg_world.specs.declared.question.Answer.{Answer}
 use Rattle.dg_world.specs.declared.question.Read.{Read}
 use Rattle.dg_language.specs.declared.code.Code.{Code}
-use Rattle.dg_language.specs.declared.code.Code.TheVariants.{Done, Failed, Returned, Broken, Continued}
-use Rattle.dg_results.specs.declared.verdict.Line.{Line}
-use Rattle.dg_language.specs.Play.{Play, Ends, Asks, lookup}
-use Rattle.dg_language.specs.State.{State, taken, learn, departed}
-use Rattle.dg_language.specs.Evaluation.{Ending, Then, if_done, loop_after, outside, outside_of_a_loop}
+use Rattle.dg_language.specs.declared.code.Code.TheVariants.{Done, Failed, Returned, Broken, Continued, ExpContinued}
+use Rattle.dg_language.specs.declared.ask.Ask.{Ask}
+use Rattle.dg_language.specs.Play.{Play, Ends, Asks, plain, lookup}
+use Rattle.dg_language.specs.State.{State, learn, departed, with_begun}
+use Rattle.dg_language.specs.Evaluation.{Ending, Then, closed, if_done, loop_after, outside, outside_of_a_loop, outside_of_expect}
 use Rattle.dg_language.specs.Variables.{touch, given, unset_all}
 use Rattle.dg_scope.specs.Scopes.{value_of}
 use Rattle.dg_language.specs.Control.{caught, each, give_each}
@@ -16,23 +16,28 @@ use Rattle.dg_language.specs.Language.{command, used, sequence, evaluate}
 use Rattle.dg_language.specs.Words.{longer, gather}
 use Rattle.dg_language.specs.declared.command.Command.{Command}
 use Rattle.dg_language.specs.declared.substitution.Purpose.{Purpose}
-use Rattle.dg_language.specs.declared.substitution.Purpose.TheVariants.{Run, Load}
+use Rattle.dg_language.specs.declared.substitution.Purpose.TheVariants.{Run, Load, Expect}
 use Rattle.dg_language.specs.declared.substitution.Substitution.{Substitution}
 use Rattle.dg_language.specs.Boards.{after_library}
 use Rattle.dg_language.specs.Judge.{after_file, finish}
 use Rattle.dg_language.specs.Expressions.{written}
 use Rattle.dg_machine.specs.Opening.{open_next, opening_weight}
 use Rattle.dg_machine.specs.Choosing.{calculating, calculating_with, choosing, repeating, stage_weight}
+use Rattle.dg_language.specs.Expecting.{after_action, expect_with}
+use Rattle.dg_machine.specs.Acting.{acting, after_weight, naming, limiting, compiling_on, awaiting, again, reach_weight}
+use Rattle.dg_machine.specs.Giving.{giving}
+use Rattle.dg_machine.specs.Lost.{HasReadPattern}
 use Rattle.dg_machine.specs.declared.frame.Frame.{Frame}
-use Rattle.dg_machine.specs.declared.frame.Frame.TheVariants.{Opening, Preceding, Sequence, Gathering, Running, Catching, Calling, Loading, Looping, Unsetting, Calculating, Writing, Choosing, Repeating}
+use Rattle.dg_machine.specs.declared.frame.Frame.TheVariants.{Opening, Preceding, Sequence, Gathering, Running, Catching, Calling, Loading, Looping, Unsetting, Calculating, Writing, Choosing, Repeating, Acting, Naming, Expecting, Limiting, Compiling, Awaiting, Giving}
 use Rattle.dg_machine.specs.declared.frame.Making.{Making}
 use Rattle.dg_machine.specs.declared.frame.Rounds.{Rounds}
 use Rattle.dg_machine.specs.declared.frame.Control.{Control}
 use Rattle.dg_machine.specs.declared.frame.Control.TheVariants.{Go, Ended}
+use Rattle.dg_machine.specs.declared.frame.Closing.{Closing}
 use Rattle.dg_machine.specs.declared.frame.Pace.{Pace}
-use Rattle.dg_machine.specs.declared.frame.Pace.TheVariants.{Moved, Stands, Over}
+use Rattle.dg_machine.specs.declared.frame.Pace.TheVariants.{Moved, Stands, Over, Lost}
 use Rattle.dg_machine.specs.declared.frame.Stop.{Stop}
-use Rattle.dg_machine.specs.declared.frame.Stop.TheVariants.{AtQuestion, AtEnd}
+use Rattle.dg_machine.specs.declared.frame.Stop.TheVariants.{AtQuestion, AtEnd, Lost as LostStop}
 use Rattle.dg_machine.specs.declared.machine.Machine.{Machine}
 
 -- the words of a command go on being made
@@ -82,6 +87,13 @@ go (Calculating c) s k = calculating c s k
 go Writing s k = k Done [] s
 go (Choosing c) s k = k Done [] s
 go (Repeating r) s k = k Done [] s
+go (Acting a) s k = acting a s k
+go (Naming n) s k = naming n s k
+go (Expecting words depth) s k = expect_with (evaluate depth) words s k
+go (Limiting l) s k = limiting l s k
+go (Compiling c) s k = compiling_on c s k
+go (Giving names values) s k = giving names values s k
+go (Awaiting reach w) s k = awaiting reach w s k
 
 -- what a frame does with what has ended inside of it
 unfoldable pub back : Frame → Then → Then
@@ -99,6 +111,13 @@ back (Calculating c) k = if_done (λ v s. calculating_with c v s k) k
 back Writing k = written k
 back (Choosing c) k = choosing c k
 back (Repeating r) k = repeating r r.stage k
+back (Acting a) k = k
+back (Naming n) k = k
+back (Expecting words depth) k = k
+back (Limiting l) k = k
+back (Compiling c) k = k
+back (Giving names values) k = k
+back (Awaiting reach w) k = after_action w.session (again w k) k
 
 -- what all the frames do with what has ended inside of them
 unfoldable pub all_back : List Frame → Then
@@ -122,6 +141,7 @@ names_left r (Some i) = 4 + 4 * (length r.names - i)
 unfoldable pub budget : Purpose → ℕ
 budget Run = 2 ^ 250
 budget Load = 0
+budget Expect = 2 ^ 200
 
 abbrev pub frame_weight : Frame → ℕ
 frame_weight (Opening what) = opening_weight what
@@ -138,6 +158,13 @@ frame_weight (Calculating c) = 8 + 2 ^ 67 * length c.left
 frame_weight Writing = 4
 frame_weight (Choosing c) = 2 ^ 140 + 2 ^ 140 * length c.left
 frame_weight (Repeating r) = stage_weight r.stage
+frame_weight (Acting a) = after_weight a.after
+frame_weight (Naming n) = 6
+frame_weight (Expecting words depth) = 2 ^ 200
+frame_weight (Limiting l) = 2 ^ 100
+frame_weight (Compiling c) = 2 ^ 55
+frame_weight (Giving names values) = 5 + 4 * length names
+frame_weight (Awaiting reach w) = 256 * w.left + reach_weight reach
 
 unfoldable pub stack_weight : List Frame → ℕ
 stack_weight [] = 0
@@ -149,7 +176,7 @@ control_weight (Ended c v) = 1
 
 -- it falls with each move
 unfoldable pub weight : Control → State → List Frame → ℕ
-weight c s fs = (100000 - s.steps) * 2 ^ 251 + stack_weight fs + control_weight c
+weight c s fs = (100000 - s.steps) * 2 ^ 251 + (65536 - s.sessions.used) * 2 ^ 64 + stack_weight fs + control_weight c
 
 abbrev pub weight_of : Machine → ℕ
 weight_of m = weight m.control m.state m.stack
@@ -158,44 +185,44 @@ weight_of m = weight m.control m.state m.stack
 abbrev pub told : Question → Answer → Machine → Machine
 told q a m = record m { state = learn q a m.state }
 
--- the end with these lines
-abbrev pub ends_with : List Line → ℕ → Play Ending
-ends_with verdict steps = Ends (record { verdict = verdict; steps = steps })
+-- the end in this state
+abbrev pub ends_with : Closing → State → Play Ending
+ends_with c s = Ends (closed c.verdict c.close s)
 
--- From this, with these reads and weight, a move came to that machine.
+-- From this, with these reads and weight, a move came to that machine, or a pattern that is read could not be built.
 abbrev pub Comes : Play Ending → List Read → ℕ → Machine → Pace → Type 0
 Comes play known w m Moved = (rest m ≡ play) × (m.state.known ≡ known) × (weight_of m < w)
-Comes play known w m (Stands q) =
-    (play ≡ Asks q (λ a. rest (told q a m))) × (m.state.known ≡ known) × (lookup q known ≡ None)
-Comes play known w m (Over v) = (play ≡ ends_with v (taken m.state)) × (m.state.known ≡ known)
+Comes play known w m (Stands ask) =
+    (play ≡ Asks ask (λ a. rest (told ask.question a m))) × (m.state.known ≡ known) × (lookup ask.question known ≡ None)
+Comes play known w m (Over c) = (play ≡ ends_with c m.state) × (m.state.known ≡ known)
+Comes play known w m Lost = HasReadPattern known
 
 -- the same, where no question can stand
 abbrev pub Goes : Play Ending → List Read → ℕ → Machine → Pace → Type 0
 Goes play known w m Moved = (rest m ≡ play) × (m.state.known ≡ known) × (weight_of m < w)
-Goes play known w m (Stands q) = ⊥
-Goes play known w m (Over v) = (play ≡ ends_with v (taken m.state)) × (m.state.known ≡ known)
+Goes play known w m (Stands ask) = ⊥
+Goes play known w m (Over c) = (play ≡ ends_with c m.state) × (m.state.known ≡ known)
+Goes play known w m Lost = HasReadPattern known
 
--- From this, with what is done at another try, a command came to that machine; where a question stands, it has changed nothing.
-abbrev pub Runs : Play Ending → (State → Play Ending) → Machine → Machine → Pace → Type 0
-Runs play again old new Moved =
-    (rest new ≡ play) × (new.state.known ≡ old.state.known) × (weight_of new < weight_of old + 2 ^ 250)
-Runs play again old new (Stands q) =
-    (play ≡ Asks q (λ a. again (learn q a old.state))) × (new ≡ old) × (lookup q old.state.known ≡ None)
-Runs play again old new (Over v) = (play ≡ ends_with v (taken new.state)) × (new.state.known ≡ old.state.known)
+-- From this, with what is done at another try, and with so much weight more, a machine came to that one. Where a question
+-- stands, globals may have begun, and nothing else has changed: the other try goes on from there.
+abbrev pub Tries : Play Ending → (State → Play Ending) → ℕ → Machine → Machine → Pace → Type 0
+Tries play again w old new Moved =
+    (rest new ≡ play) × (new.state.known ≡ old.state.known) × (weight_of new < weight_of old + w)
+Tries play again w old new (Stands ask) =
+    (play ≡ Asks ask (λ a. again (learn ask.question a new.state)))
+    × (new ≡ record old { state = with_begun old.state new.state })
+    × (lookup ask.question old.state.known ≡ None)
+Tries play again w old new (Over c) = (play ≡ ends_with c new.state) × (new.state.known ≡ old.state.known)
+Tries play again w old new Lost = HasReadPattern old.state.known
+
+-- What is opened, or a command, has gone on with so much weight more; or a question stands.
+abbrev pub Opens : (State → Then → Play Ending) → ℕ → Machine → Machine → Pace → Type 0
+Opens f w old new p = Tries (f old.state (all_back old.stack)) (λ s. f s (all_back old.stack)) w old new p
 
 -- a command, as one that a machine came to run
 abbrev pub RunsAs : (State → Then → Play Ending) → Machine → Machine → Pace → Type 0
-RunsAs f old new p = Runs (f old.state (all_back old.stack)) (λ s. f s (all_back old.stack)) old new p
-
--- What is opened next has been, or has come to an end; or a question stands, and nothing has changed.
-abbrev pub Opens : (State → Then → Play Ending) → ℕ → Machine → Machine → Pace → Type 0
-Opens f w old new Moved =
-    (rest new ≡ f old.state (all_back old.stack)) × (new.state.known ≡ old.state.known) × (weight_of new < weight_of old + w)
-Opens f w old new (Stands q) =
-    (f old.state (all_back old.stack) ≡ Asks q (λ a. f (learn q a old.state) (all_back old.stack))) × (new ≡ old)
-    × (lookup q old.state.known ≡ None)
-Opens f w old new (Over v) =
-    (f old.state (all_back old.stack) ≡ ends_with v (taken new.state)) × (new.state.known ≡ old.state.known)
+RunsAs f old new p = Opens f (2 ^ 250) old new p
 
 -- how the code and the value with which a procedure or a file ends read outside of it
 abbrev pub outside_code : Code → Code
@@ -204,6 +231,7 @@ outside_code Failed = Failed
 outside_code Returned = Done
 outside_code Broken = Failed
 outside_code Continued = Failed
+outside_code ExpContinued = Failed
 
 abbrev pub outside_value : Code → List ℕ → List ℕ
 outside_value Done v = v
@@ -211,19 +239,20 @@ outside_value Failed v = v
 outside_value Returned v = v
 outside_value Broken v = outside_of_a_loop (codes "break")
 outside_value Continued v = outside_of_a_loop (codes "continue")
+outside_value ExpContinued v = outside_of_expect
 
 -- What comes before the use of a variable: nothing more, and it may have begun; or a question that stands, or a limit, and
 -- nothing has changed.
 abbrev pub Readies : List ℕ → Machine → Machine → Option Pace → Type 0
 Readies n old new None =
-    ((k : State → Play Ending) → touch n old.state k ≡ k new.state) × (new ≡ record old { state = new.state })
-    × (new.state.known ≡ old.state.known) × (new.state.steps ≡ old.state.steps)
+    ((k : State → Play Ending) → touch n old.state k ≡ k new.state) × (new ≡ record old { state = with_begun old.state new.state })
 Readies n old new (Some Moved) = ⊥
-Readies n old new (Some (Stands q)) =
-    ((k : State → Play Ending) → touch n old.state k ≡ Asks q (λ a. touch n (learn q a old.state) k)) × (new ≡ old)
-    × (lookup q old.state.known ≡ None)
-Readies n old new (Some (Over v)) =
-    ((k : State → Play Ending) → touch n old.state k ≡ ends_with v (taken new.state)) × (new ≡ old)
+Readies n old new (Some (Stands ask)) =
+    ((k : State → Play Ending) → touch n old.state k ≡ Asks ask (λ a. touch n (learn ask.question a old.state) k)) × (new ≡ old)
+    × (lookup ask.question old.state.known ≡ None)
+Readies n old new (Some (Over c)) =
+    ((k : State → Play Ending) → touch n old.state k ≡ ends_with c new.state) × (new ≡ old)
+Readies n old new (Some Lost) = ⊥
 
 -- a command whose words are made in these steps has begun, in front of the commands that are left
 abbrev pub Begins : List Command → List Substitution → ℕ → Machine → Machine → Type 0
@@ -238,6 +267,8 @@ Begins commands left depth old new =
 
 -- where a machine comes to by itself: to a question that has no answer yet, or to the end
 abbrev pub ComesTo : Machine → Machine → Stop → Type 0
-ComesTo old new (AtQuestion q) =
-    (rest old ≡ Asks q (λ a. rest (told q a new))) × (new.state.known ≡ old.state.known) × (lookup q old.state.known ≡ None)
-ComesTo old new (AtEnd v) = (rest old ≡ ends_with v (taken new.state)) × (new.state.known ≡ old.state.known)
+ComesTo old new (AtQuestion ask) =
+    (rest old ≡ Asks ask (λ a. rest (told ask.question a new))) × (new.state.known ≡ old.state.known)
+    × (lookup ask.question old.state.known ≡ None)
+ComesTo old new (AtEnd c) = (rest old ≡ ends_with c new.state) × (new.state.known ≡ old.state.known)
+ComesTo old new LostStop = HasReadPattern old.state.known

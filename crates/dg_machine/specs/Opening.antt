@@ -1,7 +1,7 @@
 -- The files that are opened for a test, one after another.
 use Rattle.std.specs.Prelude.{◌≡◌, ℕ, ◌+◌, ◌*◌, ◌^◌, List, Option, None}
 use Rattle.dg_world.specs.declared.question.Question.TheVariants.{File}
-use Rattle.dg_language.specs.Play.{Play, Asks, lookup}
+use Rattle.dg_language.specs.Play.{Play, Asks, plain, lookup}
 use Rattle.dg_language.specs.State.{State, learn}
 use Rattle.dg_language.specs.Evaluation.{Ending, Then, ask}
 use Rattle.dg_language.specs.Boards.{content_of}
@@ -31,6 +31,6 @@ opening_weight Script = 6
 abbrev pub Holds : List ℕ → State → FileText → Type 0
 Holds name s (Unanswered q) =
     ((f : Option (List ℕ) → State → Play Ending) →
-    ask (File name) s (λ a t. f (content_of a) t) ≡ Asks q (λ a. ask (File name) (learn q a s) (λ b t. f (content_of b) t)))
+    ask (File name) s (λ a t. f (content_of a) t) ≡ Asks (plain q) (λ a. ask (File name) (learn q a s) (λ b t. f (content_of b) t)))
     × (lookup q s.known ≡ None)
 Holds name s (Known text) = (f : Option (List ℕ) → State → Play Ending) → ask (File name) s (λ a t. f (content_of a) t) ≡ f text s

@@ -9,9 +9,9 @@ ghost use Rattle.dg_machine.specs.Meaning.{all_back, weight_of, Goes, RunsAs};
 use crate::frame::{FileText, Frame, Pace};
 use crate::machine::Machine;
 use crate::step::outside;
-use dg_commands::{library_file, no_library, only, split, told_of, two};
-use dg_language::{BoardCommand, Code};
-use dg_words::{Bytes, TryCopy};
+use dg_bytes::{Bytes, TryCopy};
+use dg_forms::{library_file, no_library, only, split, told_of, two};
+use dg_language::{Ask, BoardCommand, Code};
 use dg_world::{Name, is_name};
 use std::alloc::{AllocError, Global};
 
@@ -118,7 +118,7 @@ impl Machine {
             return Ok(Pace::Moved);
         }
         match self.text_of(alloc, file)? {
-            FileText::Unanswered(question) => Ok(Pace::Stands(question)),
+            FileText::Unanswered(question) => Ok(Pace::Stands(Ask::plain(question))),
             FileText::Known(None) => Ok(self.miss_library(alloc, library)?),
             FileText::Known(Some(text)) => {
                 self.state.enter_library(alloc, file.as_slice())?;
@@ -159,7 +159,7 @@ impl Machine {
         self.state.leave();
         match code {
             Code::Done => self.end(Code::Done, Bytes::new(alloc)),
-            Code::Failed | Code::Returned | Code::Broken | Code::Continued => {
+            Code::Failed | Code::Returned | Code::Broken | Code::Continued | Code::ExpContinued => {
                 self.end(code, value);
             }
         }

@@ -9,9 +9,9 @@ ghost use Rattle.dg_machine.specs.Meaning.{all_back, weight_of, Goes};
 
 use crate::frame::{Choice, Frame, Pace};
 use crate::machine::Machine;
-use dg_commands::{clauses_of, concatenated, split, switched, truth_in};
+use dg_bytes::Bytes;
+use dg_forms::{clauses_of, concatenated, split, switched, truth_in};
 use dg_language::{ChoiceCommand, Clause, Clauses, Code, Queue};
-use dg_words::Bytes;
 use std::alloc::{AllocError, Global};
 
 impl Machine {
@@ -86,7 +86,7 @@ impl Machine {
     {
         match code {
             Code::Done => Ok(self.decide(alloc, choice, value)?),
-            Code::Failed | Code::Returned | Code::Broken | Code::Continued => {
+            Code::Failed | Code::Returned | Code::Broken | Code::Continued | Code::ExpContinued => {
                 Ok(self.go_up(code, value))
             }
         }
@@ -129,8 +129,8 @@ impl Machine {
         ensures { IfOk result (λ p. Goes (evaluated (evaluate depth) text self.old.state (all_back self.old.stack)) self.old.state.known (weight_of self.old + 4) self.new p) }
     {
         let Some(text) = text else {
-            let verdict = self.cut(alloc, b"value too long")?;
-            return Ok(Pace::Over(verdict));
+            let closing = self.cut(alloc, b"value too long")?;
+            return Ok(Pace::Over(closing));
         };
         Ok(self.enter(alloc, text, depth)?)
     }

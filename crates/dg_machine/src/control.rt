@@ -10,10 +10,10 @@ ghost use Rattle.dg_machine.specs.Meaning.{all_back, weight_of, looping, Comes, 
 use crate::frame::{Frame, Pace, Rounds};
 use crate::machine::Machine;
 use crate::script::Body;
-use dg_commands::{elements_in, three};
+use dg_bytes::{Bytes, Seq, TryCopy};
+use dg_forms::{elements_held, elements_in, three};
 use dg_language::{Code, ControlCommand, Queue, STEPS};
 use dg_scope::LONGEST_VALUE;
-use dg_words::{Bytes, Seq, TryCopy};
 use std::alloc::{AllocError, Global};
 
 /// A code as a value.
@@ -26,6 +26,7 @@ fn digit_of(code: Code) -> &'static [u8]
         Code::Returned => b"2",
         Code::Broken => b"3",
         Code::Continued => b"4",
+        Code::ExpContinued => b"5",
     }
 }
 
@@ -115,13 +116,14 @@ impl Machine {
             return Ok(Pace::Moved);
         };
         match self.ready(alloc, name.as_slice())? {
-            Some(Pace::Stands(question)) => {
+            Some(Pace::Stands(ask)) => {
                 self.stack.push(Frame::Catching { name: Some(name) })?;
                 self.end(code, value);
-                Ok(Pace::Stands(question))
+                Ok(Pace::Stands(ask))
             }
-            Some(Pace::Over(verdict)) => Ok(Pace::Over(verdict)),
+            Some(Pace::Over(closing)) => Ok(Pace::Over(closing)),
             Some(Pace::Moved) => Ok(Pace::Moved),
+            Some(Pace::Lost) => Ok(Pace::Lost),
             None => {
                 let pace = self.keep_caught(alloc, name.as_slice(), code, value)?;
                 Ok(pace)
@@ -142,8 +144,8 @@ impl Machine {
         ensures { IfOk result (λ p. Goes (within (length value) self.old.state (all_back self.old.stack Code.Done (digit_of code) (assigned name.now value self.old.state))) self.old.state.known (weight_of self.old + 4) self.new p) }
     {
         if value.len() > LONGEST_VALUE {
-            let verdict = self.cut(alloc, b"value too long")?;
-            return Ok(Pace::Over(verdict));
+            let closing = self.cut(alloc, b"value too long")?;
+            return Ok(Pace::Over(closing));
         }
         let digit = Bytes::from_slice(alloc, digit_of(code))?;
         self.state.assign(alloc, name, value)?;
@@ -168,7 +170,7 @@ impl Machine {
             let message = Bytes::from_slice(alloc, b"foreach varlist is empty")?;
             return Ok(self.fail(alloc, message)?);
         }
-        let values = match elements_in(alloc, values.as_slice())? {
+        let values = match elements_held(alloc, values)? {
             Ok(values) => Queue::new(values.into_vec()),
             Err(message) => return Ok(self.fail(alloc, message)?),
         };

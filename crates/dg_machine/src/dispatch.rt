@@ -8,10 +8,10 @@ ghost use Rattle.dg_machine.specs.Meaning.{all_back, weight_of, budget, Comes, G
 
 use crate::frame::{Frame, Making, Pace};
 use crate::machine::Machine;
+use dg_bytes::{Bytes, Seq, TryCopy};
 use dg_cmds::{CmdFault, run_pure};
-use dg_commands::{bindings, find_builtin, invalid_command, split};
+use dg_forms::{bindings, find_builtin, invalid_command, split};
 use dg_language::{Builtin, Code, Purpose};
-use dg_words::{Bytes, Seq, TryCopy};
 use std::alloc::{AllocError, Global};
 
 /// The first value, or the empty text where there is none.
@@ -45,6 +45,10 @@ impl Machine {
             Builtin::Board(which) => Ok(self.board(alloc, which, args, depth)?),
             Builtin::Target(which) => Ok(self.target(alloc, which, args)?),
             Builtin::Flag(which) => Ok(self.flag(alloc, which, args)?),
+            Builtin::Session(which) => Ok(self.session(alloc, which, args)?),
+            Builtin::Expect => Ok(self.expect(alloc, args, depth)?),
+            Builtin::ExpContinue => Ok(self.exp_continue(alloc, args)?),
+            Builtin::Regexp => Ok(self.regexp(alloc, args)?),
             Builtin::Silent => {
                 self.end(Code::Done, Bytes::new(alloc));
                 Ok(Pace::Moved)
@@ -69,8 +73,8 @@ impl Machine {
             }
             Err(CmdFault::Tcl(message)) => Ok(self.fail(alloc, message)?),
             Err(CmdFault::TooLong) => {
-                let verdict = self.cut(alloc, b"value too long")?;
-                Ok(Pace::Over(verdict))
+                let closing = self.cut(alloc, b"value too long")?;
+                Ok(Pace::Over(closing))
             }
             Err(CmdFault::Memory) => Err(AllocError),
         }
@@ -124,12 +128,13 @@ impl Machine {
         ensures { IfOk result (λ p. Comes (command (evaluate depth) words self.old.state (all_back self.old.stack)) self.old.state.known (weight_of self.old + 2 ^ 250) self.new p) }
     {
         match self.command(alloc, words.as_slice(), depth)? {
-            Pace::Stands(question) => {
+            Pace::Stands(ask) => {
                 self.stack.push(Frame::Running { words, depth })?;
-                Ok(Pace::Stands(question))
+                Ok(Pace::Stands(ask))
             }
             Pace::Moved => Ok(Pace::Moved),
-            Pace::Over(verdict) => Ok(Pace::Over(verdict)),
+            Pace::Over(closing) => Ok(Pace::Over(closing)),
+            Pace::Lost => Ok(Pace::Lost),
         }
     }
 
@@ -146,6 +151,11 @@ impl Machine {
     {
         match making.purpose {
             Purpose::Run => Ok(self.run_command(alloc, making.made, depth)?),
+            Purpose::Expect => {
+                let words = making.made;
+                self.stack.push(Frame::Expecting { words, depth })?;
+                Ok(Pace::Moved)
+            }
             Purpose::Load => {
                 let value = first_or_empty(alloc, making.made.as_slice())?;
                 self.end(Code::Done, value);

@@ -2,12 +2,13 @@
 ghost use Rattle.std.specs.Prelude.{◌≡◌, true, IfOk};
 ghost use Rattle.dg_world.specs.Question.{fits};
 
-use crate::frame::{Control, Frame, Opening, Stack, Stop};
+use crate::frame::{Closing, Control, Frame, Opening, Stack, Stop};
 use crate::machine::Machine;
-use dg_language::State;
+use dg_bytes::Seq;
+use dg_language::{Ask, Close, State};
+use dg_match::Programs;
 use dg_results::Verdict;
-use dg_words::Seq;
-use dg_world::{Answer, Question, Read, TestId};
+use dg_world::{Answer, Read, TestId};
 use std::alloc::{AllocError, Global};
 use std::marker::Model;
 
@@ -39,11 +40,11 @@ impl Drop for Evaluation {
     }
 }
 
-/// The judging of a test, at a question that has no answer yet. A contract sees the question, and
+/// The judging of a test, at a question that has no answer yet. A contract sees what is asked, and
 /// what it sees of an evaluation.
 pub struct Asking {
     test: TestId,
-    question: Question,
+    ask: Ask,
     machine: Machine,
 }
 
@@ -53,9 +54,9 @@ impl Model for Asking {
 
     ghost Value = { AskingView };
 
-    ghost view = { λ a. record { test = a.test; reads = a.machine.state.known; question = a.question; steps = taken a.machine.state } };
+    ghost view = { λ a. record { test = a.test; reads = a.machine.state.known; ask = a.ask; steps = taken a.machine.state } };
 
-    ghost invariant = { λ a. IsAsking a.test a.question a.machine };
+    ghost invariant = { λ a. IsAsking a.test a.ask a.machine };
 }
 
 /// Written by hand, and so one call for whoever lets it go.
@@ -63,7 +64,7 @@ impl Drop for Asking {
     fn drop(self) {
         let Asking {
             test: _,
-            question: _,
+            ask: _,
             machine: _,
         } = self;
     }
@@ -76,7 +77,10 @@ pub struct Ended {
     /// The questions that were answered, in order.
     pub reads: Seq<Read>,
     pub verdict: Verdict,
-    /// The steps that were taken.
+    pub close: Close,
+    /// The steps that the board's file took.
+    pub board_steps: u32,
+    /// All steps that were taken.
     pub steps: u64,
 }
 
@@ -87,6 +91,8 @@ pub enum Arrival {
     AtQuestion(Asking),
     /// All has ended.
     AtEnd(Ended),
+    /// A pattern that was answered as read can't be built.
+    Lost,
 }
 
 impl Evaluation {
@@ -105,6 +111,7 @@ impl Evaluation {
             state: State::new(alloc, test.copy(alloc)?),
             stack,
             control: Control::Go,
+            programs: Programs::new(alloc),
         };
         Ok(Evaluation { test, machine })
     }
@@ -115,19 +122,20 @@ impl Evaluation {
     {
         let Evaluation { test, mut machine } = self;
         match machine.run_on(alloc)? {
-            Stop::AtQuestion(question) => Ok(Arrival::AtQuestion(Asking {
-                test,
-                question,
-                machine,
-            })),
-            Stop::AtEnd(verdict) => {
+            Stop::AtQuestion(ask) => Ok(Arrival::AtQuestion(Asking { test, ask, machine })),
+            Stop::Lost => Ok(Arrival::Lost),
+            Stop::AtEnd(closing) => {
+                let Closing { verdict, close } = closing;
                 let state = machine.into_state();
+                let board_steps = state.board_steps();
                 let steps = state.steps();
                 let reads = state.into_reads()?;
                 Ok(Arrival::AtEnd(Ended {
                     test,
                     reads,
                     verdict,
+                    close,
+                    board_steps,
                     steps,
                 }))
             }
@@ -138,12 +146,13 @@ impl Evaluation {
 impl Asking {
     ghost use Rattle.dg_machine.specs.Evaluating.{NeedsNext, answered};
 
-    /// The question that stands. It is the one that the judging needs next.
-    pub fn question(&self) -> &Question
-        ensures question { result.now ≡ self.now.question }
-        ensures next { NeedsNext self.now.test self.now.reads self.now.question }
+    /// What is asked: the question that the judging needs next, and where that is an entry of a session the action that
+    /// it is to answer.
+    pub fn ask(&self) -> &Ask
+        ensures ask { result.now ≡ self.now.ask }
+        ensures next { NeedsNext self.now.test self.now.reads self.now.ask }
     {
-        &self.question
+        &self.ask
     }
 
     /// The steps that were taken.
@@ -155,15 +164,15 @@ impl Asking {
 
     /// Goes on with an answer of the question's kind.
     pub fn tell(self, answer: Answer) -> Result<Evaluation, AllocError>
-        requires { fits self.question answer ≡ true }
+        requires { fits self.ask.question answer ≡ true }
         ensures { IfOk result (λ e. e ≡ answered self answer) }
     {
         let Asking {
             test,
-            question,
+            ask,
             mut machine,
         } = self;
-        machine.state.learn(question, answer)?;
+        machine.state.learn(ask.question, answer)?;
         Ok(Evaluation { test, machine })
     }
 }

@@ -12,14 +12,15 @@ ghost use Rattle.dg_machine.specs.Meaning.{all_back, weight_of, Goes};
 
 use crate::frame::{Calculation, Frame, Making, Pace, Stack};
 use crate::machine::Machine;
-use dg_commands::{
+use dg_bytes::{Bytes, Seq};
+use dg_expr::{Infix, Instruction, Prefix, truth_text};
+use dg_forms::{
     code_of, in_decimal, operand_of, split, syntax_error, truth_in, value_behind, value_between,
     with_spaces,
 };
-use dg_expr::{Infix, Instruction, Prefix, truth_text};
 use dg_language::{Code, Purpose};
 use dg_scope::LONGEST_VALUE;
-use dg_words::{Bytes, Parts, Seq};
+use dg_words::Parts;
 use std::alloc::{AllocError, Global};
 
 /// Takes the value on top.
@@ -286,7 +287,7 @@ impl Machine {
                 let passed = calculation.passed;
                 Ok(self.put_value(calculation, value, passed)?)
             }
-            Code::Failed | Code::Returned | Code::Broken | Code::Continued => {
+            Code::Failed | Code::Returned | Code::Broken | Code::Continued | Code::ExpContinued => {
                 Ok(self.go_up(code, value))
             }
         }
@@ -329,8 +330,8 @@ impl Machine {
         };
         let text = with_spaces(alloc, first.as_slice(), others)?;
         if text.len() > LONGEST_VALUE {
-            let verdict = self.cut(alloc, b"value too long")?;
-            return Ok(Pace::Over(verdict));
+            let closing = self.cut(alloc, b"value too long")?;
+            return Ok(Pace::Over(closing));
         }
         self.stack.push(Frame::Writing)?;
         Ok(self.calculate(alloc, text.as_slice(), depth)?)

@@ -1,11 +1,13 @@
 //! What stands round an evaluation.
 ghost use Rattle.std.specs.Prelude.{◌≡◌, [], ◌∷◌, OnOk, MatchOption};
 
+use crate::patterns::Prepared;
 use crate::script::{Body, Script};
+use dg_bytes::{Bytes, Seq};
 use dg_expr::Instruction;
-use dg_language::{Clause, Code, Purpose, Queue, Substitution};
+use dg_language::{Ask, Clause, Close, Code, Pair, Purpose, Queue, Substitution};
 use dg_results::Verdict;
-use dg_words::{Bytes, Seq};
+use dg_transcript::{Action, Entry};
 use dg_world::Question;
 use std::alloc::{AllocError, Global};
 use std::marker::Model;
@@ -85,6 +87,105 @@ pub(crate) struct Repetition {
     /// The most tests that are left.
     pub left: u32,
     pub depth: u32,
+}
+
+/// What is done with the entry that answers an action.
+#[derive(Drop)]
+pub(crate) enum After {
+    /// The session that was started by these words gets a name in `spawn_id`.
+    Spawned(Seq<Bytes>),
+    /// A call that failed is an error.
+    Reported,
+    /// The child is waited for.
+    ToWait,
+    /// The value of `wait` tells how the child ended.
+    Waited,
+}
+
+/// An action on a session, which goes on from entry to entry of its record.
+#[derive(Drop)]
+pub(crate) struct Acting {
+    pub session: u32,
+    pub action: Action,
+    pub after: After,
+}
+
+/// How far a round of `expect` is.
+#[derive(Clone, Copy, Debug, PartialEq, Eq)]
+pub(crate) enum Reach {
+    /// It begins: what was read is tried.
+    Trying,
+    /// The session is read, for so many milliseconds at most.
+    Reading(u32),
+    /// An action is evaluated.
+    InAction,
+}
+
+/// What `expect` waits for.
+#[derive(Drop)]
+pub(crate) struct Wait {
+    pub session: u32,
+    pub pairs: Prepared,
+    /// The limit of a round in milliseconds.
+    pub limit: u32,
+    /// The most rounds that are left.
+    pub left: u32,
+    pub depth: u32,
+}
+
+/// An `expect` whose limit is not known yet.
+#[derive(Drop)]
+pub(crate) struct Limiting {
+    /// The value of `-timeout`.
+    pub timeout: Option<Bytes>,
+    pub session: u32,
+    pub pairs: Seq<Pair>,
+    pub depth: u32,
+}
+
+/// An `expect` whose `-re` patterns are not known yet.
+#[derive(Drop)]
+pub(crate) struct Compiling {
+    pub session: u32,
+    pub pairs: Seq<Pair>,
+    /// The limit of a round in milliseconds.
+    pub limit: u32,
+    pub depth: u32,
+}
+
+/// What a session has to be for a call.
+#[derive(Clone, Copy, Debug, PartialEq, Eq)]
+pub(crate) enum Fit {
+    /// Neither closed nor ended.
+    Open,
+    /// Started.
+    Started,
+    /// Started, and not waited for.
+    Waitable,
+}
+
+/// The session of a command.
+#[derive(Drop)]
+pub(crate) enum Sought {
+    /// The session of this number.
+    Session(u32),
+    /// There is none, or a question stands: this comes instead.
+    Instead(Pace),
+}
+
+/// What an action on a session comes to at its next entry.
+#[derive(Drop)]
+pub(crate) enum Came {
+    /// The entry is not known yet.
+    Stands(Ask),
+    /// The whole test has ended.
+    Over(Closing),
+    /// The entry was passed over, and the next one is wanted.
+    Passed,
+    /// This entry has answered.
+    Answered(Entry),
+    /// The limit has passed.
+    Late,
 }
 
 /// What is opened for a test, in this order.
@@ -168,6 +269,37 @@ pub(crate) enum Frame {
     Repeating {
         repetition: Repetition,
     },
+    /// An action on a session.
+    Acting {
+        acting: Acting,
+    },
+    /// A session that has started gets its name in `spawn_id`.
+    Naming {
+        session: u32,
+    },
+    /// `expect` with these words.
+    Expecting {
+        words: Seq<Bytes>,
+        depth: u32,
+    },
+    /// The limit of an `expect` is sought.
+    Limiting {
+        limiting: Limiting,
+    },
+    /// The `-re` patterns of an `expect` are asked for.
+    Compiling {
+        compiling: Compiling,
+    },
+    /// An `expect` waits, or an action of it is evaluated.
+    Awaiting {
+        reach: Reach,
+        wait: Wait,
+    },
+    /// These names get these texts, which `regexp` has found.
+    Giving {
+        names: Queue<Bytes>,
+        values: Queue<Bytes>,
+    },
 }
 
 /// Whether the inmost frame is to go on, or gets what ended inside of it.
@@ -177,24 +309,35 @@ pub(crate) enum Control {
     Ended { code: Code, value: Bytes },
 }
 
+/// How an evaluation has ended: its lines, and whether it came to its end.
+#[derive(Drop)]
+pub(crate) struct Closing {
+    pub verdict: Verdict,
+    pub close: Close,
+}
+
 /// What one move of a machine came to.
 #[derive(Drop)]
 pub(crate) enum Pace {
     /// There is more to do.
     Moved,
-    /// This question has no answer yet; nothing was changed.
-    Stands(Question),
-    /// All has ended with this verdict.
-    Over(Verdict),
+    /// This question has no answer yet. Globals may have begun; nothing else was changed.
+    Stands(Ask),
+    /// All has ended like this.
+    Over(Closing),
+    /// A pattern that was answered as read can't be built.
+    Lost,
 }
 
 /// Where a machine comes to by itself.
 #[derive(Drop)]
 pub(crate) enum Stop {
     /// This question has no answer yet.
-    AtQuestion(Question),
-    /// All has ended with this verdict.
-    AtEnd(Verdict),
+    AtQuestion(Ask),
+    /// All has ended like this.
+    AtEnd(Closing),
+    /// A pattern that was answered as read can't be built.
+    Lost,
 }
 
 /// Values of which the last that was put is on top. A contract sees the top first.

@@ -11,10 +11,10 @@ ghost use Rattle.dg_machine.specs.Meaning.{all_back, weight_of, making_on, makin
 use crate::frame::{Frame, Making, Pace};
 use crate::machine::Machine;
 use crate::variables::push_all;
-use dg_commands::{cannot_read, elements_in};
+use dg_bytes::{Bytes, TryCopy};
+use dg_forms::{cannot_read, elements_in};
 use dg_language::Substitution;
 use dg_scope::LONGEST_VALUE;
-use dg_words::Bytes;
 use std::alloc::{AllocError, Global};
 use std::mem;
 
@@ -87,8 +87,8 @@ impl Machine {
     {
         let length = value.len();
         if length > LONGEST_VALUE || making.text.len() > LONGEST_VALUE - length {
-            let verdict = self.cut(alloc, b"value too long")?;
-            return Ok(Pace::Over(verdict));
+            let closing = self.cut(alloc, b"value too long")?;
+            return Ok(Pace::Over(closing));
         }
         add_text(&mut making.text, value)?;
         self.stack.push(Frame::Gathering { making, depth })?;
@@ -111,7 +111,7 @@ impl Machine {
             let pace = self.fail(alloc, message)?;
             return Ok(pace);
         };
-        let value = Bytes::from_slice(alloc, value)?;
+        let value = value.copy(alloc)?;
         let pace = self.add_value(alloc, making, value, depth)?;
         Ok(pace)
     }
@@ -128,10 +128,10 @@ impl Machine {
         ensures { IfOk result (λ p. Comes (touch name self.old.state (λ s. reading making depth name s (all_back self.old.stack))) self.old.state.known (weight_of self.old + budget making.purpose + 8 + 4 * length making.left) self.new p) }
     {
         match self.ready(alloc, name.as_slice())? {
-            Some(Pace::Stands(question)) => {
+            Some(Pace::Stands(ask)) => {
                 making.left.push_front(Substitution::Variable(name))?;
                 self.stack.push(Frame::Gathering { making, depth })?;
-                Ok(Pace::Stands(question))
+                Ok(Pace::Stands(ask))
             }
             Some(pace) => Ok(pace),
             None => Ok(self.add_variable(alloc, making, name.as_slice(), depth)?),
@@ -152,11 +152,11 @@ impl Machine {
     {
         let whole = element(alloc, name.as_slice(), making.text.as_slice())?;
         match self.ready(alloc, whole.as_slice())? {
-            Some(Pace::Stands(question)) => {
+            Some(Pace::Stands(ask)) => {
                 making.outer.push((name, before))?;
                 making.left.push_front(Substitution::IndexEnds)?;
                 self.stack.push(Frame::Gathering { making, depth })?;
-                Ok(Pace::Stands(question))
+                Ok(Pace::Stands(ask))
             }
             Some(pace) => Ok(pace),
             None => {

@@ -1,22 +1,28 @@
 //! The machine that runs scripts: a stack of frames, and its moves.
 #![tactic(auto)]
 
+mod acting;
 mod boards;
 mod choices;
 mod control;
 mod dispatch;
 mod evaluation;
+mod expecting;
 mod expressions;
 mod frame;
 mod gather;
 mod machine;
+mod matches;
 mod opening;
+mod patterns;
 mod procedures;
 mod reading;
+mod regexp;
 mod repeats;
 mod results;
 mod rounds;
 mod script;
+mod sessions;
 mod step;
 mod targets;
 mod variables;

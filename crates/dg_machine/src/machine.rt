@@ -1,19 +1,20 @@
 //! A stopped evaluation, and how its commands begin and end.
 ghost use Rattle.std.specs.Prelude.{◌≡◌, ◌+◌, ◌*◌, ◌^◌, ◌<◌, ◌≤◌, ◌∷◌, ◌++◌, [], length, IfOk, codes, OnOk, MatchOption, ℕ, List};
 ghost use Rattle.std.specs.Option.{option_copied};
-ghost use Rattle.dg_language.specs.Evaluation.{cut, fail, wrong_count};
-ghost use Rattle.dg_language.specs.State.{taken};
+ghost use Rattle.dg_language.specs.Evaluation.{cut, out_of_steps, fail, wrong_count};
+ghost use Rattle.dg_language.specs.Play.{Ends};
 ghost use Rattle.dg_language.specs.Variables.{store};
 ghost use Rattle.dg_language.specs.Language.{commands_at, sequence, evaluate};
 ghost use Rattle.dg_machine.specs.Meaning.{all_back, weight_of, ends_with, Begins, Goes, Readies};
 
-use crate::frame::{Control, Frame, Making, Pace, Stack};
+use crate::frame::{Closing, Control, Frame, Making, Pace, Stack};
 use crate::script::{Begun, Script};
-use dg_commands::wrong_count;
-use dg_language::{Code, Purpose, Queue, State, Substitution, Touch};
-use dg_results::Verdict;
+use dg_bytes::{Bytes, Seq, TryCopy};
+use dg_forms::wrong_count;
+use dg_language::{Ask, Close, Code, Purpose, Queue, State, Substitution, Touch};
+use dg_match::Programs;
 use dg_scope::LONGEST_VALUE;
-use dg_words::{Bytes, Seq, TryCopy, fault_text};
+use dg_words::fault_text;
 use std::alloc::{AllocError, Global};
 
 /// A stopped evaluation.
@@ -21,6 +22,8 @@ pub(crate) struct Machine {
     pub state: State,
     pub stack: Stack<Frame>,
     pub control: Control,
+    /// The `-re` patterns that were built.
+    pub programs: Programs,
 }
 
 /// Written by hand, and so one call for whoever lets a machine go.
@@ -30,6 +33,7 @@ impl Drop for Machine {
             state: _,
             stack: _,
             control: _,
+            programs: _,
         } = self;
     }
 }
@@ -43,19 +47,38 @@ impl Machine {
             state,
             stack: _,
             control: _,
+            programs: _,
         } = self;
         state
     }
 
     /// A limit ends the evaluation as an error does.
     #[tactic(auto, unfolding(dg_language::specs::Evaluation::cut, dg_language::specs::Evaluation::aborted))]
-    pub(crate) fn cut(&mut self, alloc: Global, why: &[u8]) -> Result<Verdict, AllocError>
-        ensures ends { IfOk result (λ v. cut why.now self.old.state ≡ ends_with v (taken self.old.state)) }
+    pub(crate) fn cut(&mut self, alloc: Global, why: &[u8]) -> Result<Closing, AllocError>
+        ensures ends { IfOk result (λ c. cut why.now self.old.state ≡ ends_with c self.old.state) }
         ensures same { self.new ≡ self.old }
     {
         let judging = self.state.judged(alloc)?;
-        let verdict = judging.abort(alloc, self.state.test().script.as_slice(), why)?;
-        Ok(verdict)
+        let verdict = judging.abort(alloc, self.state.test().script().as_slice(), why)?;
+        Ok(Closing {
+            verdict,
+            close: Close::Aborted,
+        })
+    }
+
+    /// No step is left, which ends the evaluation as an error does.
+    #[tactic(auto, unfolding(dg_language::specs::Evaluation::out_of_steps))]
+    pub(crate) fn out_of_steps(&mut self, alloc: Global) -> Result<Closing, AllocError>
+        ensures ends { IfOk result (λ c. Ends (out_of_steps self.old.state) ≡ ends_with c self.old.state) }
+        ensures same { self.new ≡ self.old }
+    {
+        let judging = self.state.judged(alloc)?;
+        let name = self.state.test().script().as_slice();
+        let verdict = judging.abort(alloc, name, b"step limit reached")?;
+        Ok(Closing {
+            verdict,
+            close: Close::OutOfSteps,
+        })
     }
 
     /// An evaluation has ended with this code and value.
@@ -72,8 +95,8 @@ impl Machine {
         ensures { IfOk result (λ p. Goes (fail message self.old.state (all_back self.old.stack)) self.old.state.known (weight_of self.old + 2) self.new p) }
     {
         if message.len() > LONGEST_VALUE {
-            let verdict = self.cut(alloc, b"value too long")?;
-            return Ok(Pace::Over(verdict));
+            let closing = self.cut(alloc, b"value too long")?;
+            return Ok(Pace::Over(closing));
         }
         self.end(Code::Failed, message);
         Ok(Pace::Moved)
@@ -96,10 +119,10 @@ impl Machine {
     {
         match self.state.touch(alloc, name)? {
             Touch::Ready => Ok(None),
-            Touch::Asking(question) => Ok(Some(Pace::Stands(question))),
+            Touch::Asking(question) => Ok(Some(Pace::Stands(Ask::plain(question)))),
             Touch::TooLong => {
-                let verdict = self.cut(alloc, b"value too long")?;
-                Ok(Some(Pace::Over(verdict)))
+                let closing = self.cut(alloc, b"value too long")?;
+                Ok(Some(Pace::Over(closing)))
             }
         }
     }
@@ -116,8 +139,8 @@ impl Machine {
         ensures { IfOk result (λ p. Goes (store name.now value self.old.state (all_back self.old.stack)) self.old.state.known (weight_of self.old + 2) self.new p) }
     {
         if value.len() > LONGEST_VALUE {
-            let verdict = self.cut(alloc, b"value too long")?;
-            return Ok(Pace::Over(verdict));
+            let closing = self.cut(alloc, b"value too long")?;
+            return Ok(Pace::Over(closing));
         }
         self.state.assign(alloc, name, value.copy(alloc)?)?;
         self.end(Code::Done, value);
@@ -170,8 +193,8 @@ impl Machine {
             }
             Some(Begun::Steps(left)) => {
                 if !self.state.has_step() {
-                    let verdict = self.cut(alloc, b"step limit reached")?;
-                    return Ok(Pace::Over(verdict));
+                    let closing = self.out_of_steps(alloc)?;
+                    return Ok(Pace::Over(closing));
                 }
                 self.state.take_step();
                 self.begin_command(alloc, commands, left, depth)?;
@@ -191,8 +214,8 @@ impl Machine {
         ensures { IfOk result (λ p. (text : List ℕ) → commands ≡ commands_at text 0 → Goes (evaluate depth text self.old.state (all_back self.old.stack)) self.old.state.known (weight_of self.old + 4) self.new p) }
     {
         if depth == 0 {
-            let verdict = self.cut(alloc, b"too many nested evaluations")?;
-            return Ok(Pace::Over(verdict));
+            let closing = self.cut(alloc, b"too many nested evaluations")?;
+            return Ok(Pace::Over(closing));
         }
         self.stack.push(Frame::Sequence {
             commands,

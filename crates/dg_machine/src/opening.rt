@@ -9,9 +9,9 @@ ghost use Rattle.dg_machine.specs.Opening.{open_next, opening_weight, Holds};
 use crate::frame::{FileText, Frame, Opening, Pace};
 use crate::machine::Machine;
 use crate::step::outside;
-use dg_commands::{board_file, content_of, no_such_script, tool_library, tool_of};
-use dg_language::Code;
-use dg_words::{Bytes, TryCopy};
+use dg_bytes::{Bytes, TryCopy};
+use dg_forms::{board_file, content_of, no_such_script, tool_library, tool_of};
+use dg_language::{Ask, Code};
 use dg_world::{Name, Question, is_name};
 use std::alloc::{AllocError, Global};
 
@@ -40,7 +40,7 @@ impl Machine {
             return Ok(Pace::Moved);
         }
         match self.text_of(alloc, &Name::from_valid(name))? {
-            FileText::Unanswered(question) => Ok(Pace::Stands(question)),
+            FileText::Unanswered(question) => Ok(Pace::Stands(Ask::plain(question))),
             FileText::Known(None) => {
                 self.stack.push(Frame::Opening { what: next })?;
                 Ok(Pace::Moved)
@@ -72,7 +72,7 @@ impl Machine {
     {
         let question = Question::Tool;
         let Some(answer) = self.state.answer_to(&question) else {
-            return Ok(Pace::Stands(question));
+            return Ok(Pace::Stands(Ask::plain(question)));
         };
         let name = tool_library(alloc, tool_of(answer))?;
         self.state.mark(alloc, name.as_slice())?;
@@ -87,10 +87,10 @@ impl Machine {
         requires { self.old.control ≡ Control.Go }
         ensures { IfOk result (Opens open_script (opening_weight Opening.Script) self.old self.new) }
     {
-        match self.text_of(alloc, &self.state.test().script)? {
-            FileText::Unanswered(question) => Ok(Pace::Stands(question)),
+        match self.text_of(alloc, self.state.test().script())? {
+            FileText::Unanswered(question) => Ok(Pace::Stands(Ask::plain(question))),
             FileText::Known(None) => {
-                let message = no_such_script(alloc, self.state.test().script.as_slice())?;
+                let message = no_such_script(alloc, self.state.test().script().as_slice())?;
                 Ok(self.fail(alloc, message)?)
             }
             FileText::Known(Some(text)) => Ok(self.enter(alloc, text, DEPTH)?),
@@ -104,7 +104,7 @@ impl Machine {
     {
         match what {
             Opening::Board => {
-                let name = board_file(alloc, self.state.test().board.as_slice())?;
+                let name = board_file(alloc, self.state.test().board().as_slice())?;
                 Ok(self.open_first(alloc, name, Opening::AfterBoard)?)
             }
             Opening::AfterBoard => Ok(self.leave_board(alloc)?),
@@ -124,12 +124,13 @@ impl Machine {
         ensures { IfOk result (λ p. Comes (open_next what self.old.state (all_back self.old.stack)) self.old.state.known (weight_of self.old + opening_weight what) self.new p) }
     {
         match self.open_next(alloc, &what)? {
-            Pace::Stands(question) => {
+            Pace::Stands(ask) => {
                 self.stack.push(Frame::Opening { what })?;
-                Ok(Pace::Stands(question))
+                Ok(Pace::Stands(ask))
             }
             Pace::Moved => Ok(Pace::Moved),
-            Pace::Over(verdict) => Ok(Pace::Over(verdict)),
+            Pace::Over(closing) => Ok(Pace::Over(closing)),
+            Pace::Lost => Ok(Pace::Lost),
         }
     }
 
@@ -151,7 +152,7 @@ impl Machine {
                 self.stack.push(Frame::Opening { what: next })?;
                 Ok(Pace::Moved)
             }
-            Code::Failed | Code::Returned | Code::Broken | Code::Continued => {
+            Code::Failed | Code::Returned | Code::Broken | Code::Continued | Code::ExpContinued => {
                 Ok(self.go_up(code, value))
             }
         }

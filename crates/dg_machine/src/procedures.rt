@@ -8,9 +8,9 @@ ghost use Rattle.dg_machine.specs.Meaning.{all_back, weight_of, Goes};
 
 use crate::frame::{Frame, Pace};
 use crate::machine::Machine;
-use dg_commands::{is_too_long, parameters_of, three};
+use dg_bytes::{Bytes, Seq, TryCopy};
+use dg_forms::{is_too_long, parameters_of, three};
 use dg_language::{Binding, Code, Procedure};
-use dg_words::{Bytes, Seq, TryCopy};
 use std::alloc::{AllocError, Global};
 
 impl Machine {
@@ -57,8 +57,8 @@ impl Machine {
             return Ok(pace);
         };
         if is_too_long(bindings.as_slice()) {
-            let verdict = self.cut(alloc, b"value too long")?;
-            return Ok(Pace::Over(verdict));
+            let closing = self.cut(alloc, b"value too long")?;
+            return Ok(Pace::Over(closing));
         }
         self.state.enter(alloc, bindings)?;
         self.stack.push(Frame::Calling)?;

@@ -6,9 +6,9 @@ ghost use Rattle.dg_machine.specs.Meaning.{RunsAs};
 
 use crate::frame::Pace;
 use crate::machine::Machine;
-use dg_commands::cannot_read;
+use dg_bytes::TryCopy;
+use dg_forms::cannot_read;
 use dg_language::Code;
-use dg_words::Bytes;
 use std::alloc::{AllocError, Global};
 
 impl Machine {
@@ -26,7 +26,7 @@ impl Machine {
             let pace = self.fail(alloc, message)?;
             return Ok(pace);
         };
-        let value = Bytes::from_slice(alloc, value)?;
+        let value = value.copy(alloc)?;
         self.end(Code::Done, value);
         Ok(Pace::Moved)
     }

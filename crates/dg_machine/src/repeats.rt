@@ -10,9 +10,9 @@ ghost use Rattle.dg_machine.specs.Meaning.{all_back, weight_of, Goes};
 use crate::frame::{Frame, Pace, Repetition, Stage};
 use crate::machine::Machine;
 use crate::script::Body;
-use dg_commands::{four, truth_in, two};
+use dg_bytes::{Bytes, TryCopy};
+use dg_forms::{four, truth_in, two};
 use dg_language::{Code, STEPS};
-use dg_words::{Bytes, TryCopy};
 use std::alloc::{AllocError, Global};
 
 impl Machine {
@@ -23,8 +23,8 @@ impl Machine {
         ensures { IfOk result (λ p. Goes (next_test repetition self.old.state (all_back self.old.stack)) self.old.state.known (weight_of self.old + 5) self.new p) }
     {
         if repetition.left == 0 || !self.state.has_step() {
-            let verdict = self.cut(alloc, b"step limit reached")?;
-            return Ok(Pace::Over(verdict));
+            let closing = self.out_of_steps(alloc)?;
+            return Ok(Pace::Over(closing));
         }
         self.state.take_step();
         repetition.left -= 1;
@@ -87,7 +87,7 @@ impl Machine {
     {
         match code {
             Code::Done => Ok(self.next_test(alloc, repetition)?),
-            Code::Failed | Code::Returned | Code::Broken | Code::Continued => {
+            Code::Failed | Code::Returned | Code::Broken | Code::Continued | Code::ExpContinued => {
                 Ok(self.go_up(code, value))
             }
         }
@@ -110,7 +110,7 @@ impl Machine {
                 Ok(holds) => Ok(self.repeat_if(alloc, repetition, holds)?),
                 Err(message) => Ok(self.fail(alloc, message)?),
             },
-            Code::Failed | Code::Returned | Code::Broken | Code::Continued => {
+            Code::Failed | Code::Returned | Code::Broken | Code::Continued | Code::ExpContinued => {
                 Ok(self.go_up(code, value))
             }
         }
@@ -131,7 +131,7 @@ impl Machine {
         match code {
             Code::Done | Code::Continued => Ok(self.next_script(alloc, repetition)?),
             Code::Broken => Ok(self.go_up(Code::Done, Bytes::new(alloc))),
-            Code::Failed | Code::Returned => { Ok(self.go_up(code, value)) }
+            Code::Failed | Code::Returned | Code::ExpContinued => Ok(self.go_up(code, value)),
         }
     }
 
@@ -150,7 +150,9 @@ impl Machine {
         match code {
             Code::Done => Ok(self.next_test(alloc, repetition)?),
             Code::Broken => Ok(self.go_up(Code::Done, Bytes::new(alloc))),
-            Code::Failed | Code::Returned | Code::Continued => { Ok(self.go_up(code, value)) }
+            Code::Failed | Code::Returned | Code::Continued | Code::ExpContinued => {
+                Ok(self.go_up(code, value))
+            }
         }
     }
 

@@ -7,9 +7,9 @@ ghost use Rattle.dg_machine.specs.Meaning.{all_back, weight_of, Goes};
 
 use crate::frame::Pace;
 use crate::machine::Machine;
-use dg_commands::{call_of, count_of, name_of, only, split, takes_count};
+use dg_bytes::{Bytes, TryCopy};
+use dg_forms::{call_of, count_of, name_of, only, split, takes_count};
 use dg_language::{Code, ResultCommand};
-use dg_words::{Bytes, TryCopy};
 use std::alloc::{AllocError, Global};
 
 impl Machine {

@@ -8,9 +8,9 @@ ghost use Rattle.dg_machine.specs.Meaning.{all_back, weight_of, looping, next_ro
 
 use crate::frame::{Frame, Pace, Rounds};
 use crate::machine::Machine;
+use dg_bytes::{Bytes, Seq, TryCopy};
 use dg_language::{Code, Queue};
 use dg_scope::LONGEST_VALUE;
-use dg_words::{Bytes, Seq, TryCopy};
 use std::alloc::{AllocError, Global};
 
 impl Machine {
@@ -29,8 +29,8 @@ impl Machine {
             return Ok(Pace::Moved);
         }
         if rounds.left == 0 || !self.state.has_step() {
-            let verdict = self.cut(alloc, b"step limit reached")?;
-            return Ok(Pace::Over(verdict));
+            let closing = self.out_of_steps(alloc)?;
+            return Ok(Pace::Over(closing));
         }
         self.state.take_step();
         let _count = rounds.names.len();
@@ -69,8 +69,8 @@ impl Machine {
     {
         let value = take_first(alloc, &mut rounds.values);
         if value.len() > LONGEST_VALUE {
-            let verdict = self.cut(alloc, b"value too long")?;
-            return Ok(Pace::Over(verdict));
+            let closing = self.cut(alloc, b"value too long")?;
+            return Ok(Pace::Over(closing));
         }
         self.state.assign(alloc, name, value)?;
         rounds.given = Some(at + 1);
@@ -96,12 +96,13 @@ impl Machine {
         }
         let name = name_at(alloc, &rounds.names, at)?;
         match self.ready(alloc, name.as_slice())? {
-            Some(Pace::Stands(question)) => {
+            Some(Pace::Stands(ask)) => {
                 self.stack.push(Frame::Looping { rounds })?;
-                Ok(Pace::Stands(question))
+                Ok(Pace::Stands(ask))
             }
-            Some(Pace::Over(verdict)) => Ok(Pace::Over(verdict)),
+            Some(Pace::Over(closing)) => Ok(Pace::Over(closing)),
             Some(Pace::Moved) => Ok(Pace::Moved),
+            Some(Pace::Lost) => Ok(Pace::Lost),
             None => {
                 let pace = self.give_value(alloc, rounds, at, name.as_slice())?;
                 Ok(pace)
@@ -121,7 +122,7 @@ fn name_at(alloc: Global, names: &Seq<Bytes>, at: usize) -> Result<Bytes, AllocE
 }
 
 /// The first value that is left, or nothing where there is none.
-fn take_first(alloc: Global, values: &mut Queue<Bytes>) -> Bytes
+pub(crate) fn take_first(alloc: Global, values: &mut Queue<Bytes>) -> Bytes
     ensures first { result ≡ head_or_empty values.old }
     ensures others { values.new ≡ behind_first values.old }
 {

@@ -3,9 +3,10 @@ ghost use Rattle.std.specs.Prelude.{◌≡◌, ◌++◌, ◌∷◌, [], ◌≤�
 ghost use Rattle.dg_language.specs.Language.{commands_at};
 ghost use Rattle.dg_machine.specs.Script.{Begins, Reads, Takes};
 
-use dg_commands::steps_of;
+use dg_bytes::{Bytes, Seq, TryCopy};
+use dg_forms::steps_of;
 use dg_language::{Command, Queue, Substitution};
-use dg_words::{Bytes, Parsed, Seq, TryCopy, Word, WordFault, parse_command};
+use dg_words::{Parsed, Word, WordFault, parse_command};
 use std::alloc::{AllocError, Global};
 use std::marker::Model;
 use std::sync::Arc;

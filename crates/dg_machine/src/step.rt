@@ -4,17 +4,16 @@ ghost use Rattle.dg_language.specs.Control.{each};
 ghost use Rattle.dg_language.specs.Evaluation.{outside, if_done, loop_after};
 ghost use Rattle.dg_language.specs.Language.{sequence, evaluate};
 ghost use Rattle.dg_language.specs.Judge.{finish, close};
-ghost use Rattle.dg_language.specs.State.{departed, taken};
+ghost use Rattle.dg_language.specs.State.{departed};
 ghost use Rattle.dg_machine.specs.declared.frame.Control.{Control};
 ghost use Rattle.dg_machine.specs.Meaning.{all_back, back, go, rest, weight_of, budget, frame_weight, ends_with, looping, next_round, making_with, outside_code, outside_value, Comes, ComesTo, Goes};
 
-use crate::frame::{Control, Frame, Making, Pace, Rounds, Stop};
+use crate::frame::{Closing, Control, Frame, Making, Pace, Rounds, Stop};
 use crate::machine::Machine;
 use crate::script::Script;
-use dg_commands::outside_of_a_loop;
-use dg_language::Code;
-use dg_results::Verdict;
-use dg_words::Bytes;
+use dg_bytes::Bytes;
+use dg_forms::outside_of_a_loop;
+use dg_language::{Close, Code};
 use std::alloc::{AllocError, Global};
 use std::mem;
 
@@ -27,6 +26,10 @@ pub(crate) fn outside(alloc: Global, code: Code, value: Bytes) -> Result<(Code, 
         Code::Failed => Ok((Code::Failed, value)),
         Code::Broken => Ok((Code::Failed, outside_of_a_loop(alloc, b"break")?)),
         Code::Continued => Ok((Code::Failed, outside_of_a_loop(alloc, b"continue")?)),
+        Code::ExpContinued => {
+            let message = Bytes::from_slice(alloc, b"exp_continue outside of expect")?;
+            Ok((Code::Failed, message))
+        }
     }
 }
 
@@ -59,6 +62,13 @@ impl Machine {
                 Ok(self.unset_next(alloc, complains, names)?)
             }
             Frame::Calculating { calculation } => Ok(self.compute(alloc, calculation)?),
+            Frame::Acting { acting } => Ok(self.act(alloc, acting)?),
+            Frame::Naming { session } => Ok(self.name_session(alloc, session)?),
+            Frame::Expecting { words, depth } => Ok(self.expect_words(alloc, words, depth)?),
+            Frame::Limiting { limiting } => Ok(self.seek_limit(alloc, limiting)?),
+            Frame::Compiling { compiling } => Ok(self.compile(alloc, compiling)?),
+            Frame::Awaiting { reach, wait } => Ok(self.await_output(alloc, reach, wait)?),
+            Frame::Giving { names, values } => Ok(self.give_parts(alloc, names, values)?),
         }
     }
 
@@ -97,7 +107,7 @@ impl Machine {
     {
         match code {
             Code::Done => Ok(self.sequence(alloc, commands, value, depth)?),
-            Code::Failed | Code::Returned | Code::Broken | Code::Continued => {
+            Code::Failed | Code::Returned | Code::Broken | Code::Continued | Code::ExpContinued => {
                 Ok(self.go_up(code, value))
             }
         }
@@ -117,7 +127,7 @@ impl Machine {
     {
         match code {
             Code::Done => Ok(self.add_value(alloc, making, value, depth)?),
-            Code::Failed | Code::Returned | Code::Broken | Code::Continued => {
+            Code::Failed | Code::Returned | Code::Broken | Code::Continued | Code::ExpContinued => {
                 Ok(self.go_up(code, value))
             }
         }
@@ -150,7 +160,7 @@ impl Machine {
         match code {
             Code::Done | Code::Continued => Ok(self.next_round(alloc, rounds)?),
             Code::Broken => Ok(self.go_up(Code::Done, Bytes::new(alloc))),
-            Code::Failed | Code::Returned => Ok(self.go_up(code, value)),
+            Code::Failed | Code::Returned | Code::ExpContinued => Ok(self.go_up(code, value)),
         }
     }
 
@@ -190,24 +200,40 @@ impl Machine {
             Frame::Writing => Ok(self.write_value(alloc, code, value)?),
             Frame::Choosing { choice } => Ok(self.after_condition(alloc, choice, code, value)?),
             Frame::Repeating { repetition } => Ok(self.repeat(alloc, repetition, code, value)?),
+            Frame::Acting { acting: _ }
+            | Frame::Naming { session: _ }
+            | Frame::Expecting { words: _, depth: _ }
+            | Frame::Limiting { limiting: _ }
+            | Frame::Compiling { compiling: _ }
+            | Frame::Giving {
+                names: _,
+                values: _,
+            } => Ok(self.go_up(code, value)),
+            Frame::Awaiting { reach: _, wait } => Ok(self.after_action(alloc, wait, code, value)?),
         }
     }
 
     /// All has ended.
     #[tactic(auto, unfolding(dg_language::specs::Evaluation::ended, dg_language::specs::Evaluation::aborted))]
-    fn finish(&mut self, alloc: Global, code: Code, value: Bytes) -> Result<Verdict, AllocError>
-        ensures ends { IfOk result (λ v. finish code value self.old.state ≡ ends_with v (taken self.old.state)) }
+    fn finish(&mut self, alloc: Global, code: Code, value: Bytes) -> Result<Closing, AllocError>
+        ensures ends { IfOk result (λ c. finish code value self.old.state ≡ ends_with c self.old.state) }
         ensures same { self.new ≡ self.old }
     {
         let judging = self.state.judged(alloc)?;
         let (code, value) = outside(alloc, code, value)?;
         match code {
             Code::Failed => {
-                let name = self.state.test().script.as_slice();
+                let name = self.state.test().script().as_slice();
                 let verdict = judging.abort(alloc, name, value.as_slice())?;
-                Ok(verdict)
+                Ok(Closing {
+                    verdict,
+                    close: Close::Aborted,
+                })
             }
-            _ => Ok(judging.finish()),
+            _ => Ok(Closing {
+                verdict: judging.finish(),
+                close: Close::Finished,
+            }),
         }
     }
 
@@ -218,11 +244,11 @@ impl Machine {
     {
         let control = mem::replace(&mut self.control, Control::Go);
         let Some(frame) = self.stack.pop() else {
-            let verdict = match control {
+            let closing = match control {
                 Control::Go => self.finish(alloc, Code::Done, Bytes::new(alloc))?,
                 Control::Ended { code, value } => self.finish(alloc, code, value)?,
             };
-            return Ok(Pace::Over(verdict));
+            return Ok(Pace::Over(closing));
         };
         match control {
             Control::Go => Ok(self.resume(alloc, frame)?),
@@ -237,8 +263,9 @@ impl Machine {
         'moves: loop {
             match self.step(alloc)? {
                 Pace::Moved => {}
-                Pace::Stands(question) => return Ok(Stop::AtQuestion(question)),
-                Pace::Over(verdict) => return Ok(Stop::AtEnd(verdict)),
+                Pace::Stands(ask) => return Ok(Stop::AtQuestion(ask)),
+                Pace::Over(closing) => return Ok(Stop::AtEnd(closing)),
+                Pace::Lost => return Ok(Stop::Lost),
             }
         }
     }

@@ -1,5 +1,5 @@
 //! The commands on variables.
-ghost use Rattle.std.specs.Prelude.{◌≡◌, ◌+◌, ◌*◌, ◌^◌, ◌<◌, ◌∷◌, ◌++◌, [], IfOk, OnOk, length, is_some};
+ghost use Rattle.std.specs.Prelude.{◌≡◌, ◌+◌, ◌*◌, ◌^◌, ◌<◌, ◌∷◌, ◌++◌, [], ◌≢◌, IfOk, OnOk, length, is_some};
 ghost use Rattle.std.specs.List.{concat};
 ghost use Rattle.std.specs.Option.{option_copied};
 ghost use Rattle.dg_expr.specs.Truth.{truth_text};
@@ -10,28 +10,29 @@ ghost use Rattle.dg_machine.specs.Meaning.{all_back, weight_of, Comes, Goes, Run
 
 use crate::frame::{Frame, Pace};
 use crate::machine::Machine;
-use dg_commands::{addend, cannot_unset, elements_in, increased, only, split, text_of};
+use dg_bytes::{Bytes, Seq, TryCopy};
 use dg_expr::truth_text;
+use dg_forms::{addend, cannot_unset, elements_held, increased, only, split};
 use dg_language::{Code, Queue, VariableCommand};
-use dg_words::{Bytes, Seq, TryCopy};
+use dg_words::fault_text;
 use std::alloc::{AllocError, Global};
 
 /// A value, or the empty text in the place of none.
-fn or_empty(alloc: Global, value: Option<&[u8]>) -> Result<Bytes, AllocError>
+fn or_empty(alloc: Global, value: Option<&Bytes>) -> Result<Bytes, AllocError>
     ensures { IfOk result (λ b. b ≡ or_empty (option_copied value.entry)) }
 {
     match value {
-        Some(value) => Ok(Bytes::from_slice(alloc, value)?),
+        Some(value) => Ok(value.copy(alloc)?),
         None => Ok(Bytes::new(alloc)),
     }
 }
 
 /// A value, or the text `0` in the place of none.
-fn or_zero(alloc: Global, value: Option<&[u8]>) -> Result<Bytes, AllocError>
+fn or_zero(alloc: Global, value: Option<&Bytes>) -> Result<Bytes, AllocError>
     ensures { IfOk result (λ b. b ≡ or_zero (option_copied value.entry)) }
 {
     match value {
-        Some(value) => Ok(Bytes::from_slice(alloc, value)?),
+        Some(value) => Ok(value.copy(alloc)?),
         None => Ok(Bytes::from_slice(alloc, b"0")?),
     }
 }
@@ -61,32 +62,48 @@ pub(crate) fn push_all(
 }
 
 impl Machine {
-    /// Values behind the elements of a list, as the value of a variable that can be used.
-    #[tactic(auto, unfolding(dg_language::specs::Variables::append_elements))]
+    /// Elements are put behind those of the list that is the value of a variable that can be used, in place.
+    #[tactic(auto, unfolding(dg_language::specs::Variables::append_elements, dg_language::specs::Variables::store, dg_language::specs::Evaluation::list_in, dg_language::specs::Evaluation::within, crate::specs::Meaning::rest, crate::specs::Meaning::weight))]
     fn append_elements(
         &mut self,
         alloc: Global,
         name: &[u8],
-        old: Bytes,
         values: &[Bytes],
     ) -> Result<Pace, AllocError>
-        requires { self.old.control ≡ Control.Go }
-        ensures { IfOk result (λ p. Goes (append_elements name.now old values.now self.old.state (all_back self.old.stack)) self.old.state.known (weight_of self.old + 2) self.new p) }
+        requires go { self.old.control ≡ Control.Go }
+        requires some { values.now ≢ [] }
+        ensures { IfOk result (λ p. Goes (append_elements name.now (or_empty (value_of self.old.state.variables name.now)) values.now self.old.state (all_back self.old.stack)) self.old.state.known (weight_of self.old + 2) self.new p) }
     {
-        let mut elements = match elements_in(alloc, old.as_slice())? {
-            Ok(elements) => elements,
-            Err(message) => {
-                let pace = self.fail(alloc, message)?;
-                return Ok(pace);
+        match self.state.append_elements(alloc, name, values)? {
+            Ok(true) => {
+                let value = or_empty(alloc, self.state.value_of(name))?;
+                self.end(Code::Done, value);
+                Ok(Pace::Moved)
             }
-        };
-        if values.is_empty() {
-            let pace = self.store(alloc, name, old)?;
+            Ok(false) => {
+                let verdict = self.cut(alloc, b"value too long")?;
+                Ok(Pace::Over(verdict))
+            }
+            Err(fault) => {
+                let message = Bytes::from_slice(alloc, fault_text(fault))?;
+                let pace = self.fail(alloc, message)?;
+                Ok(pace)
+            }
+        }
+    }
+
+    /// The text of a list stays as it is, as the value of a variable that can be used.
+    #[tactic(auto, unfolding(dg_language::specs::Variables::append_elements))]
+    fn append_nothing(&mut self, alloc: Global, name: &[u8]) -> Result<Pace, AllocError>
+        requires { self.old.control ≡ Control.Go }
+        ensures { IfOk result (λ p. Goes (append_elements name.now (or_empty (value_of self.old.state.variables name.now)) [] self.old.state (all_back self.old.stack)) self.old.state.known (weight_of self.old + 2) self.new p) }
+    {
+        let old = or_empty(alloc, self.state.value_of(name))?;
+        if let Err(message) = elements_held(alloc, &old)? {
+            let pace = self.fail(alloc, message)?;
             return Ok(pace);
         }
-        push_all(alloc, &mut elements, values)?;
-        let text = text_of(alloc, elements.as_slice())?;
-        let pace = self.store(alloc, name, text)?;
+        let pace = self.store(alloc, name, old)?;
         Ok(pace)
     }
 
@@ -144,6 +161,21 @@ impl Machine {
         Ok(pace)
     }
 
+    /// Bytes are put behind the value of a variable that can be used, in place.
+    #[tactic(auto, unfolding(dg_language::specs::Variables::store, dg_language::specs::Evaluation::within, crate::specs::Meaning::rest, crate::specs::Meaning::weight))]
+    fn append_text(&mut self, alloc: Global, name: &[u8], more: &[u8]) -> Result<Pace, AllocError>
+        requires { self.old.control ≡ Control.Go }
+        ensures { IfOk result (λ p. Goes (store name.now (or_empty (value_of self.old.state.variables name.now) ++ more.now) self.old.state (all_back self.old.stack)) self.old.state.known (weight_of self.old + 2) self.new p) }
+    {
+        if !self.state.append_text(alloc, name, more)? {
+            let verdict = self.cut(alloc, b"value too long")?;
+            return Ok(Pace::Over(verdict));
+        }
+        let value = or_empty(alloc, self.state.value_of(name))?;
+        self.end(Code::Done, value);
+        Ok(Pace::Moved)
+    }
+
     /// `append name value..`.
     #[tactic(auto, unfolding(dg_language::specs::Variables::do_append))]
     fn append(&mut self, alloc: Global, args: &[Bytes]) -> Result<Pace, AllocError>
@@ -157,9 +189,9 @@ impl Machine {
         if let Some(pace) = self.ready(alloc, name.as_slice())? {
             return Ok(pace);
         }
-        let mut text = or_empty(alloc, self.state.value_of(name.as_slice()))?;
-        extend_all(&mut text, values)?;
-        let pace = self.store(alloc, name.as_slice(), text)?;
+        let mut more = Bytes::new(alloc);
+        extend_all(&mut more, values)?;
+        let pace = self.append_text(alloc, name.as_slice(), more.as_slice())?;
         Ok(pace)
     }
 
@@ -176,8 +208,11 @@ impl Machine {
         if let Some(pace) = self.ready(alloc, name.as_slice())? {
             return Ok(pace);
         }
-        let old = or_empty(alloc, self.state.value_of(name.as_slice()))?;
-        let pace = self.append_elements(alloc, name.as_slice(), old, values)?;
+        if values.is_empty() {
+            let pace = self.append_nothing(alloc, name.as_slice())?;
+            return Ok(pace);
+        }
+        let pace = self.append_elements(alloc, name.as_slice(), values)?;
         Ok(pace)
     }
 
@@ -304,13 +339,14 @@ impl Machine {
             return Ok(Pace::Moved);
         };
         match self.ready(alloc, name.as_slice())? {
-            Some(Pace::Stands(question)) => {
+            Some(Pace::Stands(ask)) => {
                 names.push_front(name)?;
                 self.stack.push(Frame::Unsetting { complains, names })?;
-                Ok(Pace::Stands(question))
+                Ok(Pace::Stands(ask))
             }
-            Some(Pace::Over(verdict)) => Ok(Pace::Over(verdict)),
+            Some(Pace::Over(closing)) => Ok(Pace::Over(closing)),
             Some(Pace::Moved) => Ok(Pace::Moved),
+            Some(Pace::Lost) => Ok(Pace::Lost),
             None => {
                 let pace = self.unset_one(alloc, complains, name.as_slice(), names)?;
                 Ok(pace)

@@ -3,7 +3,7 @@ use Rattle.std.proofs.Common.{◌≡◌, ℕ, List, [], ◌∷◌, refl}
 use Rattle.std.specs.Prelude.{codes}
 use Rattle.dg_match.specs.Held.{Held, with_last, without_nulls}
 use Rattle.dg_match.specs.Tries.{once_tried}
-use Rattle.dg_match.specs.Searches.{least_place}
+use Rattle.dg_match.specs.Literals.{least_place}
 use Rattle.dg_match.specs.declared.pattern.Pattern.TheVariants.{Exact}
 use Rattle.dg_match.specs.Fronts.{front}
 

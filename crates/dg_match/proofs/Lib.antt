@@ -9,4 +9,8 @@ pub mod GroupLemmas
 pub mod BookLemmas
 pub mod AnswerLemmas
 pub mod WithinLemmas
+pub mod HitLemmas
+pub mod ChunkLemmas
+pub mod ProgramLemmas
+pub mod Crosses
 mod Examples

@@ -91,3 +91,7 @@ module _ (text bytes : List ℕ) (from : ℕ) (within : from ≤ length bytes) (
         (cases_lt (i - from) k))
         (cases_lt i from);
   }
+
+-- a text stands at no passed place
+pub passed_below : (text bytes : List ℕ) (n k : ℕ) → IsPassed text bytes n → OccursAt bytes text k → n ≤ k
+passed_below text bytes n k h o = ⊎_elim (λ low. absurd (passed_now text bytes n k h low o)) (λ high. high) (cases_lt k n)

@@ -4,7 +4,8 @@ use Rattle.std.proofs.lemmas.List.{take_all}
 use Rattle.std.specs.Prelude.{OnOk}
 use Rattle.dg_match.specs.Held.{Held}
 use Rattle.dg_match.specs.Fronts.{front}
-use Rattle.dg_match.specs.Searches.{bytes_compared, glob_compared, least_place, places_passed, sought}
+use Rattle.dg_match.specs.Literals.{least_place}
+use Rattle.dg_match.specs.Searches.{bytes_compared, glob_compared, places_passed, sought}
 use Rattle.dg_match.specs.Tries.{AreTried, all_tried, counted, known_passed, once_tried, remembered}
 use Rattle.dg_match.specs.declared.starts.Start.{Start}
 use Rattle.dg_match.specs.declared.pattern.Pattern.{Pattern}

@@ -15,8 +15,8 @@ use Rattle.regex.proofs.SearchLemmas.{leftmost_attempt, leftmost_within}
 use Rattle.regex.proofs.WritesLemmas.{last_write_has, writes_are_tidy}
 use Rattle.dg_glob.specs.declared.glob.Span.{Span}
 use Rattle.dg_match.specs.Regexes.{pattern_read}
-use Rattle.dg_match.specs.Groups.{span_of, found_of}
-use Rattle.dg_match.specs.Hits.{IsAnswer, IsMatch, LiesBetween, LiesIn}
+use Rattle.dg_match.specs.Groups.{span_of, found_of, regex_match}
+use Rattle.dg_match.specs.Hits.{IsAnswer, IsMatch, LiesBetween, LiesIn, hit_at}
 use Rattle.dg_match.specs.declared.found.Found.{Found}
 use Rattle.dg_match.specs.declared.pattern.Pattern.{Pattern}
 use Rattle.dg_match.specs.declared.pattern.Pattern.TheVariants.{Glob, Exact, Regex}
@@ -91,3 +91,8 @@ answer_lies p bytes None m index is h = absurd (none-some m is)
 answer_lies p bytes (Some found) m index is h =
     let lies = subst (Lies bytes) (same_Some _ _ is) (match_lies p bytes found h) in
     record { ordered = lies.0; within = lies.1; groups = lies.2 }
+
+-- the first match of a `-re` pattern lies in the bytes
+pub regex_lies : (t bytes : List ℕ) (o : Option Found) → o ≡ regex_match t bytes → IfSome o (λ m. LiesIn bytes (hit_at 0 m))
+regex_lies t bytes None e = tt
+regex_lies t bytes (Some m) e = answer_lies (Regex t) bytes (Some m) m 0 refl (sym e)

@@ -1,15 +1,24 @@
 -- What a buffer holds.
-use Rattle.std.specs.Prelude.{ℕ, ◌-◌, ◌==◌, not, List, length, drop, filter, map, refl}
+use Rattle.std.specs.Prelude.{ℕ, ◌-◌, ◌==◌, ◌++◌, not, List, [], ◌∷◌, length, drop, filter, map, refl}
 use Rattle.std.specs.Coded.{Coded, code_by, coded×, coded_list, coded_ℕ}
 use Rattle.dg_match.specs.declared.starts.Start.{Start}
 
--- the bytes, how many are kept at most, how many bytes its literals and globs have compared, and for the patterns tried
+-- What those above see of a buffer: the bytes, and how many are kept at most.
+pub record Output : Type 0 where
+  pub bytes : List ℕ
+  pub max : ℕ
+
+-- and what its own tries of patterns see: how many bytes its literals and globs have compared, and for the patterns tried
 -- last, in their order, a text that stands in each match of the pattern, with how many of the first places it has passed
 pub record Held : Type 0 where
   pub bytes : List ℕ
   pub max : ℕ
   pub compared : ℕ
   pub starts : List Start
+
+-- what those above see of it
+abbrev pub output_of : Held → Output
+output_of h = record { bytes = h.bytes; max = h.max }
 
 abbrev pub start_code : Coded Start
 start_code =
@@ -35,3 +44,20 @@ with_last n h = without_first (length h.bytes - n) h
 -- the bytes that are no nulls
 abbrev pub without_nulls : List ℕ → List ℕ
 without_nulls = filter (λ b. not (b == 0))
+
+-- the last n bytes
+abbrev pub last_bytes : ℕ → List ℕ → List ℕ
+last_bytes n bytes = drop (length bytes - n) bytes
+
+-- an output once a chunk was added to it: the last bytes of both without nulls, as many as are kept at most
+abbrev pub heard : List ℕ → Output → Output
+heard chunk o = record o { bytes = last_bytes o.max (o.bytes ++ without_nulls chunk) }
+
+-- and once all of these chunks were added, one after the other
+abbrev pub heard_all : List (List ℕ) → Output → Output
+heard_all [] o = o
+heard_all (chunk ∷ chunks) o = heard_all chunks (heard chunk o)
+
+-- an output without bytes
+abbrev pub emptied : Output → Output
+emptied o = record o { bytes = [] }

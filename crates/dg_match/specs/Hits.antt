@@ -1,23 +1,48 @@
 -- The hit of a list of patterns in bytes, as expect(1) finds it.
-use Rattle.std.specs.Prelude.{◌≡◌, ℕ, ◌<◌, ◌≤◌, List, [], length, Option, Some, None, IfSome, MatchOption}
+use Rattle.std.specs.Prelude.{◌≡◌, ℕ, ◌+◌, ◌<◌, ◌≤◌, List, [], ◌∷◌, length, Option, Some, None, option_map, IfSome, MatchOption}
 use Rattle.std.specs.List.{All, HoldsAt, AllWithin}
 use Rattle.dg_glob.specs.Glob.{IsSpan, IsFirstSpan}
+use Rattle.dg_glob.specs.Tests.{first_span}
 use Rattle.dg_glob.specs.declared.glob.Span.{Span}
-use Rattle.dg_match.specs.Literals.{IsNowhere, IsFirstPlace}
+use Rattle.dg_match.specs.Literals.{IsNowhere, IsFirstPlace, least_place}
 use Rattle.dg_match.specs.Groups.{regex_match}
 use Rattle.dg_match.specs.declared.found.Found.{Found}
 use Rattle.dg_match.specs.declared.hit.Hit.{Hit}
 use Rattle.dg_match.specs.declared.pattern.Pattern.{Pattern}
 use Rattle.dg_match.specs.declared.pattern.Pattern.TheVariants.{Glob, Exact, Regex}
 
--- no part of the bytes matches the pattern
+-- a match without groups, from one place to another
+abbrev pub ungrouped : ℕ × ℕ → Found
+ungrouped p = record { start = p.0; end = p.1; groups = [] }
+
+-- the pattern's match in the bytes, if there is one: of a glob the span with the least start, and with the greatest end of
+-- those; of a literal the first place at which it stands; of a `-re` pattern the first match with its groups
+unfoldable pub match_of : Pattern → List ℕ → Option Found
+match_of (Glob p) bytes = option_map ungrouped (first_span p bytes)
+match_of (Exact t) bytes = option_map (λ k. ungrouped (k, k + length t)) (least_place t bytes)
+match_of (Regex t) bytes = regex_match t bytes
+
+-- the hit of the pattern of this index
+abbrev pub hit_at : ℕ → Found → Hit
+hit_at i m = record { index = i; start = m.start; end = m.end; groups = m.groups }
+
+-- the match of the first of the patterns that has one, of which the first has this index
+abbrev pub hit_from : ℕ → List Pattern → List ℕ → Option Hit
+hit_from i [] bytes = None
+hit_from i (p ∷ patterns) bytes =
+    elim (match_of p bytes) as (λ _. Option Hit) [ None ↦ hit_from (i + 1) patterns bytes | Some m ↦ Some (hit_at i m) ]
+
+-- the hit of a list of patterns in bytes: the match of the first listed one that has a match
+unfoldable pub hit_of : List Pattern → List ℕ → Option Hit
+hit_of patterns bytes = hit_from 0 patterns bytes
+
+-- The same as relations. No part of the bytes matches the pattern.
 abbrev pub HasNoMatch : Pattern → List ℕ → Type 0
 HasNoMatch (Glob p) bytes = (s e : ℕ) → IsSpan p bytes s e → ⊥
 HasNoMatch (Exact t) bytes = IsNowhere t bytes
 HasNoMatch (Regex t) bytes = regex_match t bytes ≡ None
 
--- the pattern's match in the bytes: of a glob the span with the least start, and with the greatest end of those; of a
--- literal the first place at which it stands; of a `-re` pattern the first match with its groups
+-- a match of the pattern in the bytes
 abbrev pub IsMatch : Pattern → List ℕ → Found → Type 0
 IsMatch (Glob p) bytes m = IsFirstSpan p bytes m.start m.end × (m.groups ≡ [])
 IsMatch (Exact t) bytes m = IsFirstPlace t bytes m.start m.end × (m.groups ≡ [])

@@ -5,6 +5,9 @@ pub mod Fronts
 pub mod Regexes
 pub mod Groups
 pub mod Book
+pub mod Programs
 pub mod Hits
 pub mod Searches
+pub mod Places
 pub mod Tries
+pub mod Laws

@@ -1,18 +1,9 @@
 -- What the search for a text in bytes compares, and which places it passes.
-use Rattle.std.specs.Prelude.{ℕ, zero, suc, ◌+◌, ◌-◌, Bool, List, [], length, nat_lt, Option, None, Some, if◌then◌else◌}
-use Rattle.memchr.specs.Find.{occurs_at}
+use Rattle.std.specs.Prelude.{ℕ, ◌+◌, ◌-◌, List, [], length, nat_lt, Option, None, Some, if◌then◌else◌}
+use Rattle.dg_match.specs.Literals.{least_place}
 use Rattle.dg_match.specs.Fronts.{front, begins_with_star}
 use Rattle.dg_match.specs.declared.pattern.Pattern.{Pattern}
 use Rattle.dg_match.specs.declared.pattern.Pattern.TheVariants.{Glob, Exact, Regex}
-
--- the least number below n that passes a test
-abbrev pub least_below : (ℕ → Bool) → ℕ → Option ℕ
-least_below p zero = None
-least_below p (suc n) = elim (least_below p n) as (λ _. Option ℕ) [ None ↦ if p n then Some n else None | Some k ↦ Some k ]
-
--- the least place of the bytes at which a text stands
-unfoldable pub least_place : List ℕ → List ℕ → Option ℕ
-least_place text bytes = least_below (occurs_at bytes text) (length bytes + 1)
 
 -- how many places a text has passed, by its least place: those before it, or where there is none all at which it fits
 abbrev pub places_passed : List ℕ → List ℕ → Option ℕ → ℕ

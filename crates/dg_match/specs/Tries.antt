@@ -2,7 +2,8 @@
 use Rattle.std.specs.Prelude.{◌≡◌, ℕ, zero, suc, ◌+◌, ◌≤◌, min, List, [], ◌∷◌, take, nat_eq, Option, None, Some, if◌then◌else◌}
 use Rattle.std.specs.Cmp.Lexicographic.{pointwise}
 use Rattle.dg_match.specs.Held.{Held}
-use Rattle.dg_match.specs.Searches.{compared_by, least_place, places_passed, sought}
+use Rattle.dg_match.specs.Literals.{least_place}
+use Rattle.dg_match.specs.Searches.{compared_by, places_passed, sought}
 use Rattle.dg_match.specs.declared.starts.Start.{Start}
 use Rattle.dg_match.specs.declared.hit.Hit.{Hit}
 use Rattle.dg_match.specs.declared.pattern.Pattern.{Pattern}

@@ -6,7 +6,7 @@ ghost use Rattle.dg_match.specs.Book.{Fits, AllFit, reading_of};
 use crate::built::Built;
 use crate::fault::PatternFault;
 use crate::reading::Reading;
-use dg_words::Bytes;
+use dg_bytes::Bytes;
 use indexmap::IndexMap;
 use std::alloc::{AllocError, Global};
 use std::marker::Model;

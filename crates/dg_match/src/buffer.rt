@@ -1,7 +1,7 @@
 //! The buffer that a session's output goes into.
 ghost use Rattle.std.specs.Prelude.{◌≡◌, ◌≤◌, ◌+◌, ◌*◌, ◌++◌, ℕ, List, [], drop, length, take, OnOk, OnErr, IfOk, IfSome, option_map, MatchOption};
-ghost use Rattle.dg_match.specs.Held.{with_last, without_first, without_nulls};
-ghost use Rattle.dg_match.specs.Hits.{IsTried, IsAnswer, HasNoMatch, LiesIn};
+ghost use Rattle.dg_match.specs.Held.{emptied, heard, output_of, with_last, without_first, without_nulls};
+ghost use Rattle.dg_match.specs.Hits.{IsTried, IsAnswer, HasNoMatch, LiesIn, hit_of};
 ghost use Rattle.dg_match.specs.Starts.{IsPassed};
 ghost use Rattle.dg_match.specs.Tries.{AreTried, HasCompared, all_tried, counted, known_passed, once_tried, remembered, up_to};
 ghost use Rattle.dg_match.specs.Literals.{IsNowhere, IsFirstPlace};
@@ -12,10 +12,11 @@ use crate::hit::Hit;
 use crate::pattern::Pattern;
 use crate::search::{Search, front, search_glob, search_text};
 use crate::starts::Starts;
-use dg_words::{Bytes, Seq};
+use dg_bytes::{Bytes, Seq};
 use memchr::memchr;
 use std::alloc::{AllocError, Global};
 use std::marker::Model;
+use std::mem;
 
 /// The output of a session that was read and not yet taken: its last bytes, as many as it keeps at
 /// most, without nulls (expect(1), `match_max` and `remove_nulls`). A contract sees the bytes, how
@@ -42,7 +43,9 @@ impl Model for Buffer {
 
     ghost view = { λ b. record { bytes = drop b.front b.bytes.items; max = b.max; compared = b.compared; starts = b.starts } };
 
-    ghost invariant = { λ b. (b.front ≤ length b.bytes.items) × AllPassed (drop b.front b.bytes.items) b.starts };
+    ghost invariant = { λ b. (b.front ≤ length b.bytes.items)
+        × AllPassed (drop b.front b.bytes.items) b.starts
+        × (length (drop b.front b.bytes.items) ≤ b.max) };
 }
 
 /// A vector without its first bytes.
@@ -130,13 +133,16 @@ impl Buffer {
     /// Adds a chunk behind the bytes, without its nulls, and keeps the last bytes, as many as are
     /// kept at most. Where a growth is refused nothing is changed.
     pub fn add(&mut self, alloc: Global, chunk: &[u8]) -> Result<(), AllocError>
+        ensures output { OnOk result (output_of self.new ≡ heard chunk.now (output_of self.old)) }
         ensures ok { OnOk result (self.new ≡
             with_last self.old.max (record self.old { bytes = self.old.bytes ++ without_nulls chunk.now })) }
         ensures err { OnErr result (self.new ≡ self.old) }
     {
         self.close_up();
-        self.append(alloc, chunk)?;
-        self.keep_last(self.max);
+        extend(alloc, &mut self.bytes, chunk)?;
+        let excess = (self.bytes.len() - self.front).saturating_sub(self.max);
+        self.front += excess;
+        self.starts.cut(excess);
         Ok(())
     }
 
@@ -150,16 +156,6 @@ impl Buffer {
         }
     }
 
-    /// Adds a chunk behind the bytes, without its nulls, or changes nothing.
-    fn append(&mut self, alloc: Global, chunk: &[u8]) -> Result<(), AllocError>
-        ensures ok { OnOk result (self.new ≡
-            record self.old { bytes = self.old.bytes ++ without_nulls chunk.now }) }
-        ensures err { OnErr result (self.new ≡ self.old) }
-    {
-        extend(alloc, &mut self.bytes, chunk)?;
-        Ok(())
-    }
-
     /// The first of the patterns that has a match, with its match: of a glob the least start and of
     /// those the greatest end, of a literal the least start, of a `-re` pattern its first match
     /// (expect(1)). A hit lies in the bytes, and its groups in the hit; the bytes are left as they
@@ -170,7 +166,8 @@ impl Buffer {
         alloc: Global,
         patterns: &[Pattern],
     ) -> Result<Option<Hit>, AllocError>
-        ensures hit { IfOk result (λ hit. IsTried patterns.now self.old.bytes hit) }
+        ensures hit { IfOk result (λ hit. hit ≡ hit_of patterns.now self.old.bytes) }
+        ensures relation { IfOk result (λ hit. IsTried patterns.now self.old.bytes hit) }
         ensures within { IfOk result (λ hit. IfSome hit (LiesIn self.old.bytes)) }
         ensures tried { IfOk result (λ hit. self.new ≡ all_tried 0 (up_to hit patterns.now) self.old) }
         ensures part { AreTried patterns.now self.old self.new }
@@ -309,6 +306,28 @@ impl Buffer {
         Ok(taken)
     }
 
+    /// Lets all bytes go. It takes no memory.
+    pub fn clear(&mut self)
+        ensures output { output_of self.new ≡ emptied (output_of self.old) }
+        ensures value { self.new ≡ without_first (length self.old.bytes) self.old }
+    {
+        self.cut(self.as_slice().len());
+    }
+
+    /// Takes all bytes out of the buffer and gives them. It takes no memory.
+    pub fn take_all(&mut self, alloc: Global) -> Bytes
+        ensures taken { result ≡ self.old.bytes }
+        ensures output { output_of self.new ≡ emptied (output_of self.old) }
+        ensures value { self.new ≡ without_first (length self.old.bytes) self.old }
+    {
+        let len = self.as_slice().len();
+        let mut bytes = mem::replace(&mut self.bytes, Vec::new(alloc));
+        without_front(&mut bytes, self.front);
+        self.front = 0;
+        self.starts.cut(len);
+        Bytes::from_vec(bytes)
+    }
+
     /// Keeps at most so many bytes from now on, and of those here the last ones. It takes no memory.
     pub fn set_max(&mut self, max: usize)
         requires some { 1 ≤ max }
@@ -316,7 +335,7 @@ impl Buffer {
         ensures { self.new ≡
             with_last max (record self.old { max = max }) }
     {
-        self.max = max;
         self.keep_last(max);
+        self.max = max;
     }
 }

@@ -5,14 +5,15 @@ ghost use Rattle.dg_match.specs.Regexes.{IsPatternText, IsNoPatternText, IsBuilt
 
 use crate::fault::PatternFault;
 use regex::bytes::Regex;
-use std::alloc::Global;
+use std::alloc::{AllocError, Global};
 use std::marker::Model;
 use std::str;
+use std::sync::Arc;
 
-/// A built `-re` pattern. A contract sees the text that it was built from.
+/// A built `-re` pattern, which may be shared. A contract sees the text that it was built from.
 #[derive(Drop)]
 pub struct Built {
-    regex: Regex,
+    regex: Arc<Regex>,
 }
 
 impl Model for Built {
@@ -20,12 +21,13 @@ impl Model for Built {
 
     ghost Value = { List ℕ };
 
+    ghost use Rattle.std.specs.Arc.{arc_value};
     ghost use Rattle.regex.specs.Bytes.{regex_source};
     ghost use Rattle.dg_match.specs.Regexes.{IsBuilt};
 
-    ghost view = { λ b. regex_source b.regex };
+    ghost view = { λ b. regex_source (arc_value b.regex) };
 
-    ghost invariant = { λ b. IsBuilt b.regex };
+    ghost invariant = { λ b. IsBuilt (arc_value b.regex) };
 }
 
 impl Built {
@@ -40,7 +42,10 @@ impl Built {
             return Err(PatternFault::Syntax);
         };
         match Regex::new(alloc, source) {
-            Ok(regex) => Ok(Built { regex }),
+            Ok(regex) => match Arc::new(alloc, regex) {
+                Ok(regex) => Ok(Built { regex }),
+                Err(_) => Err(PatternFault::Memory),
+            },
             Err(regex::Error::Syntax(_)) => Err(PatternFault::Syntax),
             Err(regex::Error::OutOfMemory) => Err(PatternFault::Memory),
             Err(regex::Error::CompiledTooBig) => Err(PatternFault::TooLarge),
@@ -48,11 +53,21 @@ impl Built {
         }
     }
 
+    /// The same pattern once more. Nothing is built anew.
+    pub fn share(&self) -> Result<Built, AllocError>
+        ensures same { IfOk result (λ b. b ≡ self.now) }
+        ensures read { OnOk result (IsPatternText self.now) }
+    {
+        Ok(Built {
+            regex: Arc::try_clone(&self.regex)?,
+        })
+    }
+
     /// What `regex` made of the text.
     pub(crate) fn regex(&self) -> &Regex
         ensures text { regex_source result.now ≡ self.now }
         ensures built { IsBuilt result.now }
     {
-        &self.regex
+        self.regex.as_ref()
     }
 }

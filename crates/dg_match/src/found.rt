@@ -1,20 +1,22 @@
 //! The first match of a `-re` pattern.
-ghost use Rattle.std.specs.Prelude.{◌≡◌, IfOk, option_map};
+ghost use Rattle.std.specs.Prelude.{◌≡◌, IfOk, IfSome, option_map};
 ghost use Rattle.regex.specs.Locations.{location};
 ghost use Rattle.dg_match.specs.Groups.{regex_match, groups_in, span_of};
+ghost use Rattle.dg_match.specs.Hits.{LiesIn, hit_at};
 
 use crate::built::Built;
+use dg_bytes::Seq;
 use dg_glob::Span;
-use dg_words::Seq;
 use regex::bytes::CaptureLocations;
 use std::alloc::{AllocError, Global};
 
-/// Where a pattern has matched: the whole match, and each group from the first.
+/// Where a pattern has matched: the whole match, from the byte at `start` to the one before `end`,
+/// and the part of each group from the first, where the group took part.
 #[derive(Drop)]
-pub(crate) struct Found {
-    pub(crate) start: usize,
-    pub(crate) end: usize,
-    pub(crate) groups: Seq<Option<Span>>,
+pub struct Found {
+    pub start: usize,
+    pub end: usize,
+    pub groups: Seq<Option<Span>>,
 }
 
 /// Where a group has matched, if it took part.
@@ -34,6 +36,18 @@ fn read_groups(alloc: Global, locations: &CaptureLocations) -> Result<Seq<Option
         groups.push(group_at(locations, n))?;
     }
     Ok(Seq::from_vec(groups))
+}
+
+impl Built {
+    /// The first match of the pattern in bytes, with its groups, as `regex` finds it. It lies in the bytes, and its groups
+    /// in it.
+    pub fn find(&self, alloc: Global, bytes: &[u8]) -> Result<Option<Found>, AllocError>
+        ensures found { IfOk result (λ found. found ≡ regex_match self.now bytes.now) }
+        ensures within { IfOk result (λ found. IfSome found (λ m. LiesIn bytes.now (hit_at 0 m))) }
+    {
+        let found = first_match(alloc, self, bytes)?;
+        Ok(found)
+    }
 }
 
 /// The first match of a pattern, with its groups.

@@ -1,6 +1,6 @@
 //! Where a pattern has matched.
+use dg_bytes::Seq;
 use dg_glob::Span;
-use dg_words::Seq;
 
 /// A match of one of the patterns that were tried: the pattern's index in their list, the part of
 /// the buffer that matched, from the byte at `start` to the one before `end`, and for a `-re`

@@ -8,18 +8,21 @@ mod built;
 mod fault;
 mod found;
 mod hit;
+mod law;
 mod pattern;
+mod programs;
 mod reading;
 mod search;
 mod starts;
-#[cfg(test)]
-mod tests;
 
 pub use crate::book::PatternBook;
 pub use crate::buffer::Buffer;
 pub use crate::built::Built;
 pub use crate::fault::PatternFault;
+pub use crate::found::Found;
 pub use crate::hit::Hit;
+pub use crate::law::{chunks_are_heard_together, hits_are_one};
 pub use crate::pattern::{Pattern, build};
+pub use crate::programs::Programs;
 pub use crate::reading::Reading;
 pub use dg_glob::Span;

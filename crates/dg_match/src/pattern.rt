@@ -4,8 +4,8 @@ ghost use Rattle.dg_match.specs.Regexes.{IsPatternText, IsNoPatternText};
 
 use crate::built::Built;
 use crate::fault::PatternFault;
-use dg_words::Bytes;
-use std::alloc::Global;
+use dg_bytes::{Bytes, TryCopy};
+use std::alloc::{AllocError, Global};
 
 /// A pattern, by its kind (expect(1)). A contract sees the kind and the pattern's text.
 #[derive(Drop)]
@@ -16,6 +16,16 @@ pub enum Pattern {
     Exact(Bytes),
     /// `-re`: a regular expression, which [`build`] makes.
     Regex(Built),
+}
+
+impl TryCopy for Pattern {
+    fn copy(&self, alloc: Global) -> Result<Pattern, AllocError> {
+        match self {
+            Pattern::Glob(glob) => Ok(Pattern::Glob(glob.copy(alloc)?)),
+            Pattern::Exact(text) => Ok(Pattern::Exact(text.copy(alloc)?)),
+            Pattern::Regex(built) => Ok(Pattern::Regex(built.share()?)),
+        }
+    }
 }
 
 /// Builds the `-re` pattern that a text spells, in the syntax of Rust's regex crate over bytes.

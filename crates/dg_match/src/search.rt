@@ -1,11 +1,12 @@
 //! Searches of the buffer that leave out the starts that are known to be passed.
-ghost use Rattle.std.specs.Prelude.{◌≡◌, ◌≤◌, ◌<◌, ◌*◌, ℕ, MatchOption, None, Some, length};
+ghost use Rattle.std.specs.Prelude.{◌≡◌, ◌≤◌, ◌<◌, ◌*◌, ℕ, MatchOption, None, Some, length, nat_lt, if◌then◌else◌};
 ghost use Rattle.memchr.specs.Find.{OccursAt};
 ghost use Rattle.dg_glob.specs.Glob.{IsFirstSpan, IsSpan};
 ghost use Rattle.dg_match.specs.Starts.{IsPassed};
-ghost use Rattle.dg_match.specs.Literals.{IsNowhere, IsFirstPlace, IsLeastPlace};
+ghost use Rattle.dg_match.specs.Literals.{IsNowhere, IsFirstPlace, IsLeastPlace, least_place};
 ghost use Rattle.dg_match.specs.Fronts as word;
-ghost use Rattle.dg_match.specs.Searches.{bytes_behind, bytes_compared, glob_compared, least_place, places_passed};
+ghost use Rattle.dg_match.specs.Searches.{bytes_behind, bytes_compared, glob_compared, places_passed};
+ghost use Rattle.dg_match.specs.Places.{IsPlaceOf};
 
 use dg_glob::{Span, find_glob};
 use memchr::memmem;
@@ -34,15 +35,41 @@ impl Search {
     }
 }
 
-/// The first place at which the text stands.
-fn first_place(bytes: &[u8], text: &[u8], passed: usize) -> Option<usize>
+/// Where a text stands first, and how many bytes were read to find that out.
+enum Place {
+    At { start: usize, compared: usize },
+    Nowhere { compared: usize },
+}
+
+/// How many bytes of a rest a search for a text reads that isn't there: none where it doesn't fit.
+fn read_in_vain(rest: &[u8], text: &[u8]) -> usize
+    ensures bound { result ≤ length rest.now }
+    ensures value { result ≡ (if nat_lt (length rest.now) (length text.now) then 0 else length rest.now) }
+{
+    if rest.len() < text.len() {
+        0
+    } else {
+        rest.len()
+    }
+}
+
+/// The first place at which the text stands. Only the bytes behind the places that are passed are
+/// read, and those that are read are counted.
+fn first_place(bytes: &[u8], text: &[u8], passed: usize) -> Place
     requires { IsPassed text.now bytes.now passed }
-    ensures found { MatchOption result (IsNowhere text.now bytes.now) (λ k. IsLeastPlace text.now bytes.now k) }
-    ensures least { result ≡ least_place text.now bytes.now }
+    ensures { IsPlaceOf passed text.now bytes.now result }
 {
     let from = passed.min(bytes.len());
-    let place = memmem::find(&bytes[from..], text)?;
-    Some(from + place)
+    let rest = &bytes[from..];
+    match memmem::find(rest, text) {
+        None => Place::Nowhere {
+            compared: read_in_vain(rest, text),
+        },
+        Some(place) => Place::At {
+            start: from + place,
+            compared: place + text.len(),
+        },
+    }
 }
 
 /// How many places are passed where the text stands nowhere.
@@ -52,15 +79,6 @@ fn passed_by(bytes: &[u8], text: &[u8]) -> usize
     ensures value { result ≡ places_passed text.now bytes.now None }
 {
     bytes.len().saturating_add(1).saturating_sub(text.len())
-}
-
-/// How many bytes a search for a text has to compare from a place on: none where it doesn't fit.
-fn compared_from(bytes: &[u8], text: &[u8], from: usize) -> usize
-    ensures bound { result ≤ length bytes.now }
-    ensures value { result ≡ bytes_compared from text.now bytes.now None }
-{
-    let left = bytes.len().saturating_sub(from);
-    if left < text.len() { 0 } else { left }
 }
 
 /// Searches the buffer for a text.
@@ -74,18 +92,18 @@ pub(crate) fn search_text(bytes: &[u8], text: &[u8], passed: usize) -> Search
     ensures counted { result.compared ≡ bytes_compared passed text.now bytes.now (least_place text.now bytes.now) }
 {
     match first_place(bytes, text, passed) {
-        None => Search {
+        Place::Nowhere { compared } => Search {
             found: None,
             passed: passed_by(bytes, text),
-            compared: compared_from(bytes, text, passed),
+            compared,
         },
-        Some(start) => Search {
+        Place::At { start, compared } => Search {
             found: Some(Span {
                 start,
                 end: start + text.len(),
             }),
             passed: start,
-            compared: (start + text.len()).saturating_sub(passed),
+            compared,
         },
     }
 }
@@ -156,17 +174,15 @@ pub(crate) fn search_glob(bytes: &[u8], glob: &[u8], passed: usize) -> Search
 {
     let front = front(glob);
     match first_place(bytes, front, passed) {
-        None => Search {
+        Place::Nowhere { compared } => Search {
             found: None,
             passed: passed_by(bytes, front),
-            compared: compared_from(bytes, front, passed),
+            compared,
         },
-        Some(start) => Search {
+        Place::At { start, compared } => Search {
             found: glob_from(bytes, glob, start),
             passed: start,
-            compared: (start + front.len())
-                .saturating_sub(passed)
-                .saturating_add(compared_behind(bytes, glob, start)),
+            compared: compared.saturating_add(compared_behind(bytes, glob, start)),
         },
     }
 }

@@ -4,7 +4,7 @@ ghost use Rattle.dg_match.specs.Held.{later};
 ghost use Rattle.dg_match.specs.Starts.{IsPassed, AllPassed};
 ghost use Rattle.dg_match.specs.Tries.{known_passed, remembered};
 
-use dg_words::Bytes;
+use dg_bytes::Bytes;
 use std::alloc::{AllocError, Global};
 use std::marker::Model;
 

@@ -1,5 +1,7 @@
 -- When a record is true, and when it holds in a world.
-use Rattle.std.specs.Prelude.{◌≡◌, Some, List, All}
+use Rattle.std.specs.Prelude.{◌≡◌, Bool, false, Option, None, Some, List, All}
+use Rattle.std.specs.List.{list_all}
+use Rattle.dg_world.specs.Question.{same_answer}
 use Rattle.dg_world.specs.declared.question.Question.{Question}
 use Rattle.dg_world.specs.declared.question.Answer.{Answer}
 use Rattle.dg_world.specs.declared.question.Read.{Read}
@@ -22,11 +24,25 @@ pub record IsTrueRecord (test : TestId) (reads : List Read) (verdict : List Line
 
 -- the answers of a world
 abbrev pub answers_of : WorldView → Source
-answers_of w q = Some (look w q)
+answers_of = look
 
 -- each read has the answer that the world gives now
 abbrev pub Agree : List Read → WorldView → Type 0
-Agree reads w = All (λ r. look w r.question ≡ r.answer) reads
+Agree reads w = All (λ r. look w r.question ≡ Some r.answer) reads
+
+-- whether an answer is given, and is this
+abbrev pub is_given : Option Answer → Answer → Bool
+is_given None a = false
+is_given (Some b) a = same_answer b a
+
+-- whether a record holds in a world: each read has the answer that the world gives now
+abbrev pub holds : WorldView → RecordView → Bool
+holds w r = list_all (λ read. is_given (look w read.question) read.answer) r.reads
+
+-- a true record whose reads agree with a world has the verdict that its test has in that world
+abbrev pub AgreeingWorldsGiveTheVerdict : Type 0
+AgreeingWorldsGiveTheVerdict =
+    (w : WorldView) (r : RecordView) → IsTrueRecord r.test r.reads r.verdict → Agree r.reads w → verdict_in (look w) r.test ≡ Some r.verdict
 
 -- what more answers can't change: a source that gives each answer that another gives, gives the same verdict
 abbrev pub MoreAnswersKeepTheVerdict : Type 0

@@ -1,9 +1,9 @@
 //! Records: verdicts with all that they were read from.
 ghost use Rattle.std.specs.Prelude.{◌≡◌, IfOk, IsTrue, ◌↔◌};
-ghost use Rattle.dg_records.specs.Truth.{IsTrueRecord, Agree};
+ghost use Rattle.dg_records.specs.Truth.{IsTrueRecord, Agree, holds};
 
+use dg_bytes::{Seq, TryCopy};
 use dg_results::Verdict;
-use dg_words::{Seq, TryCopy};
 use dg_world::{Read, TestId, World};
 use std::alloc::{AllocError, Global};
 use std::marker::Model;
@@ -73,7 +73,8 @@ impl Record {
 
     /// Whether each question that was read still has the same answer in a world.
     pub fn holds_in(&self, world: &World) -> bool
-        ensures { IsTrue result ↔ Agree self.now.reads world.now }
+        ensures agree { IsTrue result ↔ Agree self.now.reads world.now }
+        ensures test { result ≡ holds world.now self.now }
     {
         self.reads
             .as_slice()

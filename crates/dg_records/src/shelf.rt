@@ -1,13 +1,15 @@
 //! Records that are kept.
-ghost use Rattle.std.specs.Prelude.{◌≡◌, [], OnOk, OnErr, IfErr};
+ghost use Rattle.std.specs.Prelude.{◌≡◌, List, [], OnOk, OnErr, IfOk, IfErr};
 ghost use Rattle.std.specs.Option.{option_copied};
-ghost use Rattle.dg_records.specs.Shelf.{kept, with_record};
+ghost use Rattle.dg_records.specs.Shelf.{kept, with_record, Exchanges};
+ghost use Rattle.dg_records.specs.Truth.{RecordView};
 
 use crate::record::Record;
 use dg_world::TestId;
 use indexmap::IndexMap;
 use std::alloc::Global;
 use std::marker::Model;
+use std::mem;
 
 /// One record for each test, the newest. A contract sees the list of them, in the order in which
 /// the tests first had one.
@@ -25,7 +27,7 @@ impl Model for Shelf {
     ghost use Rattle.std.specs.Prelude.{List, IsTrue, map};
     ghost use Rattle.std.specs.List.{list_all};
     ghost use Rattle.dg_records.specs.Truth.{RecordView};
-    ghost use Rattle.dg_records.specs.Shelf.{same_test};
+    ghost use Rattle.dg_world.specs.Test.{same_test};
 
     ghost Value = { List RecordView };
 
@@ -51,15 +53,44 @@ impl Shelf {
         ensures err { OnErr result (self.new ≡ self.old) }
         ensures back { IfErr result (λ r. r ≡ newest) }
     {
+        match self.exchange(alloc, newest) {
+            Ok(_) => Ok(()),
+            Err(newest) => Err(newest),
+        }
+    }
+
+    /// Keeps a record as `keep` does, and gives the one that its test had.
+    pub fn exchange(&mut self, alloc: Global, newest: Record) -> Result<Option<Record>, Record>
+        ensures ok { IfOk result (λ previous. Exchanges self.old newest previous self.new) }
+        ensures err { OnErr result (self.new ≡ self.old) }
+        ensures back { IfErr result (λ r. r ≡ newest) }
+    {
         let Ok(test) = newest.test().copy(alloc) else {
             return Err(newest);
         };
-        match self.records.insert(test, newest) {
-            Ok(_) => Ok(()),
-            Err(refused) => {
-                let (_, back) = refused.value;
-                Err(back)
-            }
+        let refused = match self.records.insert(test, newest) {
+            Ok(previous) => return Ok(previous),
+            Err(refused) => refused,
+        };
+        let (_, back) = refused.value;
+        Err(back)
+    }
+
+    /// Undoes an exchange of a test's record: the shelf is again what it was before, and the newest record comes back. It
+    /// takes no memory.
+    pub fn put_back(&mut self, test: &TestId, previous: Option<Record>) -> Record
+        requires { (before : List RecordView) × (newest : RecordView) × (newest.test ≡ test.now) × Exchanges before newest previous self.old }
+        ensures { (before : List RecordView) (newest : RecordView) → newest.test ≡ test.now → Exchanges before newest previous self.old → (self.new ≡ before) × (result ≡ newest) }
+    {
+        match previous {
+            Some(previous) => match self.records.get_mut(test) {
+                Some(place) => mem::replace(place, previous),
+                None => unreachable!(),
+            },
+            None => match self.records.shift_remove(test) {
+                Some(newest) => newest,
+                None => unreachable!(),
+            },
         }
     }
 

@@ -7,7 +7,7 @@ ghost use Rattle.dg_results.specs.Steps.{class_at, with_result, with_line, count
 
 use crate::class::Class;
 use crate::verdict::{Line, Verdict};
-use dg_words::{Bytes, Seq};
+use dg_bytes::{Bytes, Seq};
 use std::alloc::{AllocError, Global};
 use std::marker::Model;
 

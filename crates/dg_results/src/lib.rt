@@ -3,8 +3,6 @@
 
 mod class;
 mod judging;
-#[cfg(test)]
-mod tests;
 mod verdict;
 
 pub use crate::class::Class;

@@ -3,7 +3,7 @@ ghost use Rattle.std.specs.Prelude.{◌≡◌, IfOk};
 ghost use Rattle.dg_results.specs.Tally.{count_of, tally_of, sum_of, FitTogether};
 
 use crate::class::Class;
-use dg_words::{Bytes, Seq, TryCopy};
+use dg_bytes::{Bytes, Seq, TryCopy};
 use std::alloc::{AllocError, Global};
 use std::marker::Model;
 

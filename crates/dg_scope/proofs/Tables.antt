@@ -68,3 +68,15 @@ removed m n k h =
     after : (q : List ℕ) (b : Bool) → eq_by_cmp (slice_cmp nat_cmp) q k ≡ b → lookup (is_at (λ x. slice_cmp nat_cmp q x.items)) n.entries ≡ cond b None (get (from_entries {R = slice_cmp nat_cmp} (by_bytes m.entries)) q)
     after q true e = ap (λ l. lookup (is_at (λ x. slice_cmp nat_cmp l x.items)) n.entries) (slice_cmp-IsAntisymmetric nat_cmp-IsAntisymmetric q k (tied (slice_cmp nat_cmp q k) e)) ∙ h.1
     after q false e = others m n k q h.3 e ∙ lookup-get m.entries q
+
+-- a value that is written at a name that the tree has
+pub written : {V : Type 0} (m n : BTreeMap (Vec ℕ Global) V) (k : List ℕ) (v : V) → UpdatesBy by_text (λ x. slice_cmp nat_cmp k x.items) m n (Some v) → from_entries {R = slice_cmp nat_cmp} (by_bytes n.entries) ≡ insert (from_entries (by_bytes m.entries)) k v
+written {V} m n k v h =
+    same_map nat_list_cmp_total (slice_cmp-IsAntisymmetric nat_cmp-IsAntisymmetric) _ _ (λ q.
+    sym (lookup-get n.entries q)
+    ∙ after q (eq_by_cmp (slice_cmp nat_cmp) q k) refl
+    ∙ sym (get-insert nat_list_cmp_total (from_entries (by_bytes m.entries)) k v q))
+  where
+    after : (q : List ℕ) (b : Bool) → eq_by_cmp (slice_cmp nat_cmp) q k ≡ b → lookup (is_at (λ x. slice_cmp nat_cmp q x.items)) n.entries ≡ cond b (Some v) (get (from_entries {R = slice_cmp nat_cmp} (by_bytes m.entries)) q)
+    after q true e = ap (λ l. lookup (is_at (λ x. slice_cmp nat_cmp l x.items)) n.entries) (slice_cmp-IsAntisymmetric nat_cmp-IsAntisymmetric q k (tied (slice_cmp nat_cmp q k) e)) ∙ h.1
+    after q false e = others m n k q h.3 e ∙ lookup-get m.entries q

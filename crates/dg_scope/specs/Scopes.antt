@@ -1,10 +1,12 @@
 -- Variables: the first scope's map from names to texts, and the scopes that stand above it, each with a map of its own in
 -- which a name can also be a link to the first map.
-use Rattle.std.specs.Prelude.{ℕ, Bool, true, false, ◌||◌, if◌then◌else◌, List, [], ◌∷◌, drop, Option, None, Some}
+use Rattle.std.specs.Prelude.{◌≡◌, ℕ, Bool, true, false, ◌||◌, if◌then◌else◌, List, [], ◌∷◌, ◌++◌, ◌≤◌, length, drop, Option, None, Some, Ok}
 use Rattle.std.specs.Ordering.{nat_cmp}
 use Rattle.std.specs.Cmp.Lexicographic.{slice_cmp}
 use Rattle.std.specs.FinMap as map
 use Rattle.std.specs.FinMap.{FinMap}
+use Rattle.dg_words.specs.Canonical.{text_of_list}
+use Rattle.dg_words.specs.Elements.{elements_of}
 use Rattle.dg_scope.specs.Names.{is_qualified, global_name, base_of}
 use Rattle.dg_scope.specs.declared.scope.Slot.{Slot}
 use Rattle.dg_scope.specs.declared.scope.Slot.TheVariants.{Held, Link}
@@ -85,6 +87,17 @@ with_value v name text =
     if means_global v name
     then with_global v name text
     else (record v { scopes = with_place v.scopes name (Held text) })
+
+-- the text of a name, of which one that isn't set has none
+abbrev pub or_none : Option (List ℕ) → List ℕ
+or_none None = []
+or_none (Some text) = text
+
+-- A name is set to the canonical text of the list that it held with more elements behind, which is no longer than a value
+-- may be.
+abbrev pub LongerList : Variables → List ℕ → List (List ℕ) → Variables → Type 0
+LongerList old name more new =
+    (xs : List (List ℕ)) × ((elements_of (or_none (value_of old name)) ≡ Ok xs) × (new ≡ with_value old name (text_of_list (xs ++ more))) × (length (text_of_list (xs ++ more)) ≤ value_limit))
 
 -- a name unset
 abbrev pub without_value : Variables → List ℕ → Variables

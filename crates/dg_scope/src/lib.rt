@@ -6,8 +6,6 @@ mod name;
 mod scope;
 mod scopes;
 mod table;
-#[cfg(test)]
-mod tests;
 
 pub use crate::fault::ScopeFault;
 pub use crate::name::{base_of, global_name, has_index};

@@ -1,12 +1,15 @@
 //! One scope.
-ghost use Rattle.std.specs.Prelude.{◌≡◌};
+ghost use Rattle.std.specs.Prelude.{◌≡◌, IsFalse, IsTrue, Some, false, is_some};
+ghost use Rattle.dg_scope.specs.declared.scope.Slot.TheVariants.{Held};
 ghost use Rattle.std.specs.Option.{option_copied};
 ghost use Rattle.std.specs.FinMap as map;
 ghost use Rattle.dg_scope.specs.Scopes.{Names, is_link, means_global_in, held};
 
 use crate::name::{base_of, is_qualified};
 use crate::table::Table;
-use dg_words::Bytes;
+use dg_bytes::Bytes;
+use std::alloc::Global;
+use std::mem;
 
 /// What a name is in a scope: a text, or a link to the global of that name.
 #[derive(Drop)]
@@ -51,4 +54,34 @@ pub(crate) fn own_text<'a>(names: &'a Table<Slot>, name: &[u8]) -> Option<&'a [u
         Some(Slot::Held(text)) => Some(text.as_slice()),
         _ => None,
     }
+}
+
+/// The value that a name has in a scope of its own.
+pub(crate) fn own_value<'a>(names: &'a Table<Slot>, name: &[u8]) -> Option<&'a Bytes>
+    ensures { option_copied result ≡ held (map.get names.now name.now) }
+{
+    match names.get(name) {
+        Some(Slot::Held(text)) => Some(text),
+        _ => None,
+    }
+}
+
+/// Exchanges the value that a name has in a scope of its own for another, if it has one.
+pub(crate) fn exchange_own(
+    alloc: Global,
+    names: &mut Table<Slot>,
+    name: &[u8],
+    value: &mut Bytes,
+) -> bool
+    requires { is_link (map.get names.old name.now) ≡ false }
+    ensures found { result ≡ is_some (held (map.get names.old name.now)) }
+    ensures exchanged { IsTrue result → (held (map.get names.old name.now) ≡ Some value.new) × (names.new ≡ map.insert names.old name.now (Held value.old)) }
+    ensures absent { IsFalse result → (names.new ≡ names.old) × (value.new ≡ value.old) }
+{
+    let mut slot = Slot::Held(mem::replace(value, Bytes::new(alloc)));
+    let found = names.exchange(name, &mut slot);
+    if let Slot::Held(text) = slot {
+        *value = text;
+    }
+    found
 }

@@ -1,14 +1,18 @@
 //! The variables of an evaluation.
-ghost use Rattle.std.specs.Prelude.{◌≡◌, ◌∷◌, ◌⊎◌, Err, ◌<◌, ◌↔◌, IsTrue, is_some, Some, None, IsSome, IfOk, IfErr, OnOk, OnErr, length};
+ghost use Rattle.std.specs.Prelude.{◌≡◌, ◌∷◌, ◌++◌, [], ◌⊎◌, ℕ, List, IsFalse, Ok, Err, ◌<◌, ◌≤◌, ◌↔◌, IsTrue, is_some, Some, None, IsSome, IfOk, IfErr, OnOk, OnErr, length};
 ghost use Rattle.std.specs.Option.{option_copied};
 ghost use Rattle.std.specs.FinMap as map;
-ghost use Rattle.dg_scope.specs.Scopes.{value_limit, no_variables, means_global, global_value, value_of, with_global, with_value, without_value, with_link, with_scope, with_outermost, without_scope};
+ghost use Rattle.dg_words.specs.Appending.{Refuses};
+ghost use Rattle.dg_words.specs.Canonical.{text_of_list};
+ghost use Rattle.dg_words.specs.Elements.{elements_of};
+ghost use Rattle.dg_scope.specs.Scopes.{LongerList, or_none, value_limit, no_variables, means_global, global_value, value_of, with_global, with_value, without_value, with_link, with_scope, with_outermost, without_scope};
 
 use crate::fault::ScopeFault;
 use crate::name::global_name;
-use crate::scope::{Scope, Slot, own_text};
+use crate::scope::{Scope, Slot, exchange_own, own_text, own_value};
 use crate::table::Table;
-use dg_words::Bytes;
+use dg_bytes::Bytes;
+use dg_words::{ListFault, append_elements};
 use std::alloc::{AllocError, Global};
 use std::marker::Model;
 
@@ -76,6 +80,15 @@ impl Scopes {
         self.text(name).ok_or(ScopeFault::NoSuchVariable)
     }
 
+    /// The value of a name, to be shared, or NoSuchVariable exactly where it isn't set.
+    pub fn value(&self, name: &[u8]) -> Result<&Bytes, ScopeFault>
+        ensures set { IfOk result (λ text. value_of self.now name.now ≡ Some text.now) }
+        ensures unset { IfErr result (λ fault. fault ≡ ScopeFault.NoSuchVariable) }
+        ensures absent { OnErr result (value_of self.now name.now ≡ None) }
+    {
+        self.held(name).ok_or(ScopeFault::NoSuchVariable)
+    }
+
     /// The value of a global, whatever the name means where evaluation is now, or NoSuchVariable
     /// exactly where that global isn't set.
     pub fn read_global(&self, name: &[u8]) -> Result<&[u8], ScopeFault>
@@ -107,7 +120,7 @@ impl Scopes {
         &mut self,
         alloc: Global,
         name: &[u8],
-        value: Bytes,
+        mut value: Bytes,
     ) -> Result<(), ScopeFault>
         ensures ok { OnOk result (self.new ≡ with_global self.old name.now value) }
         ensures too_long { (result ≡ Err ScopeFault.TooLong) ↔ (value_limit < length value) }
@@ -117,12 +130,13 @@ impl Scopes {
         if is_too_long(&value) {
             return Err(ScopeFault::TooLong);
         }
+        value.keep(alloc)?;
         self.globals.insert(alloc, global_name(name), value)?;
         Ok(())
     }
 
     /// Sets a name to a value of at most `LONGEST_VALUE` bytes.
-    pub fn write(&mut self, alloc: Global, name: &[u8], value: Bytes) -> Result<(), ScopeFault>
+    pub fn write(&mut self, alloc: Global, name: &[u8], mut value: Bytes) -> Result<(), ScopeFault>
         ensures ok { OnOk result (self.new ≡ with_value self.old name.now value) }
         ensures too_long { (result ≡ Err ScopeFault.TooLong) ↔ (value_limit < length value) }
         ensures kinds { IfErr result (λ fault. (fault ≡ ScopeFault.TooLong) ⊎ (fault ≡ ScopeFault.Memory)) }
@@ -131,12 +145,56 @@ impl Scopes {
         if is_too_long(&value) {
             return Err(ScopeFault::TooLong);
         }
+        value.keep(alloc)?;
         let is_global = self.is_global(name);
         match &mut self.current {
             Scope::Local(names) if !is_global => names.insert(alloc, name, Slot::Held(value))?,
             _ => self.globals.insert(alloc, global_name(name), value)?,
         }
         Ok(())
+    }
+
+    /// Puts bytes behind the value of a name (Tcl(n), append), of which one that isn't set has none. Where
+    /// the variable alone holds its value it grows in place.
+    #[tactic(auto, using(crate::proofs::Exchanges::twice, crate::proofs::Exchanges::back, crate::proofs::Exchanges::is_set))]
+    pub fn append_text(&mut self, alloc: Global, name: &[u8], more: &[u8]) -> Result<(), ScopeFault>
+        ensures ok { OnOk result (self.new ≡ with_value self.old name.now (or_none (value_of self.old name.now) ++ more.now)) }
+        ensures too_long { (result ≡ Err ScopeFault.TooLong) ↔ (value_limit < length (or_none (value_of self.old name.now) ++ more.now)) }
+        ensures kinds { IfErr result (λ fault. (fault ≡ ScopeFault.TooLong) ⊎ (fault ≡ ScopeFault.Memory)) }
+        ensures err { OnErr result (self.new ≡ self.old) }
+    {
+        let mut value = Bytes::new(alloc);
+        let was_set = self.exchange(alloc, name, &mut value);
+        if !was_set {
+            return self.begin_text(alloc, name, more);
+        }
+        let grown = add_text(&mut value, more);
+        self.exchange(alloc, name, &mut value);
+        grown
+    }
+
+    /// Puts elements behind those of the list that a name holds (Tcl(n), lappend), of which one that isn't
+    /// set has none. Where the variable alone holds its value, with the elements beside it, it grows in
+    /// place.
+    #[tactic(auto, using(crate::proofs::Exchanges::twice, crate::proofs::Exchanges::back, crate::proofs::Exchanges::is_set))]
+    pub fn append_elements(
+        &mut self,
+        alloc: Global,
+        name: &[u8],
+        more: &[Bytes],
+    ) -> Result<(), ListFault>
+        ensures done { OnOk result (LongerList self.old name.now more.now self.new) }
+        ensures refused { IfErr result (Refuses (or_none (value_of self.old name.now)) more.now value_limit) }
+        ensures err { OnErr result (self.new ≡ self.old) }
+    {
+        let mut value = Bytes::new(alloc);
+        let was_set = self.exchange(alloc, name, &mut value);
+        if !was_set {
+            return self.begin_list(alloc, name, more);
+        }
+        let grown = append_elements(alloc, &mut value, more, LONGEST_VALUE);
+        self.exchange(alloc, name, &mut value);
+        grown
     }
 
     /// Unsets a name, or answers NoSuchVariable exactly where it isn't set. A link stays.
@@ -208,6 +266,52 @@ impl Scopes {
         }
     }
 
+    /// Exchanges the value of a name for another, if it is set.
+    fn exchange(&mut self, alloc: Global, name: &[u8], value: &mut Bytes) -> bool
+        ensures found { result ≡ is_some (value_of self.old name.now) }
+        ensures exchanged { IsTrue result → (value_of self.old name.now ≡ Some value.new) × (self.new ≡ with_value self.old name.now value.old) }
+        ensures absent { IsFalse result → (self.new ≡ self.old) × (value.new ≡ value.old) }
+    {
+        let is_global = self.is_global(name);
+        match &mut self.current {
+            Scope::Local(names) if !is_global => exchange_own(alloc, names, name, value),
+            _ => self.globals.exchange(global_name(name), value),
+        }
+    }
+
+    /// Sets a name that isn't set to a text.
+    fn begin_text(&mut self, alloc: Global, name: &[u8], text: &[u8]) -> Result<(), ScopeFault>
+        ensures ok { OnOk result (self.new ≡ with_value self.old name.now text.now) }
+        ensures too_long { (result ≡ Err ScopeFault.TooLong) ↔ (value_limit < length text.now) }
+        ensures kinds { IfErr result (λ fault. (fault ≡ ScopeFault.TooLong) ⊎ (fault ≡ ScopeFault.Memory)) }
+        ensures err { OnErr result (self.new ≡ self.old) }
+    {
+        if text.len() > LONGEST_VALUE {
+            return Err(ScopeFault::TooLong);
+        }
+        let value = Bytes::from_slice(alloc, text)?;
+        self.write(alloc, name, value)
+    }
+
+    /// Sets a name that isn't set to a list.
+    fn begin_list(
+        &mut self,
+        alloc: Global,
+        name: &[u8],
+        elements: &[Bytes],
+    ) -> Result<(), ListFault>
+        ensures done { OnOk result ((xs : List (List ℕ)) × ((elements_of [] ≡ Ok xs) × (self.new ≡ with_value self.old name.now (text_of_list (xs ++ elements.now))) × (length (text_of_list (xs ++ elements.now)) ≤ value_limit))) }
+        ensures refused { IfErr result (Refuses [] elements.now value_limit) }
+        ensures err { OnErr result (self.new ≡ self.old) }
+    {
+        let mut value = Bytes::new(alloc);
+        append_elements(alloc, &mut value, elements, LONGEST_VALUE)?;
+        match self.write(alloc, name, value) {
+            Ok(()) => Ok(()),
+            Err(_) => Err(ListFault::Memory),
+        }
+    }
+
     /// The text of a name, if it is set.
     fn text(&self, name: &[u8]) -> Option<&[u8]>
         ensures { option_copied result ≡ value_of self.now name.now }
@@ -215,6 +319,16 @@ impl Scopes {
         match &self.current {
             Scope::Local(names) if !self.is_global(name) => own_text(names, name),
             _ => self.global_text(name),
+        }
+    }
+
+    /// The value of a name, if it is set.
+    fn held(&self, name: &[u8]) -> Option<&Bytes>
+        ensures { option_copied result ≡ value_of self.now name.now }
+    {
+        match &self.current {
+            Scope::Local(names) if !self.is_global(name) => own_value(names, name),
+            _ => self.globals.get(global_name(name)),
         }
     }
 
@@ -249,4 +363,20 @@ fn is_too_long(value: &Bytes) -> bool
     ensures { IsTrue result ↔ (value_limit < length value.now) }
 {
     value.len() > LONGEST_VALUE
+}
+
+/// Puts bytes behind a value, which has at most `LONGEST_VALUE` then, or changes nothing.
+fn add_text(value: &mut Bytes, more: &[u8]) -> Result<(), ScopeFault>
+    ensures ok { OnOk result (value.new ≡ value.old ++ more.now) }
+    ensures too_long { (result ≡ Err ScopeFault.TooLong) ↔ (value_limit < length (value.old ++ more.now)) }
+    ensures kinds { IfErr result (λ fault. (fault ≡ ScopeFault.TooLong) ⊎ (fault ≡ ScopeFault.Memory)) }
+    ensures err { OnErr result (value.new ≡ value.old) }
+{
+    match value.len().checked_add(more.len()) {
+        Some(count) if count <= LONGEST_VALUE => {
+            value.extend(more)?;
+            Ok(())
+        }
+        _ => Err(ScopeFault::TooLong),
+    }
 }

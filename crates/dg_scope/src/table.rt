@@ -1,11 +1,12 @@
 //! Values by name.
-ghost use Rattle.std.specs.Prelude.{◌≡◌, OnOk, OnErr};
+ghost use Rattle.std.specs.Prelude.{◌≡◌, IsFalse, IsTrue, OnOk, OnErr, Some};
 ghost use Rattle.std.specs.Option.{option_copied};
 ghost use Rattle.std.specs.FinMap as map;
 
 use std::alloc::{AllocError, Global};
 use std::collections::BTreeMap;
 use std::marker::Model;
+use std::mem;
 
 /// Values by name. A contract sees the finite map from names, in byte order, to values.
 pub struct Table<V> {
@@ -57,11 +58,29 @@ impl<V: Drop> Table<V> {
         self.entries.contains_key(name)
     }
 
+    /// Exchanges the value of a name for another, if it has one.
+    pub fn exchange(&mut self, name: &[u8], value: &mut V) -> bool
+        ensures found { result ≡ map.contains_key self.old name.now }
+        ensures exchanged { IsTrue result → (map.get self.old name.now ≡ Some value.new) × (self.new ≡ map.insert self.old name.now value.old) }
+        ensures absent { IsFalse result → (self.new ≡ self.old) × (value.new ≡ value.old) }
+    {
+        match self.entries.get_mut(name) {
+            Some(held) => {
+                mem::swap(held, value);
+                true
+            }
+            None => false,
+        }
+    }
+
     /// Gives a name a value, or changes nothing.
-    pub fn insert(&mut self, alloc: Global, name: &[u8], value: V) -> Result<(), AllocError>
+    pub fn insert(&mut self, alloc: Global, name: &[u8], mut value: V) -> Result<(), AllocError>
         ensures ok { OnOk result (self.new ≡ map.insert self.old name.now value) }
         ensures err { OnErr result (self.new ≡ self.old) }
     {
+        if self.exchange(name, &mut value) {
+            return Ok(());
+        }
         let name = Vec::from_slice(alloc, name)?;
         self.entries.insert(name, value)?;
         Ok(())

@@ -5,8 +5,6 @@ mod judged;
 mod report;
 mod summary;
 mod tally;
-#[cfg(test)]
-mod tests;
 
 pub use crate::judged::Judged;
 pub use crate::report::{exit_status, sum_text};

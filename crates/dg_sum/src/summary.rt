@@ -2,8 +2,8 @@
 ghost use Rattle.std.specs.Prelude.{◌≡◌, ◌++◌, OnOk, length};
 ghost use Rattle.dg_sum.specs.Report.{tabs, count_text, plain_counts, known_counts, open_counts, counts_text, board_summary, summary};
 
+use dg_bytes::Bytes;
 use dg_results::Tally;
-use dg_words::Bytes;
 use itoa::Buffer;
 use std::alloc::AllocError;
 

@@ -5,8 +5,8 @@ ghost use Rattle.dg_results.specs.Tally.{tally_of};
 ghost use Rattle.dg_sum.specs.Report.{lines_on, lines_of_board};
 
 use crate::judged::Judged;
+use dg_bytes::Bytes;
 use dg_results::Tally;
-use dg_words::Bytes;
 
 /// No lines.
 #[tactic(auto, unfolding(dg_results::specs::Tally::tally_of))]
@@ -30,7 +30,7 @@ fn no_lines() -> Tally
 fn tally_of_test(board: &Bytes, judged: &Judged) -> Tally
     ensures { result ≡ tally_of (lines_on board.now judged.now) }
 {
-    if judged.test.board.as_slice() == board.as_slice() {
+    if judged.test.board().as_slice() == board.as_slice() {
         judged.verdict.tally()
     } else {
         no_lines()

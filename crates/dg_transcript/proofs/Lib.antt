@@ -12,3 +12,4 @@ pub mod Digits
 pub mod Splitting
 pub mod WordsLemmas
 pub mod SmallDigits
+pub mod DecodedLemmas

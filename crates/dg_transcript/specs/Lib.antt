@@ -3,8 +3,10 @@ pub mod Kept
 pub mod Limits
 pub mod Lines
 pub mod Order
+pub mod Output
 pub mod Replay
 pub mod Sessions
+pub mod Decoded
 pub mod Small
 pub mod Spaced
 pub mod Step

@@ -7,6 +7,7 @@ use Rattle.dg_transcript.specs.declared.cursor.Act.{Act}
 use Rattle.dg_transcript.specs.declared.cursor.Act.TheVariants as act
 use Rattle.dg_transcript.specs.declared.cursor.Action.{Action}
 use Rattle.dg_transcript.specs.declared.cursor.Action.TheVariants as action
+use Rattle.dg_transcript.specs.Output.{output_of}
 use Rattle.dg_transcript.specs.Step.{Step, step, same_bytes, same_words}
 
 -- the entries that are left, what is left of the first one's wait where some of it has passed, and
@@ -101,9 +102,13 @@ replay add action.Wait l = waits l.buffer l.entries
 -- ---- the same, one step at a time
 
 -- the buffer behind an entry that was passed over or that answered
+abbrev pub with_output : (List ℕ → List ℕ → List ℕ) → List ℕ → Option (ℕ × List ℕ) → List ℕ
+with_output add buffer None = buffer
+with_output add buffer (Some o) = add buffer o.1
+
 abbrev pub buffer_behind : (List ℕ → List ℕ → List ℕ) → Action → Entry → List ℕ → List ℕ
-buffer_behind add (action.Send bytes) (entry.Chunk wait given) buffer = add buffer given
-buffer_behind add (action.Read limit) (entry.Chunk wait given) buffer = add buffer given
+buffer_behind add (action.Send bytes) e buffer = with_output add buffer (output_of e)
+buffer_behind add (action.Read limit) e buffer = with_output add buffer (output_of e)
 buffer_behind add action.Close e buffer = []
 buffer_behind add a e buffer = buffer
 

@@ -1,12 +1,11 @@
 //! A recorded session replayed, one entry at a time.
-ghost use Rattle.std.specs.Prelude.{◌≡◌, ◌<◌, ◌+◌, ◌++◌, option_copied, Some, None, if◌then◌else◌, OnOk, OnErr};
-ghost use Rattle.dg_transcript.specs.Replay.{buffer_behind};
+ghost use Rattle.std.specs.Prelude.{◌≡◌, ◌<◌, ◌+◌, option_copied, Some, None, if◌then◌else◌};
 ghost use Rattle.dg_transcript.specs.Step.{step, step_at, arrives, is_silent, gone_on};
 
 use crate::entry::Entry;
 use crate::limits::MAX_ENTRIES;
-use dg_words::{Bytes, Seq};
-use std::alloc::AllocError;
+use dg_bytes::{Bytes, Seq, TryCopy};
+use std::alloc::{AllocError, Global};
 
 /// What a script asks of a session.
 #[derive(Drop, PartialEq, Eq, Hash)]
@@ -23,24 +22,15 @@ pub enum Action {
     Wait,
 }
 
-impl Action {
-    /// What an entry that was passed over, or that answered, does to the bytes that were read and
-    /// not yet taken: a chunk comes behind them, and a close empties them.
-    pub fn hear(&self, entry: &Entry, buffer: &mut Bytes) -> Result<(), AllocError>
-        ensures ok { OnOk result (buffer.new ≡ buffer_behind (λ b c. b ++ c) self.now entry.now buffer.old) }
-        ensures err { OnErr result (buffer.new ≡ buffer.old) }
-    {
-        match self {
-            Action::Send(_) | Action::Read(_) => match entry {
-                Entry::Chunk(_, bytes) => buffer.extend(bytes.as_slice()),
-                _ => Ok(()),
-            },
-            Action::Close => {
-                buffer.clear();
-                Ok(())
-            }
-            Action::Spawn(_) | Action::Wait => Ok(()),
-        }
+impl TryCopy for Action {
+    fn copy(&self, alloc: Global) -> Result<Action, AllocError> {
+        Ok(match self {
+            Action::Spawn(words) => Action::Spawn(words.copy(alloc)?),
+            Action::Send(bytes) => Action::Send(bytes.copy(alloc)?),
+            Action::Read(limit) => Action::Read(*limit),
+            Action::Close => Action::Close,
+            Action::Wait => Action::Wait,
+        })
     }
 }
 

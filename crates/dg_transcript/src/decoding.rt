@@ -15,7 +15,7 @@ use crate::line::{Line, Place};
 use crate::reading::read_line;
 use crate::transcript::Transcript;
 use bstr::ByteSlice;
-use dg_words::Seq;
+use dg_bytes::Seq;
 use std::alloc::{AllocError, Global};
 use std::marker::Model;
 use std::mem;

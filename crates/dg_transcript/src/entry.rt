@@ -1,10 +1,11 @@
 //! What a child did, one step at a time.
-ghost use Rattle.std.specs.Prelude.{◌≡◌};
+ghost use Rattle.std.specs.Prelude.{◌≡◌, MatchOption, Some, None};
+ghost use Rattle.dg_transcript.specs.Output.{output_of, is_failure};
 ghost use Rattle.dg_transcript.specs.Order.{role_of};
 
 use crate::code::Code;
 use crate::line::Role;
-use dg_words::{Bytes, Seq, TryCopy};
+use dg_bytes::{Bytes, Seq, TryCopy};
 use std::alloc::{AllocError, Global};
 
 /// One entry of a session's record.
@@ -39,6 +40,30 @@ pub enum Entry {
 }
 
 impl Entry {
+    /// What came from the child by this entry: after so many milliseconds, these bytes.
+    pub fn output(&self) -> Option<(u32, &Bytes)>
+        ensures { MatchOption result (output_of self.now ≡ None) (λ o. output_of self.now ≡ Some (o.0, o.1.now)) }
+    {
+        match self {
+            Entry::Chunk(wait, bytes) => Some((*wait, bytes)),
+            _ => None,
+        }
+    }
+
+    /// Whether the entry tells of a call that failed.
+    pub fn is_failure(&self) -> bool
+        ensures { result ≡ is_failure self.now }
+    {
+        matches!(
+            self,
+            Entry::NoStart(..)
+                | Entry::NoSend(..)
+                | Entry::NoRead(_)
+                | Entry::NoClose(_)
+                | Entry::NoWait(_)
+        )
+    }
+
     /// What the entry does in its session.
     pub(crate) fn role(&self) -> Role
         ensures { result ≡ role_of self.now }

@@ -10,7 +10,7 @@ ghost use Rattle.dg_transcript.specs.Small.{is_small};
 use crate::cause::Cause;
 use crate::code::Code;
 use crate::limits::MAX_WORDS;
-use dg_words::{Bytes, Seq};
+use dg_bytes::{Bytes, Seq};
 use hex::FromHexError;
 use std::alloc::Global;
 

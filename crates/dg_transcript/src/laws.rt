@@ -8,6 +8,7 @@ ghost use Rattle.dg_transcript.specs.declared.cause.Cause.{Cause as Why};
 ghost use Rattle.dg_transcript.specs.Limits.{IsTranscript};
 ghost use Rattle.dg_transcript.specs.Lines.{IsFirstBad};
 ghost use Rattle.dg_transcript.specs.Text.{text_of};
+ghost use Rattle.dg_transcript.specs.Decoded.{EachTextIsDecoded};
 
 use crate::cause::Cause;
 use crate::decoding::decode;
@@ -25,6 +26,11 @@ pub fn one_fault()
     ensures one { (text : List ℕ) (n m : ℕ) (why other : Why) →
         IsFirstBad text n why → IsFirstBad text m other → (n ≡ m) × (why ≡ other) }
     ensures none { (ss : List (List Entry)) (n : ℕ) (why : Why) → IsTranscript ss → ¬ IsFirstBad (text_of ss) n why }
+{}
+
+/// Each text spells just one transcript, or has just one first bad line, with one cause.
+pub fn each_text_is_decoded()
+    ensures { EachTextIsDecoded }
 {}
 
 /// Steps over the entries that are left are the replay of them, for each action and however a

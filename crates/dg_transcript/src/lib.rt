@@ -19,9 +19,8 @@ pub use crate::code::Code;
 pub use crate::cursor::{Act, Action, Cursor};
 pub use crate::decoding::decode;
 pub use crate::entry::Entry;
-pub use crate::laws::{decode_encoded, one_fault, one_text, steps_are_replay};
+pub use crate::laws::{
+    decode_encoded, each_text_is_decoded, one_fault, one_text, steps_are_replay,
+};
 pub use crate::transcript::Transcript;
 pub use crate::writing::encode;
-
-#[cfg(test)]
-mod tests;

@@ -5,7 +5,7 @@ ghost use Rattle.dg_transcript.specs.Limits.{BytesFit, WordsFit, EntryFits, IsSe
 
 use crate::entry::Entry;
 use crate::line::Place;
-use dg_words::{Bytes, Seq};
+use dg_bytes::{Bytes, Seq};
 
 /// The most sessions of a transcript.
 pub(crate) const MAX_SESSIONS: usize = 64;

@@ -1,10 +1,11 @@
 //! The record of a test's sessions.
-ghost use Rattle.std.specs.Prelude.{◌≡◌, ◌↔◌, IsTrue, IsOk, IfOk, IfErr, List, slice_get, option_copied, option_and_then};
+ghost use Rattle.std.specs.Prelude.{◌≡◌, ◌↔◌, IsTrue, IsOk, IfOk, IfErr, List, option_copied};
 ghost use Rattle.dg_transcript.specs.Limits.{IsTranscript};
+ghost use Rattle.dg_transcript.specs.Sessions.{entry_at};
 
 use crate::entry::Entry;
 use crate::limits::are_transcript;
-use dg_words::{Seq, TryCopy};
+use dg_bytes::{Seq, TryCopy};
 use std::alloc::{AllocError, Global};
 use std::marker::Model;
 
@@ -62,11 +63,16 @@ impl Transcript {
         self.sessions.as_slice()
     }
 
-    /// Entry `place` of a session, both counted from 0, or nothing where the record has ended.
-    pub fn entry(&self, session: usize, place: usize) -> Option<&Entry>
-        ensures { option_copied result ≡ option_and_then (λ es. slice_get es place) (slice_get self.now session) }
+    /// The entry of a session, counted from 1, at a place, counted from 0, as a [`Cursor`] counts
+    /// them; nothing where there is no such session or its record has ended.
+    ///
+    /// [`Cursor`]: crate::Cursor
+    pub fn entry(&self, session: u32, place: u32) -> Option<&Entry>
+        ensures { option_copied result ≡ entry_at self.now session place }
     {
-        self.sessions.as_slice().get(session)?.as_slice().get(place)
+        let index = session.checked_sub(1)?;
+        let entries = self.sessions.as_slice().get(index as usize)?;
+        entries.as_slice().get(place as usize)
     }
 }
 

@@ -8,7 +8,7 @@ ghost use Rattle.dg_transcript.specs.declared.line.Line.TheVariants as line;
 use crate::code::Code;
 use crate::entry::Entry;
 use crate::transcript::Transcript;
-use dg_words::{Bytes, Seq};
+use dg_bytes::{Bytes, Seq};
 use std::alloc::{AllocError, Global};
 
 fn push_field(out: &mut Bytes, field: &[u8]) -> Result<(), AllocError>

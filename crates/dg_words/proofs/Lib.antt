@@ -7,5 +7,7 @@ pub mod Own
 pub mod Kept
 pub mod Advance
 pub mod Listing
+pub mod ListRuns
+pub mod ByClass
 pub mod RoundTrip
 pub mod First

@@ -1,10 +1,8 @@
--- Reading of a list goes on by one byte, and the loops over an element and over a list.
-use Rattle.std.specs.Prelude.{◌≡◌, ℕ, zero, suc, ◌+◌, ◌≤◌, ◌<◌, List, length, drop, get_or, refl, Ok, Err, Result, Bool, true, false, Option, None, Some, not, ◌&&◌, ◌==◌, nat_lt}
+-- Reading of a list goes on by one byte.
+use Rattle.std.specs.Prelude.{◌≡◌, ℕ, ◌+◌, ◌≤◌, ◌<◌, List, length, drop, get_or, refl, Ok, Err, Result, nat_lt}
 use Rattle.std.proofs.Common.{◌∙◌, ap, arith, subst}
 use Rattle.std.proofs.lemmas.List.{at_drop_more, at_drop_all}
 use Rattle.dg_words.specs.declared.fault.WordFault.{WordFault}
-use Rattle.dg_words.specs.declared.kinds.Class.{Class}
-use Rattle.dg_words.specs.declared.kinds.Class.TheVariants as class
 use Rattle.dg_words.specs.declared.kinds.Deed.{Deed}
 use Rattle.dg_words.specs.declared.kinds.Deed.TheVariants as deed
 use Rattle.dg_words.specs.declared.kinds.Next.{Next}
@@ -12,7 +10,6 @@ use Rattle.dg_words.specs.declared.kinds.Next.TheVariants as next
 use Rattle.dg_words.specs.declared.kinds.Turn.{Turn}
 use Rattle.dg_words.specs.Classes.{class_of}
 use Rattle.dg_words.specs.Elements.{Listing, list_deed, list_follow, list_onward, list_read, list_step, list_stop, list_stopped, list_turn}
-use Rattle.dg_words.specs.Canonical.{brace_step, is_plain, is_special, may_be_braced, onto}
 
 pub list_on : (text : List ℕ) (s : Listing) (p : ℕ) → p < length text →
     list_read (drop p text) s p ≡ list_onward (list_step s (get_or text p 0)) p (λ n. list_read (drop (p + 1) text) n (p + 1))
@@ -53,31 +50,3 @@ step_deep s b =
 
 pub step_depth : (s n : Listing) (b : ℕ) → list_step s b ≡ Ok n → n.depth ≤ s.depth + 1
 step_depth s n b e = subst (λ m. Deep s.depth m) e (step_deep s b)
-
--- the loops over an element
-pub plain_on : (t : List ℕ) (p : ℕ) → p < length t → is_plain (drop p t) ≡ (not (is_special (class_of (get_or t p 0))) && is_plain (drop (p + 1) t))
-plain_on t p lt = at_drop_more is_plain t p 0 lt
-
-pub plain_all : (t : List ℕ) (p : ℕ) → length t ≤ p → is_plain (drop p t) ≡ true
-plain_all t p le = at_drop_all is_plain t p le
-
-pub brace_on : (q : Bool) (d : ℕ) (t : List ℕ) (p : ℕ) → p < length t →
-    may_be_braced q d (drop p t) ≡ onto (brace_step q d (class_of (get_or t p 0))) (λ r e. may_be_braced r e (drop (p + 1) t))
-brace_on q d t p lt = at_drop_more (λ xs. may_be_braced q d xs) t p 0 lt
-
-pub brace_all : (q : Bool) (d : ℕ) (t : List ℕ) (p : ℕ) → length t ≤ p → may_be_braced q d (drop p t) ≡ (not q && (d == 0))
-brace_all q d t p le = at_drop_all (λ xs. may_be_braced q d xs) t p le
-
-abbrev pub Rises : ℕ → Option (Bool × ℕ) → Type 0
-Rises d None = Unit {0}
-Rises d (Some x) = x.1 ≤ d + 1
-
-pub brace_rises : (q : Bool) (d : ℕ) (c : Class) → Rises d (brace_step q d c)
-brace_rises true d class.Newline = tt
-brace_rises true d c = omega arith
-brace_rises false d class.Backslash = omega arith
-brace_rises false d class.Open = omega arith
-brace_rises false zero class.Close = tt
-brace_rises false (suc d) class.Close = omega arith
-brace_rises false zero c = omega arith
-brace_rises false (suc d) c = omega arith

@@ -17,7 +17,9 @@ use Rattle.dg_words.specs.declared.kinds.Turn.{Turn}
 use Rattle.dg_words.specs.Classes.{class_of, is_name}
 use Rattle.dg_words.specs.Turns.{does, escaped, goes, puts}
 use Rattle.dg_words.specs.Elements.{Listing, elements_of, list_deed, list_ends, list_follow, list_onward, list_read, list_step, list_stop, list_stopped, list_turn, without_place}
-use Rattle.dg_words.specs.Canonical.{begins_with_hash, brace_step, element_text, escaped_byte, escaped_text, further_text, hash_covered, is_hash, is_plain, is_special, may_be_braced, onto, text_of_list}
+use Rattle.dg_words.specs.Canonical.{text_of_list}
+use Rattle.dg_bytes.specs.Canonical.{hash_covered, onto}
+use Rattle.dg_words.proofs.ByClass.{begins_with_hash, brace_step, element_text, escaped_byte, escaped_text, further_text, is_hash, is_plain, is_special, may_be_braced, text_by, text_by_class}
 
 -- read from s on, t leaves n, whatever follows
 record Leads (s : Listing) (t : List ℕ) (n : Listing) : Type 0 where
@@ -316,13 +318,20 @@ further_reads (y ∷ ys) xs x s p l =
     ap (λ r. list_onward r p (λ n. list_read (element_text false y ++ further_text ys) n (p + 1))) l.gap ∙ a.1 ∙ further_reads ys (xs ++ x ∷ []) y e.state a.0 e.landed
     ∙ ap (λ (z : List (List ℕ)). Ok z) (append_assoc xs (x ∷ []) (y ∷ ys))
 
-pub round_trip : (xs : List (List ℕ)) → elements_of (text_of_list xs) ≡ Ok xs
-unfolding text_of_list elements_of list_read list_stop list_ends
-round_trip [] = refl
-round_trip (x ∷ xs) =
+class_trip : (xs : List (List ℕ)) → elements_of (text_by_class xs) ≡ Ok xs
+unfolding elements_of list_read list_stop list_ends
+class_trip [] = refl
+class_trip (x ∷ xs) =
     let e = lands [] true x in
     let a = e.leads.on (further_text xs) 0 in
     ap without_place (a.1 ∙ further_reads xs [] x e.state a.0 e.landed)
+
+pub round_trip : (xs : List (List ℕ)) → elements_of (text_of_list xs) ≡ Ok xs
+round_trip xs = ap elements_of (text_by xs) ∙ class_trip xs
+
+-- a text that is a list's canonical one has that list's elements
+pub kept_reads : (text : List ℕ) (xs : List (List ℕ)) → text ≡ text_of_list xs → elements_of text ≡ Ok xs
+kept_reads text xs e = ap elements_of e ∙ round_trip xs
 
 -- so what reads a text reads a canonical one as its list
 pub gives_back : (text : List ℕ) (r : Result (List (List ℕ)) WordFault) →

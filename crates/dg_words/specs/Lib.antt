@@ -9,6 +9,8 @@ pub mod Runs
 pub mod Reading
 pub mod Answers
 pub mod Elements
+pub mod ListRuns
 pub mod Canonical
+pub mod Appending
 pub mod First
 pub mod Faults

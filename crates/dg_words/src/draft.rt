@@ -3,10 +3,9 @@ ghost use Rattle.std.specs.Prelude.{◌≡◌, ◌++◌, ◌∷◌, [], ◌==◌
 ghost use Rattle.dg_words.specs.Machine.{add, close, close_index, command, end_word, open_index, perform};
 ghost use Rattle.dg_words.specs.Parts.{pieces_of_part};
 
-use crate::bytes::Bytes;
 use crate::kinds::{Deed, Spot};
-use crate::seq::Seq;
 use crate::word::{Part, Parts, Word};
+use dg_bytes::{Bytes, Seq};
 use std::alloc::{AllocError, Global};
 use std::marker::Model;
 use std::mem;

@@ -1,6 +1,7 @@
 //! Why a text is not read.
 ghost use Rattle.std.specs.Prelude.{◌≡◌};
 ghost use Rattle.dg_words.specs.declared.fault.WordFault.TheVariants.{Memory};
+ghost use Rattle.dg_words.specs.declared.fault.ListFault.TheVariants.{Memory as NoMemory};
 ghost use Rattle.dg_words.specs.Faults.{fault_text};
 
 use std::alloc::{AllocError, AllocFailed};
@@ -57,6 +58,36 @@ impl<T: Drop> From<AllocFailed<T>> for WordFault {
 
     fn from(_e: AllocFailed<T>) -> WordFault {
         WordFault::Memory
+    }
+}
+
+/// Why a text gets no further elements as a list.
+#[derive(Clone, Copy, Debug, PartialEq, Eq, Drop, Error)]
+pub enum ListFault {
+    /// A growth was refused.
+    #[error("out of memory")]
+    Memory,
+    /// The canonical text would have more bytes than it may have.
+    #[error("list too long")]
+    TooLong,
+    /// The text is no list.
+    #[error("{0}")]
+    NoList(WordFault),
+}
+
+impl From<AllocError> for ListFault {
+    ghost from_gives = { λ _ e. e ≡ NoMemory };
+
+    fn from(_e: AllocError) -> ListFault {
+        ListFault::Memory
+    }
+}
+
+impl<T: Drop> From<AllocFailed<T>> for ListFault {
+    ghost from_gives = { λ _ e. e ≡ NoMemory };
+
+    fn from(_e: AllocFailed<T>) -> ListFault {
+        ListFault::Memory
     }
 }
 

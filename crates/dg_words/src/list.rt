@@ -1,14 +1,17 @@
 //! Lists and their canonical text, by Tcl(n).
-ghost use Rattle.std.specs.Prelude.{◌≡◌, ◌++◌, ◌∷◌, [], ◌+◌, ◌==◌, ◌<◌, ◌≤◌, ◌^◌, ◌⊎◌, OnOk, IfOk, MatchOption, MatchResult, length, drop, Ok, Err, ℕ, List, false};
-ghost use Rattle.dg_words.specs.Canonical.{begins_with_hash, brace_step, element_text, escaped_byte, escaped_text, further_text, is_hash, is_plain, is_special, may_be_braced, text_of_list};
+ghost use Rattle.std.specs.Prelude.{◌≡◌, ◌++◌, ◌∷◌, [], ◌+◌, ◌==◌, ◌<◌, ◌≤◌, ◌^◌, ◌⊎◌, OnOk, OnErr, IfOk, IfErr, IfSome, MatchOption, MatchResult, length, drop, Ok, Err, ℕ, List, false};
+ghost use Rattle.dg_words.specs.Appending.{Appends, Refuses};
+ghost use Rattle.dg_words.specs.Canonical.{text_of_list};
 ghost use Rattle.dg_words.specs.Elements.{elements_of, list_bare, list_behind, list_braced, list_deed, list_ends, list_follow, list_gap, list_join, list_number_ends, list_numbered, list_pair, list_quoted, list_spot, list_spot_ends, list_step, list_stop, list_turn, unread, without_place, list_read};
+ghost use Rattle.dg_words.specs.ListRuns.{Passes};
 ghost use Rattle.dg_words.specs.Turns.{with_digit};
 
-use crate::bytes::Bytes;
-use crate::fault::WordFault;
+use crate::fault::{ListFault, WordFault};
 use crate::kinds::{Class, Deed, Delimiter, Digits, Ending, Mode, Next, Spot, Turn};
-use crate::seq::Seq;
+use crate::measure::list_fits;
+use crate::run::braced_run;
 use crate::turn::{class_of, counted, escaped, is_space};
+use dg_bytes::{Bytes, Growth, Seq, Text, TryCopy};
 use std::alloc::{AllocError, Global};
 use std::marker::Model;
 use std::mem;
@@ -254,6 +257,29 @@ impl Listing {
         }
     }
 
+    /// Passes over the bytes from a place on that only add to the element that is open, and tells the
+    /// place behind them.
+    fn pass(&mut self, text: &[u8], from: usize) -> Result<usize, AllocError>
+        requires within { from ≤ length text.now }
+        requires deep { self.now.depth ≤ from }
+        ensures { IfOk result (λ to. Passes text.now from self.old to self.new) }
+    {
+        match self.mode {
+            Mode::Braced => {
+                let run = braced_run(text, from, self.depth);
+                self.depth = run.depth;
+                self.text.extend(&text[from..run.end])?;
+                Ok(run.end)
+            }
+            Mode::In(spot) => {
+                let end = spot.element_run(text, from);
+                self.text.extend(&text[from..end])?;
+                Ok(end)
+            }
+            _ => Ok(from),
+        }
+    }
+
     /// The list ends: its elements, or what is missing.
     #[tactic(auto, unfolding(crate::specs::Elements::list_stop))]
     fn stop(mut self) -> Result<Seq<Bytes>, WordFault>
@@ -278,9 +304,11 @@ fn read_list(alloc: Global, text: &[u8]) -> Result<Seq<Bytes>, WordFault>
     ensures { MatchResult result (λ xs. elements_of text.now ≡ Ok xs) (λ f. (f ≡ WordFault.Memory) ⊎ (elements_of text.now ≡ Err f)) }
 {
     let mut listing = Listing::new(alloc);
-    for byte in text {
-        if let Err(fault) = listing.step(*byte) {
-            return Err(fault);
+    let mut place = 0;
+    while place < text.len() {
+        match listing.step(text[place]) {
+            Ok(()) => place = listing.pass(text, place + 1)?,
+            Err(fault) => return Err(fault),
         }
     }
     match listing.stop() {
@@ -305,142 +333,107 @@ pub fn split_list(alloc: Global, text: &[u8]) -> Result<Seq<Bytes>, WordFault>
     read_list(alloc, text)
 }
 
-/// Blanks, newlines and `" { } [ ] $ ; \`.
-pub(crate) fn is_special(class: Class) -> bool
-    ensures { result ≡ is_special class }
-{
-    matches!(
-        class,
-        Class::Blank
-            | Class::Newline
-            | Class::Semicolon
-            | Class::Quote
-            | Class::Open
-            | Class::Close
-            | Class::LeftBracket
-            | Class::RightBracket
-            | Class::Dollar
-            | Class::Backslash
-    )
-}
-
-/// Whether no byte is special.
-pub(crate) fn is_plain(element: &[u8]) -> bool
-    ensures { result ≡ is_plain element.now }
-{
-    for byte in element {
-        if is_special(class_of(*byte)) {
-            return false;
-        }
-    }
-    true
-}
-
-/// Whether a byte may stand there in braces, and what stands behind it.
-fn brace_step(paired: bool, depth: u64, class: Class) -> Option<(bool, u64)>
-    requires { depth + 1 < 2 ^ 64 }
-    ensures { result ≡ brace_step paired depth class }
-{
-    match (paired, class) {
-        (true, Class::Newline) => None,
-        (true, _) => Some((false, depth)),
-        (false, Class::Backslash) => Some((true, depth)),
-        (false, Class::Open) => Some((false, depth + 1)),
-        (false, Class::Close) if depth == 0 => None,
-        (false, Class::Close) => Some((false, depth - 1)),
-        (false, _) => Some((false, depth)),
-    }
-}
-
-/// Whether the element can stand in braces as it is.
-pub(crate) fn may_be_braced(element: &[u8]) -> bool
-    ensures { result ≡ may_be_braced false 0 element.now }
-{
-    let mut paired = false;
-    let mut depth = 0u64;
-    for byte in element {
-        let Some((next_paired, next_depth)) = brace_step(paired, depth, class_of(*byte)) else {
-            return false;
-        };
-        paired = next_paired;
-        depth = next_depth;
-    }
-    !paired && depth == 0
-}
-
-pub(crate) fn begins_with_hash(element: &[u8]) -> bool
-    ensures { result ≡ begins_with_hash element.now }
-{
-    match element {
-        [] => false,
-        [byte, ..] => matches!(class_of(*byte), Class::Hash),
-    }
-}
-
-/// Adds each byte of an element, with a backslash before those that are special.
-fn push_escaped(text: &mut Bytes, element: &[u8]) -> Result<(), AllocError>
-    ensures { OnOk result (text.new ≡ text.old ++ escaped_text element.now) }
-{
-    for byte in element {
-        let class = class_of(*byte);
-        if is_special(class) {
-            text.push(b'\\')?;
-        }
-        match class {
-            Class::Newline => text.push(b'n')?,
-            _ => text.push(*byte)?,
-        }
-    }
-    Ok(())
-}
-
-/// Adds the canonical text of one element, the list's first or not.
-fn push_element(text: &mut Bytes, first: bool, element: &[u8]) -> Result<(), AllocError>
-    ensures { OnOk result (text.new ≡ text.old ++ element_text first element.now) }
-{
-    let hash = first && begins_with_hash(element);
-    if element.is_empty() {
-        text.extend(b"{}")
-    } else if !hash && is_plain(element) {
-        text.extend(element)
-    } else if may_be_braced(element) {
-        text.push(b'{')?;
-        text.extend(element)?;
-        text.push(b'}')
-    } else {
-        if hash {
-            text.push(b'\\')?;
-        }
-        push_escaped(text, element)
-    }
-}
-
-/// Adds further elements, each behind a space.
-fn push_further(text: &mut Bytes, elements: &[Bytes]) -> Result<(), AllocError>
-    ensures { OnOk result (text.new ≡ text.old ++ further_text elements.now) }
-{
-    for element in elements {
-        text.push(b' ')?;
-        push_element(text, false, element.as_slice())?;
-    }
-    Ok(())
-}
-
 /// The canonical text of a list: its elements, joined by one space. An empty one is `{}`; one without
 /// special bytes stands as it is, unless it begins the list with `#`; one that can stand in braces stands
 /// in braces; in any other each special byte, and a `#` that begins the list, has a backslash before it,
-/// and a newline is `\n`. (Tcl writes some elements otherwise, to the same effect.)
+/// and a newline is `\n`. (Tcl writes some elements otherwise, to the same effect.) The elements stay
+/// beside it.
 ///
 /// # Errors
 /// `Memory` where a growth is refused.
-#[tactic(auto, unfolding(crate::specs::Canonical::text_of_list))]
 pub fn list_text(alloc: Global, elements: &[Bytes]) -> Result<Bytes, WordFault>
     ensures { MatchResult result (λ text. text ≡ text_of_list elements.now) (λ f. f ≡ WordFault.Memory) }
 {
-    let mut text = Bytes::new(alloc);
-    if let [first, further @ ..] = elements {
-        push_element(&mut text, true, first.as_slice())?;
-        push_further(&mut text, further)?;
+    Ok(Bytes::from_list(alloc, elements)?)
+}
+
+/// The elements of a list, where they are kept beside its text.
+#[tactic(auto, using(crate::proofs::RoundTrip::kept_reads))]
+pub fn kept_elements(list: &Bytes) -> Option<&[Text]>
+    ensures { IfSome result (λ e. elements_of list.now ≡ Ok e.now) }
+{
+    list.elements()
+}
+
+/// Texts as they are, with no copy of their bytes.
+fn shared(alloc: Global, texts: &[Text]) -> Result<Seq<Bytes>, AllocError>
+    ensures { IfOk result (λ s. s ≡ texts.now) }
+{
+    let mut items = Vec::with_capacity(alloc, texts.len())?;
+    for text in texts {
+        items.push(Bytes::from_text(text.share()?))?;
     }
-    Ok(text)
+    Ok(Seq::from_vec(items))
+}
+
+/// The elements of a list, as `split_list` reads them. Those that are kept beside the text are shared.
+///
+/// # Errors
+/// As `split_list`.
+pub fn list_elements(alloc: Global, list: &Bytes) -> Result<Seq<Bytes>, WordFault>
+    ensures { MatchResult result (λ xs. elements_of list.now ≡ Ok xs) (λ f. (f ≡ WordFault.Memory) ⊎ (elements_of list.now ≡ Err f)) }
+{
+    if let Some(kept) = kept_elements(list) {
+        return Ok(shared(alloc, kept)?);
+    }
+    read_list(alloc, list.as_slice())
+}
+
+/// The canonical text of the elements of a text and of more, if it has at most so many bytes.
+fn longer_list(
+    alloc: Global,
+    text: &[u8],
+    more: &[Bytes],
+    longest: usize,
+) -> Result<Bytes, ListFault>
+    ensures { MatchResult result (Appends text.now more.now longest) (Refuses text.now more.now longest) }
+{
+    let mut elements = match read_list(alloc, text) {
+        Ok(elements) => elements,
+        Err(WordFault::Memory) => return Err(ListFault::Memory),
+        Err(fault) => return Err(ListFault::NoList(fault)),
+    };
+    push_all(alloc, &mut elements, more)?;
+    if !list_fits(elements.as_slice(), longest) {
+        return Err(ListFault::TooLong);
+    }
+    Ok(Bytes::from_list(alloc, elements.as_slice())?)
+}
+
+/// Adds elements at the end.
+fn push_all(alloc: Global, elements: &mut Seq<Bytes>, more: &[Bytes]) -> Result<(), AllocError>
+    ensures { OnOk result (elements.new ≡ elements.old ++ more.now) }
+{
+    for element in more {
+        elements.push(element.copy(alloc)?)?;
+    }
+    Ok(())
+}
+
+/// Adds elements at the end of the list that a text is, or changes nothing: it becomes the canonical text
+/// of all of them (Tcl(n), lappend), and they stay beside it. Where the text has its elements beside it and
+/// is held once it grows in place, at the cost of what is added.
+///
+/// # Errors
+/// `NoList` with the fault of a text that is no list; `TooLong` where the canonical text would have more
+/// than `longest` bytes, which is told before it is made; `Memory` where a growth is refused.
+#[tactic(auto, using(crate::proofs::RoundTrip::kept_reads))]
+pub fn append_elements(
+    alloc: Global,
+    text: &mut Bytes,
+    more: &[Bytes],
+    longest: usize,
+) -> Result<(), ListFault>
+    ensures done { OnOk result (Appends text.old more.now longest text.new) }
+    ensures refused { IfErr result (Refuses text.old more.now longest) }
+    ensures err { OnErr result (text.new ≡ text.old) }
+{
+    match text.extend_list(alloc, more, longest)? {
+        Growth::Done => Ok(()),
+        Growth::TooLong => Err(ListFault::TooLong),
+        Growth::Unlisted => {
+            *text = longer_list(alloc, text.as_slice(), more, longest)?;
+            Ok(())
+        }
+    }
 }

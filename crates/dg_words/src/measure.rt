@@ -1,41 +1,8 @@
 //! Whether the canonical text of a list fits, told before it is built.
 ghost use Rattle.std.specs.Prelude.{◌≡◌, ◌+◌, ◌<◌, MatchOption, length, nat_le};
-ghost use Rattle.dg_words.specs.Canonical.{element_text, escaped_text, further_text, text_of_list};
+ghost use Rattle.dg_words.specs.Canonical.{element_text, further_text, text_of_list};
 
-use crate::bytes::Bytes;
-use crate::list::{begins_with_hash, is_plain, is_special, may_be_braced};
-use crate::turn::class_of;
-
-/// The room that is left behind an element with backslashes, if it fits.
-fn behind_escaped(room: usize, element: &[u8]) -> Option<usize>
-    ensures { MatchOption result (room < length (escaped_text element.now))
-        (λ left. left + length (escaped_text element.now) ≡ room) }
-{
-    let mut left = room;
-    for byte in element {
-        left = left.checked_sub(if is_special(class_of(*byte)) { 2 } else { 1 })?;
-    }
-    Some(left)
-}
-
-/// The room that is left behind an element, the list's first or not, if it fits.
-fn behind_element(room: usize, first: bool, element: &[u8]) -> Option<usize>
-    ensures { MatchOption result (room < length (element_text first element.now))
-        (λ left. left + length (element_text first element.now) ≡ room) }
-{
-    let hash = first && begins_with_hash(element);
-    if element.is_empty() {
-        room.checked_sub(2)
-    } else if !hash && is_plain(element) {
-        room.checked_sub(element.len())
-    } else if may_be_braced(element) {
-        room.checked_sub(2)?.checked_sub(element.len())
-    } else if hash {
-        behind_escaped(room.checked_sub(1)?, element)
-    } else {
-        behind_escaped(room, element)
-    }
-}
+use dg_bytes::{Bytes, behind_element};
 
 /// The room that is left behind further elements, if they fit.
 fn behind_further(room: usize, elements: &[Bytes]) -> Option<usize>
@@ -50,7 +17,7 @@ fn behind_further(room: usize, elements: &[Bytes]) -> Option<usize>
 }
 
 /// Whether the canonical text of a list has at most so many bytes.
-#[tactic(auto, unfolding(crate::specs::Canonical::text_of_list))]
+#[tactic(auto, unfolding(dg_bytes::specs::Canonical::text_of_list))]
 pub fn list_fits(elements: &[Bytes], room: usize) -> bool
     ensures { result ≡ nat_le (length (text_of_list elements.now)) room }
 {

@@ -10,9 +10,9 @@ use crate::draft::Draft;
 use crate::fault::WordFault;
 use crate::kinds::{Deed, Ending, Level, Mode, Next, Outer, Spot, Turn};
 use crate::run::{braced_run, comment_run};
-use crate::seq::Seq;
 use crate::turn::class_of;
 use crate::word::{Parsed, Word};
+use dg_bytes::Seq;
 use std::alloc::{AllocError, Global};
 use std::marker::Model;
 

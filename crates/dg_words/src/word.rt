@@ -2,8 +2,7 @@
 ghost use Rattle.std.specs.Prelude.{◌≡◌, ◌++◌, [], OnOk, OnErr};
 ghost use Rattle.dg_words.specs.Parts.{pieces_of, pieces_of_part};
 
-use crate::bytes::Bytes;
-use crate::seq::Seq;
+use dg_bytes::{Bytes, Seq};
 use std::alloc::{AllocError, Global};
 use std::marker::Model;
 

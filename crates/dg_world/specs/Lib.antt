@@ -1,4 +1,7 @@
 pub mod Name
+pub mod Test
+pub mod Entries
+pub mod Transcripts
 pub mod Question
 pub mod Refusal
 pub mod Script

@@ -1,4 +1,4 @@
-//! The world that scripts are judged in: files by name and a selection.
+//! The world that scripts are judged in: files by name, a selection, transcripts by test, and the book of patterns.
 #![tactic(auto)]
 
 mod edit;
@@ -8,13 +8,11 @@ mod refusal;
 mod selection;
 mod setting;
 mod test_id;
-#[cfg(test)]
-mod tests;
 mod world;
 
 pub use crate::edit::Edit;
 pub use crate::name::{Name, is_name, is_single_part};
-pub use crate::question::{Answer, Machine, Question, Read};
+pub use crate::question::{Answer, EntryPlace, Machine, Question, Read};
 pub use crate::refusal::Refusal;
 pub use crate::selection::Selection;
 pub use crate::setting::{Setting, is_variable};

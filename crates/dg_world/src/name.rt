@@ -10,7 +10,7 @@ ghost use Rattle.dg_world.specs.Name.{is_name, is_single_part, is_part, is_part_
 ghost use Rattle.std.specs.List.{list_all};
 
 use crate::refusal::Refusal;
-use dg_words::{Bytes, TryCopy};
+use dg_bytes::{Bytes, TryCopy};
 use std::alloc::{AllocError, Global};
 use std::cmp::Ordering;
 use std::fmt;

@@ -1,10 +1,13 @@
 //! What an evaluation may ask, and what it is told.
 ghost use Rattle.std.specs.Prelude.{◌≡◌, IfOk, IsTrue, ◌↔◌};
-ghost use Rattle.dg_world.specs.Question.{fits, same_answer, same_machine, same_question};
+ghost use Rattle.dg_world.specs.Question.{fits, same_answer, same_machine, same_place, same_question};
 
 use crate::name::Name;
+use crate::test_id::TestId;
 use dg_boards::Triplet;
-use dg_words::{Bytes, TryCopy};
+use dg_bytes::{Bytes, TryCopy};
+use dg_match::Reading;
+use dg_transcript::Entry;
 use std::alloc::{AllocError, Global};
 
 /// A machine of a run: the one that is tested for, the one that it is tested on, and the one that built it.
@@ -13,6 +16,16 @@ pub enum Machine {
     Target,
     Host,
     Build,
+}
+
+/// A place in a test's transcript.
+#[derive(Debug, Drop, PartialEq, Eq, Hash)]
+pub struct EntryPlace {
+    pub test: TestId,
+    /// The session, counted from 1.
+    pub session: u32,
+    /// The entry of the session, counted from 0.
+    pub place: u32,
 }
 
 /// What an evaluation may ask of the world.
@@ -26,10 +39,14 @@ pub enum Question {
     Triplet(Machine),
     /// What the line of the run sets the global of this name to.
     Variable(Bytes),
+    /// Which entry stands at a place of a transcript.
+    Entry(EntryPlace),
+    /// How the text of a `-re` pattern is read.
+    Pattern(Bytes),
 }
 
 /// What the world may answer.
-#[derive(Debug, Drop, PartialEq, Eq)]
+#[derive(Drop, PartialEq, Eq)]
 pub enum Answer {
     /// There is no such file.
     Absent,
@@ -43,10 +60,16 @@ pub enum Answer {
     Unset,
     /// The line sets the variable to this.
     Value(Bytes),
+    /// No entry stands there: the transcript, its session or the session's entry is absent.
+    Ended,
+    /// The entry at the place.
+    Entry(Entry),
+    /// How the pattern is read.
+    Reading(Reading),
 }
 
 /// A question, and the answer that it had.
-#[derive(Debug, Drop, PartialEq, Eq)]
+#[derive(Drop, PartialEq, Eq)]
 pub struct Read {
     pub question: Question,
     pub answer: Answer,
@@ -61,6 +84,26 @@ impl Machine {
     }
 }
 
+impl EntryPlace {
+    /// An equal place, or want of memory.
+    pub fn copy(&self, alloc: Global) -> Result<EntryPlace, AllocError>
+        ensures { IfOk result (λ p. p ≡ self.now) }
+    {
+        Ok(EntryPlace {
+            test: self.test.copy(alloc)?,
+            session: self.session,
+            place: self.place,
+        })
+    }
+
+    /// Whether these are the same place.
+    fn is(&self, other: &EntryPlace) -> bool
+        ensures { result ≡ same_place self.now other.now }
+    {
+        self.test == other.test && self.session == other.session && self.place == other.place
+    }
+}
+
 impl Question {
     /// An equal question, or want of memory.
     pub fn copy(&self, alloc: Global) -> Result<Question, AllocError>
@@ -71,6 +114,8 @@ impl Question {
             Question::Tool => Question::Tool,
             Question::Triplet(machine) => Question::Triplet(*machine),
             Question::Variable(name) => Question::Variable(name.copy(alloc)?),
+            Question::Entry(place) => Question::Entry(place.copy(alloc)?),
+            Question::Pattern(text) => Question::Pattern(text.copy(alloc)?),
         })
     }
 
@@ -83,6 +128,8 @@ impl Question {
             (Question::Tool, Question::Tool) => true,
             (Question::Triplet(one), Question::Triplet(two)) => one.is(*two),
             (Question::Variable(one), Question::Variable(two)) => *one == *two,
+            (Question::Entry(one), Question::Entry(two)) => one.is(two),
+            (Question::Pattern(one), Question::Pattern(two)) => *one == *two,
             _ => false,
         }
     }
@@ -96,9 +143,18 @@ impl Question {
             (Question::Tool, Answer::Tool(_)) => true,
             (Question::Triplet(_), Answer::Triplet(_)) => true,
             (Question::Variable(_), Answer::Unset | Answer::Value(_)) => true,
+            (Question::Entry(_), Answer::Ended | Answer::Entry(_)) => true,
+            (Question::Pattern(_), Answer::Reading(_)) => true,
             _ => false,
         }
     }
+}
+
+/// Whether these are the same entry.
+pub(crate) fn are_same_entry(one: &Entry, two: &Entry) -> bool
+    ensures { IsTrue result ↔ (one.now ≡ two.now) }
+{
+    *one == *two
 }
 
 impl Answer {
@@ -113,6 +169,9 @@ impl Answer {
             Answer::Triplet(triplet) => Answer::Triplet(triplet.copy(alloc)?),
             Answer::Unset => Answer::Unset,
             Answer::Value(bytes) => Answer::Value(bytes.copy(alloc)?),
+            Answer::Ended => Answer::Ended,
+            Answer::Entry(entry) => Answer::Entry(entry.copy(alloc)?),
+            Answer::Reading(reading) => Answer::Reading(*reading),
         })
     }
 

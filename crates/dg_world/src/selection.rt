@@ -11,7 +11,7 @@ use crate::name::{is_name, is_single_part};
 use crate::question::Machine;
 use crate::setting::{self, Setting};
 use dg_boards::{Triplet, TripletFault};
-use dg_words::{Bytes, Seq, TryCopy};
+use dg_bytes::{Bytes, Seq, TryCopy};
 use std::alloc::{AllocError, Global};
 
 const MAX_BOARDS: usize = 16;

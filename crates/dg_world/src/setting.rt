@@ -6,7 +6,7 @@ ghost use Rattle.dg_world.specs.Script.{same};
 ghost use Rattle.dg_world.specs.Selection.{are_distinct};
 ghost use Rattle.dg_world.specs.Setting.{is_setting, is_variable, is_variable_byte, is_variable_start, value_of};
 
-use dg_words::{Bytes, TryCopy};
+use dg_bytes::{Bytes, TryCopy};
 use std::alloc::{AllocError, Global};
 
 const MAX_VALUE_LENGTH: usize = 65_536;

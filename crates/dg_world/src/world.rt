@@ -1,19 +1,22 @@
-//! The world: files by name, and what is run.
-ghost use Rattle.std.specs.Prelude.{◌≡◌, ◌≢◌, ◌++◌, Some, Err, IfOk, IfErr, OnOk, OnErr, IsTrue, ◌↔◌, ◌⊎◌, length};
+//! The world: files by name, what is run, transcripts by test, and the book of patterns.
+ghost use Rattle.std.specs.Prelude.{◌≡◌, ◌≢◌, ◌++◌, Some, Ok, option_copied, false, Err, IfOk, IfErr, OnOk, OnErr, IsTrue, ◌↔◌, ◌⊎◌, length};
 ghost use Rattle.std.specs.List.Sorted.{IsStrictlySortedBy};
 ghost use Rattle.std.specs.Ordering.{nat_cmp};
 ghost use Rattle.std.specs.Cmp.Lexicographic.{slice_cmp};
 ghost use Rattle.std.specs.Map.{keys_of};
 ghost use Rattle.dg_world.specs.Name.{is_single_part};
 ghost use Rattle.dg_world.specs.Tests.{tests_on};
+ghost use Rattle.dg_world.specs.Transcripts.{refusal_for, transcript_in};
 
 use crate::edit::Edit;
 use crate::name::{Name, is_name};
-use crate::question::{Answer, Question};
+use crate::question::{Answer, EntryPlace, Question, are_same_entry};
 use crate::refusal::Refusal;
 use crate::selection::Selection;
 use crate::test_id::TestId;
-use dg_words::{Bytes, Seq, TryCopy};
+use dg_bytes::{Bytes, Seq, TryCopy};
+use dg_match::PatternBook;
+use dg_transcript::{Cause, Entry, Transcript, decode};
 use std::alloc::{AllocError, Global};
 use std::collections::BTreeMap;
 use std::marker::Model;
@@ -22,10 +25,15 @@ const MAX_FILES: usize = 4096;
 
 const MAX_FILE_LENGTH: usize = 1_048_576;
 
-/// What scripts are judged in: at most 4,096 files, each a name with at most 1,048,576 bytes, and a selection.
+const MAX_TRANSCRIPTS: usize = 65_536;
+
+/// What scripts are judged in: at most 4,096 files, each a name with at most 1,048,576 bytes, a selection, at most 65,536
+/// transcripts of tests, and the book of patterns, whose answers stay for good.
 pub struct World {
     files: BTreeMap<Name, Bytes>,
     selection: Selection,
+    transcripts: BTreeMap<TestId, Transcript>,
+    book: PatternBook,
 }
 
 impl Drop for World {
@@ -33,6 +41,8 @@ impl Drop for World {
         let World {
             files: _,
             selection: _,
+            transcripts: _,
+            book: _,
         } = self;
     }
 }
@@ -43,26 +53,28 @@ impl Model for World {
 
     ghost Value = { WorldView };
 
-    ghost view = { λ w. record { files = w.files.entries; selection = w.selection } };
+    ghost view = { λ w. record { files = w.files.entries; selection = w.selection; transcripts = w.transcripts.entries; book = w.book } };
 
-    ghost invariant = { λ w. IsTrue (is_world (record { files = w.files.entries; selection = w.selection })) };
+    ghost invariant = { λ w. IsTrue (is_world (record { files = w.files.entries; selection = w.selection; transcripts = w.transcripts.entries; book = w.book })) };
 }
 
 impl World {
-    ghost use Rattle.dg_world.specs.World.{new_world, edited, takes_memory, look, selected, scripts, is_world};
+    ghost use Rattle.dg_world.specs.World.{new_world, edited, takes_memory, look, selected, scripts, is_world, entry_of, lacks_room, recorded, with_transcript, IsAsked};
 
-    /// A world with no files and the first selection.
+    /// A world with no files and no transcripts, the first selection, and an empty book.
     pub fn new(alloc: Global) -> Result<World, AllocError>
         ensures { IfOk result (λ w. w ≡ new_world) }
     {
         Ok(World {
             files: BTreeMap::new(alloc),
             selection: Selection::of_new_world(alloc)?,
+            transcripts: BTreeMap::new(alloc),
+            book: PatternBook::new(alloc),
         })
     }
 
-    /// Makes an edit, or refuses it and changes nothing. `Memory` only where a file is added that nothing else refuses: in
-    /// the place of another one it takes none, nor does a removal or a selection.
+    /// Makes an edit, or refuses it and changes nothing. `Memory` only where a file is added that nothing else refuses, or
+    /// where a transcript is read: a file in the place of another one takes none, nor does a removal or a selection.
     pub fn edit(&mut self, alloc: Global, edit: Edit) -> Result<(), Refusal>
         ensures ok { OnOk result (edited self.old edit ≡ Ok self.new) }
         ensures which { IfErr result (λ r. (r ≡ Refusal.Memory) ⊎ (edited self.old edit ≡ Err r)) }
@@ -73,6 +85,10 @@ impl World {
             Edit::PutFile(name, bytes) => self.put_file(name, bytes),
             Edit::RemoveFile(name) => self.remove_file(name),
             Edit::Select(selection) => self.select(selection),
+            Edit::PutTranscript(board, script, text) => {
+                self.put_transcript_text(alloc, board, script, text)
+            }
+            Edit::DropTranscript(board, script) => self.drop_transcript(board, script),
         }
     }
 
@@ -129,9 +145,99 @@ impl World {
         Ok(())
     }
 
-    /// What it answers to a question.
+    /// Whether a transcript of this test would be one too many.
+    fn lacks_room(&self, test: &TestId) -> bool
+        ensures { result ≡ lacks_room self.now test.now }
+    {
+        !self.transcripts.contains_key(test) && self.transcripts.len() >= MAX_TRANSCRIPTS
+    }
+
+    /// Makes this the transcript of a test, for which there is room, or wants memory and changes nothing.
+    fn insert_transcript(&mut self, test: TestId, transcript: Transcript) -> Result<(), AllocError>
+        requires { lacks_room self.old test ≡ false }
+        ensures ok { OnOk result (self.new ≡ with_transcript self.old test transcript) }
+        ensures err { OnErr result (self.new ≡ self.old) }
+    {
+        if self.transcripts.insert(test, transcript).is_err() {
+            return Err(AllocError);
+        }
+        Ok(())
+    }
+
+    /// Makes this the transcript of a test, in place of one that it has, or changes nothing. `TooMany` where it is a new
+    /// test beside 65,536 transcripts, else `Memory` where there is no room for it.
+    pub fn put_transcript(
+        &mut self,
+        alloc: Global,
+        test: &TestId,
+        transcript: Transcript,
+    ) -> Result<(), Refusal>
+        ensures ok { OnOk result (recorded self.old test.now transcript ≡ Ok self.new) }
+        ensures which { IfErr result (λ r. (r ≡ Refusal.Memory) ⊎ (recorded self.old test.now transcript ≡ Err r)) }
+        ensures memory { (result ≡ Err Refusal.Memory) → lacks_room self.old test.now ≡ false }
+        ensures err { OnErr result (self.new ≡ self.old) }
+    {
+        if self.lacks_room(test) {
+            return Err(Refusal::TooMany);
+        }
+        let test = test.copy(alloc)?;
+        self.insert_transcript(test, transcript)?;
+        Ok(())
+    }
+
+    /// Makes a text the transcript of a test.
+    fn put_transcript_text(
+        &mut self,
+        alloc: Global,
+        board: Bytes,
+        script: Bytes,
+        text: Bytes,
+    ) -> Result<(), Refusal>
+        ensures ok { OnOk result (edited self.old (Edit.PutTranscript board script text) ≡ Ok self.new) }
+        ensures which { IfErr result (λ r. (r ≡ Refusal.Memory) ⊎ (edited self.old (Edit.PutTranscript board script text) ≡ Err r)) }
+        ensures memory { (result ≡ Err Refusal.Memory) → IsTrue (takes_memory self.old (Edit.PutTranscript board script text)) }
+        ensures err { OnErr result (self.new ≡ self.old) }
+    {
+        let Some(test) = TestId::from_bytes(board, script) else {
+            return Err(Refusal::BadName);
+        };
+        if self.lacks_room(&test) {
+            return Err(Refusal::TooMany);
+        }
+        let transcript = read_transcript(alloc, text.as_slice())?;
+        self.insert_transcript(test, transcript)?;
+        Ok(())
+    }
+
+    /// Removes the transcript of a test.
+    fn drop_transcript(&mut self, board: Bytes, script: Bytes) -> Result<(), Refusal>
+        ensures ok { OnOk result (edited self.old (Edit.DropTranscript board script) ≡ Ok self.new) }
+        ensures which { IfErr result (λ r. edited self.old (Edit.DropTranscript board script) ≡ Err r) }
+        ensures no_memory { result ≢ Err Refusal.Memory }
+        ensures err { OnErr result (self.new ≡ self.old) }
+    {
+        let Some(test) = TestId::from_bytes(board, script) else {
+            return Err(Refusal::BadName);
+        };
+        if self.transcripts.remove(&test).is_none() {
+            return Err(Refusal::NoSuchTranscript);
+        }
+        Ok(())
+    }
+
+    /// The entry at a place of a test's transcript.
+    fn entry(&self, place: &EntryPlace) -> Option<&Entry>
+        ensures { option_copied result ≡ entry_of self.now place.now }
+    {
+        match self.transcripts.get(&place.test) {
+            Some(transcript) => transcript.entry(place.session, place.place),
+            None => None,
+        }
+    }
+
+    /// What it answers to a question, if it has an answer: it has none only to a pattern that it was never asked for.
     pub fn answer(&self, alloc: Global, question: &Question) -> Result<Option<Answer>, AllocError>
-        ensures { IfOk result (λ a. a ≡ Some (look self.now question.now)) }
+        ensures { IfOk result (λ a. a ≡ look self.now question.now) }
     {
         match question {
             Question::File(name) => match self.files.get(name) {
@@ -147,12 +253,20 @@ impl World {
                 Some(value) => Ok(Some(Answer::Value(value.copy(alloc)?))),
                 None => Ok(Some(Answer::Unset)),
             },
+            Question::Entry(place) => match self.entry(place) {
+                Some(entry) => Ok(Some(Answer::Entry(entry.copy(alloc)?))),
+                None => Ok(Some(Answer::Ended)),
+            },
+            Question::Pattern(text) => match self.book.get(text) {
+                Some(reading) => Ok(Some(Answer::Reading(reading))),
+                None => Ok(None),
+            },
         }
     }
 
     /// Whether it answers this to a question.
     pub fn agrees(&self, question: &Question, answer: &Answer) -> bool
-        ensures { IsTrue result ↔ (look self.now question.now ≡ answer.now) }
+        ensures { IsTrue result ↔ (look self.now question.now ≡ Some answer.now) }
     {
         match question {
             Question::File(name) => match (self.files.get(name), answer) {
@@ -173,6 +287,31 @@ impl World {
                 (None, Answer::Unset) => true,
                 _ => false,
             },
+            Question::Entry(place) => match (self.entry(place), answer) {
+                (Some(held), Answer::Entry(entry)) => are_same_entry(held, entry),
+                (None, Answer::Ended) => true,
+                _ => false,
+            },
+            Question::Pattern(text) => match (self.book.get(text), answer) {
+                (Some(held), Answer::Reading(reading)) => held == *reading,
+                _ => false,
+            },
+        }
+    }
+
+    /// The answer to a question. A pattern that is asked for the first time is read, and its answer goes into the book for
+    /// good; no other question changes anything, nor does want of memory.
+    pub fn ask(&mut self, alloc: Global, question: &Question) -> Result<Answer, AllocError>
+        ensures ok { IfOk result (IsAsked self.old self.new question.now) }
+        ensures err { OnErr result (self.new ≡ self.old) }
+    {
+        if let Question::Pattern(text) = question {
+            let reading = self.book.ask(alloc, text)?;
+            return Ok(Answer::Reading(reading));
+        }
+        match self.answer(alloc, question)? {
+            Some(answer) => Ok(answer),
+            None => unreachable!(),
         }
     }
 
@@ -211,6 +350,13 @@ impl World {
         &self.selection
     }
 
+    /// How many transcripts there are: at most 65,536.
+    pub fn transcript_count(&self) -> usize
+        ensures { result ≡ length self.now.transcripts }
+    {
+        self.transcripts.len()
+    }
+
     /// How many files there are: at most 4,096. Their names are in byte order, each once.
     pub fn file_count(&self) -> usize
         ensures count { result ≡ length self.now.files }
@@ -218,6 +364,27 @@ impl World {
         ensures valid { IsTrue (is_world self.now) }
     {
         self.files.len()
+    }
+}
+
+/// The transcript that a text spells, or its first bad line.
+fn read_transcript(alloc: Global, text: &[u8]) -> Result<Transcript, Refusal>
+    ensures ok { IfOk result (λ t. transcript_in text.now ≡ Ok t) }
+    ensures which { IfErr result (λ r. (r ≡ Refusal.Memory) ⊎ (transcript_in text.now ≡ Err r)) }
+{
+    match decode(alloc, text) {
+        Ok(transcript) => Ok(transcript),
+        Err((line, cause)) => Err(refusal_for(line, cause)),
+    }
+}
+
+/// The refusal for a fault of reading.
+fn refusal_for(line: u32, cause: Cause) -> Refusal
+    ensures { result ≡ refusal_for line cause }
+{
+    match cause {
+        Cause::Memory => Refusal::Memory,
+        _ => Refusal::BadTranscript(line, cause),
     }
 }
 
@@ -233,11 +400,8 @@ fn push_tests(
     ensures { OnOk result (tests.new.items ≡ tests.old.items ++ tests_on scripts.now board.now) }
 {
     for script in scripts {
-        let test = TestId {
-            board: Name::from_valid(board.copy(alloc)?),
-            script: script.copy(alloc)?,
-        };
-        tests.push(test)?;
+        let board = Name::from_valid(board.copy(alloc)?);
+        tests.push(TestId::of(board, script.copy(alloc)?))?;
     }
     Ok(())
 }

@@ -1,3 +1,4 @@
+pub mod SelectionLemmas
 pub mod ReadingLemmas
 pub mod ReportLemmas
 pub mod RequestLemmas

@@ -1,25 +1,29 @@
 -- What settling says of a report's answer.
-use Rattle.std.proofs.Common.{◌≡◌, ℕ, ◌+◌, ◌-◌, ◌≤◌, min, List, length, Some, inl, sym, ap, ap₂, ◌∙◌, arith}
+use Rattle.std.proofs.Common.{◌≡◌, ℕ, ◌+◌, ◌-◌, ◌≤◌, min, List, length, Some, inl, ap, ap₂, ◌∙◌, arith}
 use Rattle.dg_core.specs.Core.{CoreView, settled, settled_up_to, evaluated, pending}
+use Rattle.dg_core.specs.Grown.{IsGrown}
 use Rattle.dg_core.specs.Scratch.{scratch}
 use Rattle.runtest.specs.declared.answer.LineAnswer.TheVariants as answer
-use Rattle.runtest.specs.Session.{AnswersReport, sum_answer}
+use Rattle.runtest.specs.Session.{AnswersReport}
 
-counts : (core new : CoreView) → new ≡ settled core → new.evaluations ≡ min (core.evaluations + length (pending core)) 18446744073709551615
+counts : (core new : CoreView) → new ≡ settled new.world core → new.evaluations ≡ min (core.evaluations + length (pending core)) 18446744073709551615
 unfolding settled_up_to
 counts core new s = ap (λ (c : CoreView). c.evaluations) s
 
-same_world : (core new : CoreView) → new ≡ settled core → new.world ≡ core.world
-unfolding settled_up_to
-same_world core new s = ap (λ (c : CoreView). c.world) s
-
 -- the count of evaluations never falls
-pub rises : (core new : CoreView) (before after : ℕ) → before ≡ core.evaluations → after ≡ new.evaluations → new ≡ settled core → before ≤ 18446744073709551615 → before ≤ after
+pub rises : (core new : CoreView) (before after : ℕ) → before ≡ core.evaluations → after ≡ new.evaluations → new ≡ settled new.world core → before ≤ 18446744073709551615 → before ≤ after
 rises core new before after b a s small = let e = counts core new s in omega arith
 
--- the report of the settled world is that of the world as it stood
-pub reported : (core new : CoreView) (before after status : ℕ) (report : List ℕ) → before ≡ core.evaluations → after ≡ new.evaluations → new ≡ settled core → scratch new.world ≡ Some (report, status) → AnswersReport core new (answer.Sum status (after - before) report)
-reported core new before after status report b a s sum =
+-- the report is that of the settled world
+pub reported : (core new : CoreView) (before after status : ℕ) (report : List ℕ) → before ≡ core.evaluations → after ≡ new.evaluations → IsGrown core.world new.world
+    → new ≡ settled new.world core → scratch new.world ≡ Some (report, status) → AnswersReport core new (answer.Sum status (after - before) report)
+reported core new before after status report b a g s sum =
     let count : after - before ≡ evaluated core = ap₂ (λ x y. x - y) (a ∙ counts core new s) b in
-    let given : scratch core.world ≡ Some (report, status) = ap scratch (sym (same_world core new s)) ∙ sum in
-    inl (s, ap (λ n. answer.Sum status n report) count ∙ sym (ap (sum_answer (evaluated core)) given))
+    inl
+    (record {
+      grown = g;
+      is_settled = s;
+      sum = (report, status);
+      from_scratch = sum;
+      is_answered = ap (λ n. answer.Sum status n report) count;
+    })

@@ -3,6 +3,7 @@ use Rattle.std.proofs.Common.{◌≡◌, ℕ, ◌+◌, ◌-◌, ◌<◌, ◌≤�
 use Rattle.std.proofs.lemmas.List.{append_assoc, append-nil}
 use Rattle.std.proofs.KnownBytes.{Appends-nil, Appends-trans}
 use Rattle.std.proofs.BufReadLemmas.{take_through-nil, take_through_nonempty}
+use Rattle.std.specs.Result.{result_unwrap_or}
 use Rattle.std.specs.Io.BufRead.{take_through, drop_through, DropsThrough}
 use Rattle.std.specs.Io.KnownBytes.{Appends, IsAtEnd}
 use Rattle.bstr.specs.Records.{trim_record}
@@ -11,65 +12,93 @@ use Rattle.runtest.specs.declared.answer.LineAnswer.{LineAnswer}
 use Rattle.runtest.specs.declared.request.Request.{Request}
 use Rattle.runtest.specs.Answer.{text_of}
 use Rattle.runtest.specs.Request.{request_of}
-use Rattle.runtest.specs.Session.{requests_of, core_after, answer_to, answers, text_of_all, RunsShort, Answers, AnswersFront, AnswersLine, AnswersLineFront, AnswersOne}
-use Rattle.dg_core.specs.Core.{CoreView}
+use Rattle.runtest.specs.declared.answer.LineAnswer.TheVariants as answer
+use Rattle.runtest.specs.declared.request.Request.TheVariants as request
+use Rattle.runtest.specs.Session.{requests_of, edit_answer, Edits, Selects, Reports, Follows, Writes, RunsShort, Answers, AnswersFront, AnswersLine, AnswersLineFront, AnswersOne}
+use Rattle.dg_line.specs.Select.{selection_by}
+use Rattle.dg_world.specs.declared.edit.Edit.{Edit}
+use Rattle.dg_world.specs.declared.edit.Edit.TheVariants.{PutFile, RemoveFile, PutTranscript, DropTranscript, Select}
+use Rattle.dg_world.specs.declared.selection.Selection.{Selection}
+use Rattle.dg_core.specs.Core.{CoreView, edited_core, settled, settled_up_to, evaluated}
+use Rattle.dg_core.proofs.Completing.{completed}
 use Rattle.runtest.proofs.WritingLemmas.{front_of, front_first, front_second}
 
--- the core behind requests
-unfoldable pub core_after_all : CoreView → List Request → CoreView
-core_after_all core [] = core
-core_after_all core (request ∷ requests) = core_after_all (core_after core request) requests
+edits-some : (core : CoreView) (edit : Edit) → (next : CoreView) × (given : LineAnswer) × Edits core edit next given
+edits-some core edit = (result_unwrap_or (edited_core core edit) core, edit_answer (edited_core core edit), (refl, refl))
 
-core_after_all-push : (core : CoreView) (requests : List Request) (next : Request) → core_after_all core (requests ++ next ∷ []) ≡ core_after (core_after_all core requests) next
-unfolding core_after_all
-core_after_all-push core [] next = refl
-core_after_all-push core (request ∷ requests) next = core_after_all-push (core_after core request) requests next
+selects-some : (core : CoreView) (selection : Option Selection) → (next : CoreView) × (given : LineAnswer) × Selects core selection next given
+selects-some core None = (core, answer.Refused 6, (refl, refl))
+selects-some core (Some selection) = edits-some core (Select selection)
 
-text_of_all-append : (core : CoreView) (first more : List Request) → text_of_all (answers core (first ++ more)) ≡ text_of_all (answers core first) ++ text_of_all (answers (core_after_all core first) more)
-unfolding answers core_after_all
-text_of_all-append core [] more = refl
-text_of_all-append core (request ∷ requests) more =
-    ap (λ t. text_of (answer_to core request) ++ t) (text_of_all-append (core_after core request) requests more)
-    ∙ sym (append_assoc (text_of (answer_to core request)) (text_of_all (answers (core_after core request) requests)) _)
+reports-some : (core : CoreView) → (next : CoreView) × (given : LineAnswer) × Reports core next given
+unfolding settled_up_to
+reports-some core =
+    let (world, sum, grown, from_scratch) = completed core.world in (
+      settled world core,
+      answer.Sum sum.1 (evaluated core) sum.0,
+      record { grown = grown; is_settled = refl; sum = sum; from_scratch = from_scratch; is_answered = refl },
+    )
 
-text_of_all-one : (core : CoreView) (next : Request) → text_of_all (answers core (next ∷ [])) ≡ text_of (answer_to core next)
-unfolding answers
-text_of_all-one core next = append-nil (text_of (answer_to core next))
+-- each request can be answered
+follows-some : (core : CoreView) (next : Request) → (new : CoreView) × (given : LineAnswer) × Follows core next new given
+unfolding Follows
+follows-some core (request.Put name content) = edits-some core (PutFile name content)
+follows-some core (request.Remove name) = edits-some core (RemoveFile name)
+follows-some core (request.PutTranscript board script text) = edits-some core (PutTranscript board script text)
+follows-some core (request.DropTranscript board script) = edits-some core (DropTranscript board script)
+follows-some core (request.Select words) = selects-some core (selection_by words)
+follows-some core request.Report = reports-some core
+follows-some core request.Unknown = (core, answer.Unknown, (refl, refl))
 
--- the text so far is that of the requests so far, or memory ran out at one of them
+writes-some : (core : CoreView) (requests : List Request) → (text : List ℕ) × (last : CoreView) × Writes core requests text last
+writes-some core [] = ([], core, (refl, refl))
+writes-some core (next ∷ requests) =
+    let (new, given, one) = follows-some core next in
+    let (more, last, rest) = writes-some new requests in
+    (text_of given ++ more, last, (new, given, more, one, refl, rest))
+
+writes-append : (core mid last : CoreView) (first more : List Request) (text after : List ℕ) → Writes core first text mid → Writes mid more after last
+    → Writes core (first ++ more) (text ++ after) last
+writes-append core mid last [] more text after (none, same) rest =
+    subst (λ c. Writes c more (text ++ after) last) same (subst (λ t. Writes mid more t last) (sym (ap (λ t. t ++ after) none)) rest)
+writes-append core mid last (next ∷ first) more text after (new, given, others, one, is, wrote) rest = (
+  new,
+  given,
+  others ++ after,
+  one,
+  ap (λ t. t ++ after) is ∙ append_assoc (text_of given) others after,
+  writes-append new mid last first more others after wrote rest,
+)
+
+writes-one : (core new : CoreView) (next : Request) (given : LineAnswer) → Follows core next new given → Writes core (next ∷ []) (text_of given) new
+writes-one core new next given one = (new, given, [], one, sym (append-nil (text_of given)), (refl, refl))
+
+-- the text so far is that of the requests so far, or one of them did not come to its end
 abbrev pub SoFar : CoreView → CoreView → List Request → List Request → List ℕ → Type 0
-SoFar first core all left text =
-    ((before : List Request) × (all ≡ before ++ left) × (core ≡ core_after_all first before) × (text ≡ text_of_all (answers first before))) ⊎ RunsShort first all text
+SoFar first core all left text = ((before : List Request) × (all ≡ before ++ left) × Writes first before text core) ⊎ RunsShort first all text
 
 so_far-one : (first core new : CoreView) (all left : List Request) (next : Request) (text : List ℕ) (given : LineAnswer) → SoFar first core all (next ∷ left) text → AnswersOne core new next given → SoFar first new all left (text ++ text_of given)
-so_far-one first core new all left next text given (inl (before, split, state, wrote)) (inl (moved, same)) =
+so_far-one first core new all left next text given (inl (before, split, wrote)) (inl one) =
     inl (
       before ++ next ∷ [],
       split ∙ sym (append_assoc before (next ∷ []) left),
-      moved ∙ ap (λ c. core_after c next) state ∙ sym (core_after_all-push first before next),
-      ap (λ t. t ++ text_of given) wrote
-          ∙ ap (λ t. text_of_all (answers first before) ++ t)
-          (ap text_of same ∙ ap (λ c. text_of (answer_to c next)) state ∙ sym (text_of_all-one (core_after_all first before) next))
-          ∙ sym (text_of_all-append first before (next ∷ [])),
+      writes-append first core new before (next ∷ []) text (text_of given) wrote (writes-one core new next given one),
     )
-so_far-one first core new all left next text given (inl (before, split, state, wrote)) (inr short) =
-    inr (before, next, left, given, [], split, short, ap (λ t. t ++ text_of given) wrote ∙ sym (append-nil _))
-so_far-one first core new all left next text given (inr (before, at, others, short, more, split, is, wrote)) one =
-    inr (before, at, others, short, more ++ text_of given, split, is, ap (λ t. t ++ text_of given) wrote ∙ append_assoc (text_of_all (answers first before) ++ text_of short) more (text_of given))
+so_far-one first core new all left next text given (inl (before, split, wrote)) (inr short) =
+    inr (before, next, left, text, core, given, [], split, wrote, short, sym (append-nil _))
+so_far-one first core new all left next text given (inr (before, at, others, done, last, short, more, split, wrote, is, all_of)) one =
+    inr (before, at, others, done, last, short, more ++ text_of given, split, wrote, is, ap (λ t. t ++ text_of given) all_of ∙ append_assoc (done ++ text_of short) more (text_of given))
 
-so_far-all : (first core : CoreView) (all : List Request) (text : List ℕ) → SoFar first core all [] text → (text ≡ text_of_all (answers first all)) ⊎ RunsShort first all text
-so_far-all first core all text (inl (before, split, state, wrote)) =
-    inl (wrote ∙ ap (λ rs. text_of_all (answers first rs)) (sym (split ∙ append-nil before)))
+so_far-all : (first core : CoreView) (all : List Request) (text : List ℕ) → SoFar first core all [] text → ((last : CoreView) × Writes first all text last) ⊎ RunsShort first all text
+so_far-all first core all text (inl (before, split, wrote)) =
+    inl (core, subst (λ rs. Writes first rs text core) (sym (split ∙ append-nil before)) wrote)
 so_far-all first core all text (inr short) = inr short
 
 -- there is a whole text that begins with what was written
-so_far-whole : (first core : CoreView) (all left : List Request) (text : List ℕ) → SoFar first core all left text → (more : List ℕ) × ((text ++ more ≡ text_of_all (answers first all)) ⊎ RunsShort first all (text ++ more))
-so_far-whole first core all left text (inl (before, split, state, wrote)) = (
-  text_of_all (answers core left),
-  inl (ap (λ t. t ++ text_of_all (answers core left)) wrote
-      ∙ ap (λ c. text_of_all (answers first before) ++ text_of_all (answers c left)) state
-      ∙ sym (text_of_all-append first before left) ∙ ap (λ rs. text_of_all (answers first rs)) (sym split)),
-)
+so_far-whole : (first core : CoreView) (all left : List Request) (text : List ℕ) → SoFar first core all left text → (more : List ℕ) × (((last : CoreView) × Writes first all (text ++ more) last) ⊎ RunsShort first all (text ++ more))
+so_far-whole first core all left text (inl (before, split, wrote)) =
+    let (more, last, rest) = writes-some core left in
+    (more, inl (last, subst (λ rs. Writes first rs (text ++ more) last) (sym split) (writes-append first core last before left text more wrote rest)))
 so_far-whole first core all left text (inr short) = ([], inr (subst (RunsShort first all) (sym (append-nil text)) short))
 
 -- what was written so far, what the rest of the input will ask, and how many bytes may still come
@@ -81,9 +110,8 @@ Progress input now out written first core limit left is_done =
     × (is_done ≡ true → rest ≡ []))
 
 pub begins : (input out : Option (List ℕ)) (first : CoreView) (limit : ℕ) → Progress input input out out first first limit limit false
-unfolding answers core_after_all
 begins None out first limit = tt
-begins (Some xs) out first limit = ([], xs, refl, Appends-nil out, inl ([], refl, refl, refl), omega arith, λ e. cc)
+begins (Some xs) out first limit = ([], xs, refl, Appends-nil out, inl ([], refl, (refl, refl)), omega arith, λ e. cc)
 
 requests_of-nil : requests_of [] ≡ []
 requests_of-nil = ap (map (λ line. request_of (trim_record 10 line))) (records-nil 10)
@@ -198,8 +226,8 @@ front_and_part (Some xs) now out written wrote first core line limit left was p 
 -- nothing was written of the answer to a line
 pub nothing_of : (core : CoreView) (line : List ℕ) (out : Option (List ℕ)) → AnswersLineFront core line out out
 nothing_of core line out =
-    let request = request_of (trim_record 10 line) in
-    (core_after core request, answer_to core request, inl (refl, refl), (0, Appends-nil out))
+    let (new, given, one) = follows-some core (request_of (trim_record 10 line)) in
+    (new, given, inl one, (0, Appends-nil out))
 
 -- nothing was written of any answer
 pub nothing_written : (input out : Option (List ℕ)) (first : CoreView) (limit : ℕ) → IfSome input (λ xs. AnswersFront first xs out out)

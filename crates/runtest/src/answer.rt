@@ -6,7 +6,7 @@ ghost use Rattle.runtest.specs.Session.{AppendsFront};
 
 use crate::fault::SessionFault;
 use crate::writing::write_whole;
-use dg_words::Bytes;
+use dg_bytes::Bytes;
 use itoa::Buffer;
 use std::alloc::AllocError;
 use std::io::Write;
@@ -18,6 +18,9 @@ pub enum LineAnswer {
     Done,
     /// The edit was refused with this number, and nothing changed: `refused N`.
     Refused(u8),
+    /// The text is no transcript, and nothing changed: its first bad line, and the number of what is wrong with it: `refused
+    /// 7 LINE CAUSE`.
+    BadTranscript(u32, u8),
     /// The status, how many tests were evaluated for it, and the report: `sum STATUS LENGTH
     /// EVALUATED`, and behind that line the bytes of the report.
     Sum(u8, u64, Bytes),
@@ -45,6 +48,10 @@ impl LineAnswer {
         match self {
             LineAnswer::Done => return text.extend_from_slice(b"ok\n"),
             LineAnswer::Refused(number) => push_number(text, b"refused ", u64::from(*number))?,
+            LineAnswer::BadTranscript(line, cause) => {
+                push_number(text, b"refused 7 ", u64::from(*line))?;
+                push_number(text, b" ", u64::from(*cause))?;
+            }
             LineAnswer::Sum(status, evaluated, report) => {
                 push_number(text, b"sum ", u64::from(*status))?;
                 push_number(text, b" ", report.len() as u64)?;

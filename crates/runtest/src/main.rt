@@ -1,42 +1,58 @@
-//! The program `runtest`: answers the lines of a session.
+//! The program `runtest`: runs a test suite, or answers the lines of a session.
 #![tactic(auto)]
 
 mod answer;
 mod fault;
+mod live;
 mod reading;
 mod request;
+mod run;
 mod session;
+mod suite;
 #[cfg(test)]
 mod tests;
 mod writing;
 
-use crate::fault::SessionFault;
+use crate::fault::{ProgramFault, SessionFault};
+use crate::run::run_plan;
 use crate::session::run_session;
+use dg_bytes::Bytes;
 use dg_core::Core;
-use std::env::FillError;
-use std::io;
-use std::io::{BufReader, BufWriter};
+use dg_folders::RunFault;
+use dg_line::{LineFault, Mode, Plan, plan_of};
+use dg_world::Edit;
+use std::io::{BufReader, BufWriter, Write};
 use std::process::ExitCode;
-use std::rt::Env;
+use std::{env, io};
 
 /// The status after a fault.
 const FAULT: u8 = 2;
 
-/// Whether the command line has no words, or the one word `--session`.
-fn is_session(rt: &impl Env) -> bool {
-    let mut word = [0u8; 16];
-    match rt.arg(1, &mut word) {
-        Ok(len) => {
-            &word[..len] == b"--session".as_slice()
-                && matches!(rt.arg(2, &mut word), Err(FillError::NotPresent))
+/// The plan of the command line.
+fn read_plan(rt: &HostRuntime) -> Result<Plan, ProgramFault> {
+    let alloc = rt.alloc();
+    let args = match env::args(rt) {
+        Ok(args) => args,
+        Err(error) => {
+            return Err(match error.kind() {
+                io::ErrorKind::OutOfMemory => ProgramFault::Line(LineFault::Memory),
+                _ => ProgramFault::Line(LineFault::Words(String::new(alloc))),
+            });
         }
-        Err(FillError::NotPresent) => true,
-        Err(FillError::TooLong) => false,
+    };
+    let words: Vec<String> = args.skip(1).collect(alloc)?;
+    let mut texts = Vec::new(alloc);
+    for word in &words {
+        texts.push(word.as_str())?;
+    }
+    match plan_of(alloc, texts.as_slice()) {
+        Ok(plan) => Ok(plan),
+        Err(fault) => Err(ProgramFault::Line(fault)),
     }
 }
 
-/// Answers the lines of standard input on standard output.
-fn serve_standard(rt: &HostRuntime) -> Result<(), SessionFault> {
+/// Answers the lines of standard input on standard output, beginning with what a plan selects.
+fn serve_standard(rt: &HostRuntime, plan: Plan) -> Result<(), SessionFault> {
     let alloc = rt.alloc();
     let Ok(mut reader) = BufReader::new(alloc, rt.reader()) else {
         return Err(SessionFault::Memory);
@@ -44,19 +60,79 @@ fn serve_standard(rt: &HostRuntime) -> Result<(), SessionFault> {
     let Ok(mut writer) = BufWriter::new(alloc, io::writer(rt)) else {
         return Err(SessionFault::Memory);
     };
-    run_session(alloc, &mut reader, &mut writer, Core::new(alloc)?)
+    let mut core = Core::new(alloc)?;
+    if core
+        .edit(alloc, Edit::Select(plan.into_selection()))
+        .is_err()
+    {
+        return Err(SessionFault::Memory);
+    }
+    run_session(alloc, &mut reader, &mut writer, core)
 }
 
-fn main(rt: HostRuntime) -> ExitCode {
-    if !is_session(&rt) {
-        let _ = eprintln!(rt; "runtest: bad command line");
-        return ExitCode::from(FAULT);
+/// Writes bytes to standard output.
+fn print_bytes(rt: &HostRuntime, bytes: &[u8]) -> Result<(), ProgramFault> {
+    let mut writer = io::writer(rt);
+    match writer.write_all(bytes) {
+        Ok(()) => Ok(()),
+        Err(_) => Err(ProgramFault::Session(SessionFault::WriteFault)),
     }
-    match serve_standard(&rt) {
-        Ok(()) => ExitCode::SUCCESS,
+}
+
+/// The plan of the command line; or nothing, where it asks for a text, which is printed.
+fn planned(rt: &HostRuntime) -> Result<Option<Plan>, ProgramFault> {
+    match read_plan(rt) {
+        Ok(plan) => Ok(Some(plan)),
+        Err(ProgramFault::Line(LineFault::Shown(text))) => {
+            print_bytes(rt, text.as_bytes())?;
+            Ok(None)
+        }
+        Err(fault) => Err(fault),
+    }
+}
+
+/// Prints the report of a run, and gives its status.
+fn print_report(rt: &HostRuntime, run: Result<(Bytes, u8), RunFault>) -> Result<u8, ProgramFault> {
+    match run {
+        Ok((report, status)) => {
+            print_bytes(rt, report.as_slice())?;
+            Ok(status)
+        }
+        Err(fault) => Err(ProgramFault::Run(fault)),
+    }
+}
+
+/// Answers a session, and gives its status.
+fn serve(rt: &HostRuntime, plan: Plan) -> Result<u8, ProgramFault> {
+    match serve_standard(rt, plan) {
+        Ok(()) => Ok(0),
+        Err(fault) => Err(ProgramFault::Session(fault)),
+    }
+}
+
+/// The exit code of a status, or of a fault, which is told on standard error.
+fn exit_of(rt: &HostRuntime, status: Result<u8, ProgramFault>) -> ExitCode {
+    match status {
+        Ok(status) => ExitCode::from(status),
+        Err(ProgramFault::Line(LineFault::Words(text))) => {
+            let _ = eprint!(rt; "runtest: bad command line\n{text}");
+            ExitCode::from(FAULT)
+        }
         Err(fault) => {
             let _ = eprintln!(rt; "runtest: {fault}");
             ExitCode::from(FAULT)
         }
     }
+}
+
+fn main(rt: HostRuntime) -> ExitCode {
+    let status = match planned(&rt) {
+        Ok(Some(plan)) => match plan.mode {
+            Mode::Session => serve(&rt, plan),
+            Mode::Run | Mode::Rejudge => print_report(&rt, run_plan(&rt, plan)),
+        },
+        Ok(None) => Ok(0),
+        Err(fault) => Err(fault),
+    };
+    exit_of(&rt, status)
 }

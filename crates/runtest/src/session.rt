@@ -1,14 +1,17 @@
 //! A session: the lines of an input, answered in order.
 ghost use Rattle.std.specs.Prelude.{◌≡◌, ◌≢◌, ◌≤◌, ◌<◌, Err, length, IfSome, OnOk, OnErr};
 ghost use Rattle.std.specs.Io.KnownBytes.{IsAtEnd};
-ghost use Rattle.runtest.specs.Session.{Answers, AnswersEdit, AnswersFront, AnswersLine, AnswersLineFront, AnswersOne, AnswersReport};
+ghost use Rattle.runtest.specs.Session.{cause_number, refused, Answers, AnswersEdit, AnswersFront, AnswersLine, AnswersLineFront, AnswersOne, AnswersReport};
 
 use crate::answer::{LineAnswer, write_answer};
 use crate::fault::SessionFault;
 use crate::reading::{read_line, without_line_feed};
 use crate::request::{Request, read_request};
+use dg_bytes::Bytes;
 use dg_core::{Core, CoreFault};
-use dg_world::Edit;
+use dg_line::selection_of;
+use dg_transcript::Cause;
+use dg_world::{Edit, Refusal};
 use std::alloc::Global;
 use std::io::{BufRead, Write};
 
@@ -24,7 +27,47 @@ fn answer_edit(alloc: Global, core: &mut Core, edit: Edit) -> LineAnswer
 {
     match core.edit(alloc, edit) {
         Ok(()) => LineAnswer::Done,
-        Err(refusal) => LineAnswer::Refused(refusal.number()),
+        Err(refusal) => refused(refusal),
+    }
+}
+
+/// What a refused edit is answered.
+fn refused(refusal: Refusal) -> LineAnswer
+    ensures { result ≡ refused refusal }
+{
+    match refusal {
+        Refusal::BadTranscript(line, cause) => {
+            LineAnswer::BadTranscript(line, cause_number(cause))
+        }
+        _ => LineAnswer::Refused(refusal.number()),
+    }
+}
+
+/// The number of what is wrong with a line of a transcript.
+pub(crate) fn cause_number(cause: Cause) -> u8
+    ensures { result ≡ cause_number cause }
+{
+    match cause {
+        Cause::Header => 1,
+        Cause::Kind => 2,
+        Cause::Field => 3,
+        Cause::SessionOrder => 4,
+        Cause::TooMany => 5,
+        Cause::Truncated => 6,
+        Cause::Memory => 7,
+    }
+}
+
+/// Selects what the words of a line select. Where they are not text or have no plan nothing changes.
+fn answer_select(alloc: Global, core: &mut Core, words: &[Bytes]) -> LineAnswer
+    ensures { AnswersOne core.old core.new (Request.Select words.now) result }
+{
+    let Ok(read) = selection_of(alloc, words) else {
+        return LineAnswer::Refused(Refusal::Memory.number());
+    };
+    match read {
+        Some(selection) => answer_edit(alloc, core, Edit::Select(selection)),
+        None => LineAnswer::Refused(Refusal::BadSelection.number()),
     }
 }
 
@@ -35,19 +78,27 @@ fn answer_report(alloc: Global, core: &mut Core) -> LineAnswer
     let before = core.evaluations();
     match core.settle(alloc) {
         Ok((report, status)) => LineAnswer::Sum(status, core.evaluations() - before, report),
+        Err(CoreFault::PatternLost(_)) => LineAnswer::Fault(1),
         Err(CoreFault::Memory) => LineAnswer::Fault(2),
     }
 }
 
-/// Does what a request asks. Where memory runs out, a put is refused with 8 and a report has the
-/// fault 2.
-#[tactic(auto, unfolding(crate::specs::Session::answer_to, crate::specs::Session::core_after))]
+/// Does what a request asks. Where memory runs out, a put, a transcript or a selection is refused with 8 and a
+/// report has the fault 2.
+#[tactic(auto, unfolding(crate::specs::Session::Follows))]
 fn answer_request(alloc: Global, core: &mut Core, request: Request) -> LineAnswer
     ensures { AnswersOne core.old core.new request result }
 {
     match request {
         Request::Put(name, content) => answer_edit(alloc, core, Edit::PutFile(name, content)),
         Request::Remove(name) => answer_edit(alloc, core, Edit::RemoveFile(name)),
+        Request::PutTranscript(board, script, text) => {
+            answer_edit(alloc, core, Edit::PutTranscript(board, script, text))
+        }
+        Request::DropTranscript(board, script) => {
+            answer_edit(alloc, core, Edit::DropTranscript(board, script))
+        }
+        Request::Select(words) => answer_select(alloc, core, words.as_slice()),
         Request::Report => answer_report(alloc, core),
         Request::Unknown => LineAnswer::Unknown,
     }
@@ -106,7 +157,7 @@ pub fn serve<R: BufRead, W: Write>(
 }
 
 /// Answers every line of the input, in order, and flushes after each answer. Where memory runs out
-/// in a put or in a report the line is answered `refused 8` or `fault 2`, and the session goes on.
+/// in a put, a transcript, a selection or a report the line is answered `refused 8` or `fault 2`, and the session goes on.
 pub fn run_session<R: BufRead, W: Write>(
     alloc: Global,
     reader: &mut R,

@@ -1,7 +1,5 @@
-//! Lines, and readers and writers that fail in mid-stream.
+//! Readers and writers that fail in mid-stream, limits, and refused growths.
 mod growth;
 mod hostile;
-mod requests;
-mod rows;
 mod sessions;
 mod streams;

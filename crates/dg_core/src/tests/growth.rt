@@ -52,6 +52,7 @@ fn reports(alloc: Global, core: &mut Core) -> Option<bool> {
     match core.settle(alloc) {
         Ok((text, status)) => Some(text.is(PASSED) && status == 0),
         Err(CoreFault::Memory) => None,
+        Err(CoreFault::PatternLost(_)) => Some(false),
     }
 }
 

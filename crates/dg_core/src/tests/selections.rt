@@ -1,7 +1,7 @@
 //! Selections, boards and libraries: the report over several boards, and which scripts are evaluated again.
 use super::{pending_of, settled};
 use crate::judging_core::Core;
-use dg_words::{Bytes, Seq};
+use dg_bytes::{Bytes, Seq};
 use dg_world::{Edit, Refusal, Selection, Setting};
 use std::alloc::{AllocError, Global};
 use std::test::Fail;

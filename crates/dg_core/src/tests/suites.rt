@@ -2,7 +2,7 @@
 //! the names, and what stands behind the names of known bugs).
 use crate::judging_core::Core;
 use dg_boards::Triplet;
-use dg_words::{Bytes, Seq};
+use dg_bytes::{Bytes, Seq};
 use dg_world::{Edit, Selection};
 use std::alloc::{AllocError, Global};
 use std::test::Fail;

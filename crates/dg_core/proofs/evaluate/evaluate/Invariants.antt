@@ -1,9 +1,14 @@
-use Rattle.std.proofs.Common.{◌-◌, length}
-use Rattle.dg_core.specs.Asking.{IsTold, all_reads}
+use Rattle.dg_core.specs.Asking.{IsTold}
+use Rattle.dg_core.specs.Grown.{IsGrown}
+use Rattle.dg_core.specs.Turns.{turns_left}
 use Rattle.dg_core.proofs.evaluate.evaluate.Given as goal
 
 abbrev pub invariant-turns : goal.invariant-turns
-invariant-turns l = IsTold l.world l.test l.job
+invariant-turns l =
+    record {
+      told : IsTold l.world l.test l.job;
+      grown : IsGrown l.fn.world l.world;
+    }
 
 abbrev pub decreases-turns : goal.decreases-turns
-decreases-turns l = length (all_reads l.world l.test) - length l.job.reads
+decreases-turns l = turns_left l.world l.test l.job.reads

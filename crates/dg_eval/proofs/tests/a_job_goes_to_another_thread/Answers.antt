@@ -1,7 +1,7 @@
 -- What each thread is handed, and what the first gives back, may go to another thread.
 use denote.Param.Send.{sendable}
 use Rattle.std.proofs.alloc.Global.TheSendSync as heap
-use Rattle.dg_words.proofs.bytes.Bytes.TheSendSync as bytes
+use Rattle.dg_bytes.proofs.bytes.Bytes.TheSendSync as bytes
 use Rattle.dg_eval.proofs.Crosses.{Job-send}
 use Rattle.dg_eval.proofs.tests.a_job_goes_to_another_thread.Goals as goal
 

@@ -2,6 +2,7 @@ use Rattle.std.proofs.Common.{ℕ, List, Bool, true, false, IsTrue, ◌≡◌, �
 use Rattle.dg_glob.specs.Glob.{IsSpan, IsFirstSpan, binds_start, binds_end, body}
 use Rattle.dg_glob.specs.Search.{Ends, IsAnswer, IsFirstReach}
 use Rattle.dg_glob.proofs.RunLemmas.{if_none, if_some, if_none_so}
+use Rattle.dg_glob.proofs.FirstLemmas.{found_is_first, no_first, some_first}
 use Rattle.dg_glob.proofs.SpanLemmas.{first_span, no_span, bound_span, no_bound_span}
 use Rattle.dg_glob.proofs.glob.find_glob.Goals as goal
 use Rattle.dg_glob.proofs.glob.find_glob.Goals.{After-first_reach, After-longest}
@@ -40,3 +41,15 @@ pub returns-clause-found : goal.returns-clause-found
 returns-clause-found c =
     let p = c.args.pattern.now in
     bound_span p c.args.text.now _ (sym c.binds_start.ensures ∙ c.if-not-binds_start.false) (subst (IsAnswer (binds_end p) (body p) c.args.text.now) c.in_ok-left.was (answer (goal.at.returns-clause-found c).After-longest))
+
+pub returns-then-not-binds_start-clause-value : goal.returns-then-not-binds_start-clause-value
+returns-then-not-binds_start-clause-value c =
+    found_is_first c.args.pattern.now c.args.text.now c.first_reach.result (returns-then-not-binds_start-clause-found c) (returns-then-not-binds_start-clause-none c)
+
+pub returns-in_err-left-clause-value : goal.returns-in_err-left-clause-value
+returns-in_err-left-clause-value c =
+    rw c.from_residual.ensures
+    (no_first _ _ (no_bound_span c.args.pattern.now c.args.text.now (sym c.binds_start.ensures ∙ c.if-not-binds_start.false) (subst (IsAnswer (binds_end c.args.pattern.now) (body c.args.pattern.now) c.args.text.now) c.in_err-left.was (answer (goal.at.returns-in_err-left-clause-none c).After-longest))))
+
+pub returns-clause-value : goal.returns-clause-value
+returns-clause-value c = some_first c.args.pattern.now c.args.text.now _ _ (returns-clause-found c)

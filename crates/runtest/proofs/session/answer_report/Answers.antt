@@ -8,4 +8,5 @@ overflow_sub-result c =
     rises _ _ _ _ c.evaluations-before.ensures c.evaluations.ensures c.in-Ok.ensures.settles small
 
 pub returns-in-Ok : goal.returns-in-Ok
-returns-in-Ok c = reported _ _ _ _ _ _ c.evaluations-before.ensures c.evaluations.ensures c.in-Ok.ensures.settles c.in-Ok.ensures.sum
+returns-in-Ok c =
+    reported _ _ _ _ _ _ c.evaluations-before.ensures c.evaluations.ensures c.in-Ok.ensures.grown c.in-Ok.ensures.settles c.in-Ok.ensures.sum

@@ -1,7 +1,12 @@
 use Rattle.std.proofs.Common.{◌∙◌, ◌<◌, ◌≤◌, ◌+◌, ◌^◌, length, get_or, ap, subst, arith}
 use Rattle.dg_core.specs.Core.{CoreView, pending, with_judged, counted}
-use Rattle.dg_core.proofs.Settling.{settled-zero, settled-more, settled-begun, settled-all, pending-settled, partly, on_err}
+use Rattle.std.proofs.lemmas.Result.{err_from_is_err_and}
+use Rattle.dg_core.proofs.Growing.{grown-refl, grown-trans}
+use Rattle.dg_core.proofs.Settling.{settled-zero, settled-more, settled-begun, settled-all, ends-more, pending-settled, partly, on_err, blames-tells}
 use Rattle.dg_core.proofs.judging_core.Core.settle.Goals as goal
+
+pub returns-in_err-pending-clause-grown : goal.returns-in_err-pending-clause-grown
+returns-in_err-pending-clause-grown c = grown-refl c.args.self.now.world
 
 pub returns-in_err-pending-clause-kept : goal.returns-in_err-pending-clause-kept
 returns-in_err-pending-clause-kept c =
@@ -9,28 +14,59 @@ returns-in_err-pending-clause-kept c =
     on_err _ _ (partly _ _ 0 0 (omega arith) (omega arith) (omega arith) (settled-zero _ few))
 
 pub loop-test-init : goal.loop-test-init
-loop-test-init c = settled-zero _ (subst (λ n. n < 2 ^ 64) c.evaluations-begun.ensures c.evaluations-begun.type_inv)
+loop-test-init c =
+    record {
+      grown = grown-refl c.args.self.now.world;
+      settled = settled-zero _ (subst (λ n. n < 2 ^ 64) c.evaluations-begun.ensures c.evaluations-begun.type_inv);
+      ended = tt;
+    }
+
+pub returns-in_err-judge-clause-grown : goal.returns-in_err-judge-clause-grown
+returns-in_err-judge-clause-grown c = grown-trans _ _ _ c.loop-test.invariant.grown c.in_err-judge.ensures.grown
 
 pub returns-in_err-judge-clause-kept : goal.returns-in_err-judge-clause-kept
 returns-in_err-judge-clause-kept c =
     let i = c.loop-test.test-index in
     let items = c.as_slice-test-items.ensures ∙ c.in_ok-pending.ensures in
     let within = subst (λ l. i < length l) items c.loop-test-test.true in
-    let begun : CoreView → CoreView = λ m. record m { evaluations = counted m.evaluations 1 } in
+    let world = c.judge.new.self.world in
+    let begun : CoreView → CoreView = λ m. record m { world = world; evaluations = counted m.evaluations 1 } in
     on_err _ _
     (partly _ _ i (i + 1) (omega (arith, within)) (omega arith) (omega arith)
-    (c.in_err-judge.ensures.err ∙ ap begun c.loop-test.invariant ∙ settled-begun _ i))
+    (c.in_err-judge.ensures.err ∙ ap begun c.loop-test.invariant.settled
+    ∙ settled-begun _ c.loop-test.self.world world i c.in_err-judge.ensures.grown c.loop-test.invariant.ended))
 
 pub loop-test-preserved : goal.loop-test-preserved
 loop-test-preserved c =
     let i = c.loop-test.test-index in
+    let t = c.test-item.result in
+    let old = c.loop-test.self.world in
+    let world = c.judge.new.self.world in
     let items = c.as_slice-test-items.ensures ∙ c.in_ok-pending.ensures in
-    c.in_ok-judge.ensures.ok ∙ ap (λ m. with_judged m c.test-item.result) c.loop-test.invariant
-    ∙ settled-more _ i c.test-item.result (subst (λ l. i < length l) items c.loop-test-test.true) (c.test-item.is ∙ ap (λ l. get_or l i c.test-item.result) items)
+    let within = subst (λ l. i < length l) items c.loop-test-test.true in
+    let at = c.test-item.is ∙ ap (λ l. get_or l i t) items in
+    record {
+      grown = grown-trans _ _ _ c.loop-test.invariant.grown c.in_ok-judge.ensures.grown;
+      settled = c.in_ok-judge.ensures.ok ∙ ap (λ m. with_judged world m t) c.loop-test.invariant.settled
+          ∙ settled-more _ old world i t c.in_ok-judge.ensures.grown c.loop-test.invariant.ended within at;
+      ended = ends-more c.args.self.now old world i t c.in_ok-judge.ensures.grown c.loop-test.invariant.ended within at c.in_ok-judge.ensures.ends;
+    }
 
 pub sum-requires : goal.sum-requires
 sum-requires c =
     let i = c.loop-test.test-index in
+    let world = c.loop-test.self.world in
     let items = c.as_slice-test-items.ensures ∙ c.in_ok-pending.ensures in
-    let all = settled-all c.args.self.now i (subst (λ l. length l ≤ i) items c.loop-test-test.false) (subst (λ l. i ≤ length l) items c.loop-test.auto.test-index-end) in
-    ap pending (c.loop-test.invariant ∙ all) ∙ pending-settled c.args.self.now
+    let all =
+    settled-all world c.args.self.now i (subst (λ l. length l ≤ i) items c.loop-test-test.false) (subst (λ l. i ≤ length l) items c.loop-test.auto.test-index-end) in
+    ap pending (c.loop-test.invariant.settled ∙ all) ∙ pending-settled world c.args.self.now c.loop-test.invariant.grown
+
+pub returns-in_err-judge-clause-why : goal.returns-in_err-judge-clause-why
+returns-in_err-judge-clause-why c =
+    let i = c.loop-test.test-index in
+    let t = c.test-item.result in
+    let items = c.as_slice-test-items.ensures ∙ c.in_ok-pending.ensures in
+    let within = subst (λ l. i < length l) items c.loop-test-test.true in
+    let at = c.test-item.is ∙ ap (λ l. get_or l i t) items in
+    let p = err_from_is_err_and c.from_residual-in_err-judge.result c.from_residual-in_err-judge.ensures.1 in
+    rw (p.1, p.2) (blames-tells c.args.self.now c.judge.new.self.world i t c.in_err-judge.field-0.0 within at c.in_err-judge.ensures.why)

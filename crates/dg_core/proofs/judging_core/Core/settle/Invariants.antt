@@ -1,6 +1,13 @@
-use Rattle.std.proofs.Common.{◌≡◌}
-use Rattle.dg_core.specs.Core.{settled_up_to}
+use Rattle.std.proofs.Common.{◌≡◌, take}
+use Rattle.dg_core.specs.Core.{pending, settled_up_to}
+use Rattle.dg_core.specs.Grown.{IsGrown}
+use Rattle.dg_core.proofs.Settling.{AllEnd}
 use Rattle.dg_core.proofs.judging_core.Core.settle.Given as goal
 
 abbrev pub invariant-loop-test : goal.invariant-loop-test
-invariant-loop-test l = l.self ≡ settled_up_to l.test-index l.test-index l.fn.self
+invariant-loop-test l =
+    record {
+      grown : IsGrown l.fn.self.world l.self.world;
+      settled : l.self ≡ settled_up_to l.test-index l.test-index l.self.world l.fn.self;
+      ended : AllEnd l.self.world (take l.test-index (pending l.fn.self));
+    }

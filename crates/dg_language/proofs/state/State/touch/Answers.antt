@@ -4,7 +4,7 @@ use Rattle.dg_language.proofs.TouchLemmas.{touch-free, touch-asks, touch-begins,
 use Rattle.dg_language.proofs.state.State.touch.Goals as goal
 
 pub returns-then-not-is_to_begin : goal.returns-then-not-is_to_begin
-returns-then-not-is_to_begin c = (touch-free _ _ _ refl _ c.is_to_begin.ensures c.if-not-is_to_begin.true, refl, refl)
+returns-then-not-is_to_begin c = (touch-free _ _ _ refl _ c.is_to_begin.ensures c.if-not-is_to_begin.true, refl)
 
 pub returns-in_default : goal.returns-in_default
 returns-in_default c =
@@ -17,7 +17,7 @@ returns-in_default-2 c =
     let name = c.in_ok-from_slice.ensures ∙ c.global_name-global.ensures in
     let none = sym c.in_ok-value.ensures ∙ c.in_default-2.is in
     rw c.in_ok-begin.ensures
-    (touch-begins _ _ _ name _ c.is_to_begin.ensures c.if-not-is_to_begin.false _ (sym c.in-Some.ensures) _ (sym c.in_ok-from_slice.ensures) none, refl, refl)
+    (touch-begins _ _ _ name _ c.is_to_begin.ensures c.if-not-is_to_begin.false _ (sym c.in-Some.ensures) _ (sym c.in_ok-from_slice.ensures) none, refl)
 
 pub returns-then-len-gt-LONGEST_VALUE : goal.returns-then-len-gt-LONGEST_VALUE
 returns-then-len-gt-LONGEST_VALUE c =
@@ -33,4 +33,4 @@ returns c =
     let short = subst (λ n. n ≤ 1048576) c.len.ensures c.if-len-gt-LONGEST_VALUE.false in
     let some = sym c.in_ok-value.ensures ∙ c.in-Some-2.is in
     rw c.in_ok-begin_with.ensures
-    (touch-begins-with _ _ _ name _ c.is_to_begin.ensures c.if-not-is_to_begin.false _ (sym c.in-Some.ensures) _ (sym c.in_ok-from_slice.ensures) _ some short, refl, refl)
+    (touch-begins-with _ _ _ name _ c.is_to_begin.ensures c.if-not-is_to_begin.false _ (sym c.in-Some.ensures) _ (sym c.in_ok-from_slice.ensures) _ some short, refl)

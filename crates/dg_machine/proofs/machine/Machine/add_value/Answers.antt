@@ -12,7 +12,7 @@ returns-then-length-gt-LONGEST_VALUE c =
       | then-length-gt-LONGEST_VALUE-via-then-length-gt-LONGEST_VALUE w ↦ omega arith
       | then-length-gt-LONGEST_VALUE-via-else-length-gt-LONGEST_VALUE+then-len-length w ↦ omega arith
     ] in
-    rw c.cut.ensures.same (within-long _ _ _ long ∙ c.in_ok-verdict.ensures.ends, refl)
+    rw c.cut.ensures.same (within-long _ _ _ long ∙ c.in_ok-closing.ensures.ends, refl)
 
 pub returns : goal.returns
 unfolding rest go

@@ -10,6 +10,6 @@ returns c =
     let n = c.in-Some.name.now in
     let vs = c.in-Some.values.now in
     let ready = rw c.as_slice.ensures at (rw c.in_default-2.is at c.in_ok-pace-2.ensures) in
-    let went = rw (c.as_slice-3.ensures, c.in_ok-extend_all.ensures, c.in_ok-text.ensures, c.value_of.ensures, c.as_slice-2.ensures) at c.in_ok-pace-3.ensures in
+    let went = rw (c.as_slice-3.ensures, c.in_ok-extend_all.ensures, c.new-more.ensures, c.as_slice-2.ensures) at c.in_ok-pace-3.ensures in
     runs-as _ _ _ _ _ (ready-runs n (λ t k. store n (or_empty (value_of t.variables n) ++ concat vs) t k) _ _ _ _ ready went)
     (append-of _ _ _ c.in-Some.ensures)

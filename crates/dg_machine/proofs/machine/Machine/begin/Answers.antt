@@ -5,7 +5,7 @@ use Rattle.dg_machine.proofs.machine.Machine.begin.Goals as goal
 
 pub returns-then-depth-eq0 : goal.returns-then-depth-eq0
 returns-then-depth-eq0 c text e =
-    rw c.cut.ensures.same (evaluate-none _ _ _ _ c.if-depth-eq0.true ∙ c.in_ok-verdict.ensures.ends, refl)
+    rw c.cut.ensures.same (evaluate-none _ _ _ _ c.if-depth-eq0.true ∙ c.in_ok-closing.ensures.ends, refl)
 
 pub returns : goal.returns
 unfolding rest go

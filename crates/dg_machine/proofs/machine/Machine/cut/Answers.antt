@@ -6,6 +6,6 @@ use Rattle.dg_machine.proofs.machine.Machine.cut.Goals as goal
 pub returns-clause-ends : goal.returns-clause-ends
 returns-clause-ends c =
     let s = c.args.self.now.state in
-    let name = c.as_slice.ensures.bytes ∙ ap (λ t. t.script) c.test.ensures in
+    let name = c.as_slice.ensures.bytes ∙ c.script.ensures ∙ ap (λ t. t.script) c.test.ensures in
     let lines = c.in_ok-verdict.ensures s.calls c.in_ok-judging.ensures in
     cut-ends c.args.why.now s _ (lines ∙ ap (λ n. lines_of s.calls ++ abort_lines n c.args.why.now) name)

@@ -8,7 +8,7 @@ pub returns-then-len-gt-LONGEST_VALUE : goal.returns-then-len-gt-LONGEST_VALUE
 returns-then-len-gt-LONGEST_VALUE c =
     let text = rw c.as_slice.ensures at c.in_ok-text.ensures in
     let long = rw text at (subst (λ n. 1048576 < n) c.len.ensures c.if-len-gt-LONGEST_VALUE.true) in
-    rw c.cut.ensures.same (expr-long _ _ _ _ c.in-Some.ensures _ _ long ∙ c.in_ok-verdict.ensures.ends, refl)
+    rw c.cut.ensures.same (expr-long _ _ _ _ c.in-Some.ensures _ _ long ∙ c.in_ok-closing.ensures.ends, refl)
 
 pub returns : goal.returns
 unfolding all_back back

@@ -5,7 +5,7 @@ use Rattle.dg_machine.proofs.machine.Machine.fail.Goals as goal
 
 pub returns-then-len-gt-LONGEST_VALUE : goal.returns-then-len-gt-LONGEST_VALUE
 returns-then-len-gt-LONGEST_VALUE c =
-    rw c.cut.ensures.same (fail-long _ _ _ (subst (λ n. 1048576 < n) c.len.ensures c.if-len-gt-LONGEST_VALUE.true) ∙ c.in_ok-verdict.ensures.ends, refl)
+    rw c.cut.ensures.same (fail-long _ _ _ (subst (λ n. 1048576 < n) c.len.ensures c.if-len-gt-LONGEST_VALUE.true) ∙ c.in_ok-closing.ensures.ends, refl)
 
 pub returns : goal.returns
 unfolding rest weight

@@ -8,12 +8,12 @@ use Rattle.dg_machine.proofs.machine.Machine.gather_element.Goals as goal
 pub returns-in_ok-push-in-Some-Stands-2 : goal.returns-in_ok-push-in-Some-Stands-2
 unfolding rest go gather read_variable
 returns-in_ok-push-in-Some-Stands-2 c =
-    let h = rw (c.in-Some-Stands.is, c.in-Some-Stands.field-0-is, c.as_slice-3.ensures, c.in_ok-whole.ensures, c.as_slice.ensures, c.as_slice-2.ensures) at c.in_ok-question.ensures in
+    let h = rw (c.in-Some-Stands.is, c.in-Some-Stands.field-0-is, c.as_slice-3.ensures, c.in_ok-whole.ensures, c.as_slice.ensures, c.as_slice-2.ensures) at c.in_ok-ask.ensures in
     rw (c.in-Some-Stands.field-0-is, c.in_ok-push-in-Some-Stands-2.ensures, c.in_ok-push_front-in-Some-Stands.ensures, c.in_ok-push-in-Some-Stands.ensures, h.1, c.requires)
     (h.0 (λ s. reading (outside_index c.args.making c.args.before) c.args.depth (element c.args.name c.args.making.text) s (all_back c.args.self.now.stack)), refl, h.2)
 
 pub returns-in_ok-add_variable-in-None : goal.returns-in_ok-add_variable-in-None
 returns-in_ok-add_variable-in-None c =
-    let h = rw (c.in-None.is, c.as_slice-3.ensures, c.in_ok-whole.ensures, c.as_slice.ensures, c.as_slice-2.ensures) at c.in_ok-question.ensures in
+    let h = rw (c.in-None.is, c.as_slice-3.ensures, c.in_ok-whole.ensures, c.as_slice.ensures, c.as_slice-2.ensures) at c.in_ok-ask.ensures in
     let went = rw (c.as_slice-in-None.ensures, c.in_ok-whole.ensures, c.as_slice.ensures, c.as_slice-2.ensures) at c.in_ok-add_variable-in-None.ensures in
     ready-reading (element c.args.name c.args.making.text) c.args.self.now c.ready.new.self (outside_index c.args.making c.args.before) c.args.depth _ _ h went

@@ -13,23 +13,23 @@ returns-then-at-len c =
 pub returns-in_ok-push-in-Some-Stands : goal.returns-in_ok-push-in-Some-Stands
 unfolding rest go
 returns-in_ok-push-in-Some-Stands c =
-    let asks = rw c.as_slice.ensures at (rw c.in-Some-Stands.field-0-is at (rw c.in-Some-Stands.is at c.in_ok-question.ensures)) in
+    let asks = rw c.as_slice.ensures at (rw c.in-Some-Stands.field-0-is at (rw c.in-Some-Stands.is at c.in_ok-ask.ensures)) in
     let here : c.args.at < length c.args.rounds.names = omega (arith, c.len.ensures, c.if-at-len.false) in
     rw (c.in-Some-Stands.field-0-is, c.in_ok-push-in-Some-Stands.ensures, asks.1, c.requires.given, c.requires.go)
     (give-asks _ _ _ here c.in_ok-name.ensures _ _ _ _ asks.0, refl, asks.2)
 
 pub returns-in-Some-Over : goal.returns-in-Some-Over
 returns-in-Some-Over c =
-    let over = rw c.as_slice.ensures at (rw c.in-Some-Over.field-0-is at (rw c.in-Some-Over.is at c.in_ok-question.ensures)) in
+    let over = rw c.as_slice.ensures at (rw c.in-Some-Over.field-0-is at (rw c.in-Some-Over.is at c.in_ok-ask.ensures)) in
     let here : c.args.at < length c.args.rounds.names = omega (arith, c.len.ensures, c.if-at-len.false) in
     rw c.in-Some-Over.field-0-is (give-over _ _ _ here c.in_ok-name.ensures _ _ _ _ over.0, ap (λ (m : Machine). m.state.known) over.1)
 
 pub returns-in_ok-pace-in-None : goal.returns-in_ok-pace-in-None
 returns-in_ok-pace-in-None c =
-    let ready = rw c.as_slice.ensures at (rw c.in-None.is at c.in_ok-question.ensures) in
+    let ready = rw c.as_slice.ensures at (rw c.in-None.is at c.in_ok-ask.ensures) in
     let here : c.args.at < length c.args.rounds.names = omega (arith, c.len.ensures, c.if-at-len.false) in
     let control = ap (λ (m : Machine). m.control) ready.1 in
     let stack = ap (λ (m : Machine). m.stack) ready.1 in
     let went = rw (control, stack, c.as_slice-in-None.ensures) at c.in_ok-pace-in-None.ensures in
-    let same = weight-readied c.args.self.now.state c.ready.new.self.state c.args.self.now.control c.args.self.now.stack ready.3 in
-    Goes-on _ _ _ _ _ _ _ _ went (give-ready _ _ _ here c.in_ok-name.ensures _ _ _ _ ready.0) ready.2 (rw same (omega arith))
+    let same = weight-readied c.args.self.now.state c.ready.new.self.state c.args.self.now.control c.args.self.now.stack (ap (λ (m : Machine). m.state) ready.1) in
+    Goes-on _ _ _ _ _ _ _ _ went (give-ready _ _ _ here c.in_ok-name.ensures _ _ _ _ ready.0) (ap (λ (m : Machine). m.state.known) ready.1) (rw same (omega arith))

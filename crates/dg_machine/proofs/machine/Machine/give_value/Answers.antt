@@ -7,7 +7,7 @@ use Rattle.dg_machine.proofs.machine.Machine.give_value.Goals as goal
 pub returns-then-len-gt-LONGEST_VALUE : goal.returns-then-len-gt-LONGEST_VALUE
 returns-then-len-gt-LONGEST_VALUE c =
     let count = c.len.ensures ∙ ap length c.take_first-value.ensures.first in
-    rw c.cut.ensures.same (within-long _ _ _ (subst (λ n. 1048576 < n) count c.if-len-gt-LONGEST_VALUE.true) ∙ c.in_ok-verdict.ensures.ends, refl)
+    rw c.cut.ensures.same (within-long _ _ _ (subst (λ n. 1048576 < n) count c.if-len-gt-LONGEST_VALUE.true) ∙ c.in_ok-closing.ensures.ends, refl)
 
 pub returns : goal.returns
 unfolding rest go

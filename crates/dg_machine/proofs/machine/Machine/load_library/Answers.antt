@@ -17,7 +17,7 @@ pub returns-in-Unanswered : goal.returns-in-Unanswered
 returns-in-Unanswered c =
     let new = rw (c.as_slice.ensures.bytes, c.requires.file) at (sym c.has_begun.ensures ∙ c.if-has_begun.false) in
     let held = rw c.requires.file at (rw c.in-Unanswered.is at c.in_ok-question.ensures) in
-    (load-asks _ _ _ _ _ new held, refl, held.1)
+    rw c.plain.ensures (load-asks _ _ _ _ _ new held, refl, held.1)
 
 pub returns-in_ok-miss_library-in-Known-None : goal.returns-in_ok-miss_library-in-Known-None
 returns-in_ok-miss_library-in-Known-None c =

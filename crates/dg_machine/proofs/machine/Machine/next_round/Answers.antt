@@ -19,7 +19,7 @@ returns-then-rounds-eq0 c =
       | then-rounds-eq0-via-then-rounds-eq0 w ↦ inl w.if-rounds-eq0.true
       | then-rounds-eq0-via-else-rounds-eq0+then-not-has_step w ↦ inr (no-step c.args.self.now.state _ w.has_step.ensures w.if-not-has_step.true)
     ] in
-    rw c.cut.ensures.same (each-cut _ _ _ _ _ _ _ some h ∙ c.in_ok-verdict.ensures.ends, refl)
+    rw c.out_of_steps.ensures.same (each-cut _ _ _ _ _ _ _ some h ∙ c.in_ok-closing.ensures.ends, refl)
 
 pub returns : goal.returns
 unfolding rest go

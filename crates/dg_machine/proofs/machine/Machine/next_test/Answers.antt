@@ -12,7 +12,7 @@ returns-then-repetition-eq0 c =
       | then-repetition-eq0-via-then-repetition-eq0 w ↦ inl w.if-repetition-eq0.true
       | then-repetition-eq0-via-else-repetition-eq0+then-not-has_step w ↦ inr (no-step c.args.self.now.state _ w.has_step.ensures w.if-not-has_step.true)
     ] in
-    rw c.cut.ensures.same (repeat-cut _ _ _ _ _ _ _ h ∙ c.in_ok-verdict.ensures.ends, refl)
+    rw c.out_of_steps.ensures.same (repeat-cut _ _ _ _ _ _ _ h ∙ c.in_ok-closing.ensures.ends, refl)
 
 pub returns : goal.returns
 unfolding all_back back

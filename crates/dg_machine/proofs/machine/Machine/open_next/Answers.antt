@@ -7,10 +7,10 @@ use Rattle.dg_machine.proofs.machine.Machine.open_next.Goals as goal
 
 pub returns-in_ok-open_first-in-Board : goal.returns-in_ok-open_first-in-Board
 returns-in_ok-open_first-in-Board c =
-    let name = c.in_ok-name-in-Board.ensures ∙ ap board_file (c.as_slice.ensures.bytes ∙ ap (λ t. t.board) c.test.ensures) in
+    let name = c.in_ok-name-in-Board.ensures ∙ ap board_file (c.as_slice.ensures.bytes ∙ c.board.ensures.board ∙ ap (λ t. t.board) c.test.ensures) in
     rw c.in-Board.is
     (Opens-along _ (open_next Board) (first_file c.in_ok-name-in-Board.name leave_board) _ _ _ _ c.in_ok-open_first-in-Board.ensures (board-opens _ _ _ name)
-    (λ q a. board-again _ q a _ _ name) (omega arith))
+    (λ q a s. board-again _ q a c.args.self.now.state s _ name) (omega arith))
 
 pub returns-in_ok-leave_board-in-AfterBoard : goal.returns-in_ok-leave_board-in-AfterBoard
 returns-in_ok-leave_board-in-AfterBoard c = rw c.in-AfterBoard.is c.in_ok-leave_board-in-AfterBoard.ensures

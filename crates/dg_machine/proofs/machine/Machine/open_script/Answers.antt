@@ -7,17 +7,17 @@ use Rattle.dg_machine.proofs.machine.Machine.open_script.Goals as goal
 
 pub returns-in-Unanswered : goal.returns-in-Unanswered
 returns-in-Unanswered c =
-    let held = rw (ap (λ t. t.script) c.test.ensures) at (rw c.in-Unanswered.is at c.in_ok-question.ensures) in
-    (script-asks _ _ _ held, refl, held.1)
+    let held = rw (c.script.ensures ∙ ap (λ t. t.script) c.test.ensures) at (rw c.in-Unanswered.is at c.in_ok-question.ensures) in
+    rw c.plain.ensures (script-asks _ _ _ held, refl, held.1)
 
 pub returns-in_ok-fail-in-Known-None : goal.returns-in_ok-fail-in-Known-None
 returns-in_ok-fail-in-Known-None c =
-    let held = rw (ap (λ t. t.script) c.test.ensures) at (rw c.in-Known-None.field-0-is at (rw c.in-Known-None.is at c.in_ok-question.ensures)) in
-    let message = c.in_ok-message-in-Known-None.ensures ∙ ap (λ n. codes "couldn't read script " ++ quoted n) (c.as_slice.ensures.bytes ∙ ap (λ t. t.script) c.test-in-Known-None.ensures) in
+    let held = rw (c.script.ensures ∙ ap (λ t. t.script) c.test.ensures) at (rw c.in-Known-None.field-0-is at (rw c.in-Known-None.is at c.in_ok-question.ensures)) in
+    let message = c.in_ok-message-in-Known-None.ensures ∙ ap (λ n. codes "couldn't read script " ++ quoted n) (c.as_slice.ensures.bytes ∙ c.script-in-Known-None.ensures ∙ ap (λ t. t.script) c.test-in-Known-None.ensures) in
     let went = rw message at c.in_ok-fail-in-Known-None.ensures in
     Goes-opens _ open_script _ _ _ _ _ _ went (script-known _ _ _ held) refl (omega arith)
 
 pub returns-in_ok-enter-in-Known-Some : goal.returns-in_ok-enter-in-Known-Some
 returns-in_ok-enter-in-Known-Some c =
-    let held = rw (ap (λ t. t.script) c.test.ensures) at (rw c.in-Known-Some.field-0-is at (rw c.in-Known-Some.is at c.in_ok-question.ensures)) in
+    let held = rw (c.script.ensures ∙ ap (λ t. t.script) c.test.ensures) at (rw c.in-Known-Some.field-0-is at (rw c.in-Known-Some.is at c.in_ok-question.ensures)) in
     Goes-opens _ open_script _ _ _ _ _ _ c.in_ok-enter-in-Known-Some.ensures (script-known _ _ _ held) refl (omega arith)

@@ -20,7 +20,7 @@ pub returns-then-not-has_step : goal.returns-then-not-has_step
 returns-then-not-has_step c =
     let taken = rw c.in-Some-Steps.field-0-is at (rw c.in-Some-Steps.is at c.in_ok-next.ensures) in
     let h = no-step c.args.self.now.state _ c.has_step.ensures c.if-not-has_step.true in
-    rw c.cut.ensures.same (sequence-cut _ _ _ _ _ _ _ taken.1.0 h ∙ c.in_ok-verdict-in-Some-Steps.ensures.ends, refl)
+    rw c.out_of_steps.ensures.same (sequence-cut _ _ _ _ _ _ _ taken.1.0 h ∙ c.in_ok-closing-in-Some-Steps.ensures.ends, refl)
 
 pub returns-in_ok-begin_command-in-Some-Steps : goal.returns-in_ok-begin_command-in-Some-Steps
 unfolding rest go

@@ -1,6 +1,7 @@
 use Rattle.std.proofs.Common.{rules, arith, ◌+◌}
 use Rattle.std.proofs.lemmas.Grind.{common_steps}
 use Rattle.dg_match.proofs.WithinLemmas.{answer_lies}
+use Rattle.dg_match.proofs.HitLemmas.{hit_here, none_here}
 use Rattle.dg_match.proofs.TryLemmas.{none_tried, some_tried, tried_length, tried_step}
 use Rattle.dg_match.proofs.buffer.Buffer.try_patterns.Goals as goal
 
@@ -39,3 +40,11 @@ loop-index-preserved c = record {
   kept = tried_length c.loop-index.index c.index-patterns-index.result c.loop-index.self c.try_pattern.new.self c.loop-index.invariant.kept c.in_ok-found.ensures.tried;
   none = grind (arith, common_steps);
 }
+
+pub returns-in-Some-clause-hit : goal.returns-in-Some-clause-hit
+returns-in-Some-clause-hit c =
+    hit_here c.args.patterns.now c.index-patterns-index.result c.args.self.now.bytes c.loop-index.index c.in-Some.found c.in_ok-found.field-0 c.loop-index-test.true c.index-patterns-index.is
+    c.in-Some.is (rw (← c.loop-index.invariant.bytes) c.in_ok-found.ensures.answer) c.loop-index.invariant.none
+
+pub returns-clause-hit : goal.returns-clause-hit
+returns-clause-hit c = none_here c.args.patterns.now c.args.self.now.bytes c.loop-index.index c.loop-index-test.false c.loop-index.invariant.none

@@ -4,7 +4,7 @@ use Rattle.dg_world.proofs.world.World.selected.Goals as goal
 
 pub push_tests-requires : goal.push_tests-requires
 push_tests-requires c =
-    board_of_items (record { files = c.self.inside.files.entries; selection = c.self.inside.selection }) c.self.invariant _ c.as_slice-board-items.ensures _ _ c.loop-board-test.true c.board-item.is
+    board_of_items (record { files = c.self.inside.files.entries; selection = c.self.inside.selection; transcripts = c.self.inside.transcripts.entries; book = c.self.inside.book }) c.self.invariant _ c.as_slice-board-items.ensures _ _ c.loop-board-test.true c.board-item.is
 
 pub returns : goal.returns
 returns c =

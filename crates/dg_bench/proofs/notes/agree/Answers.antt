@@ -1,0 +1,15 @@
+use Rattle.std.proofs.Common.{rules, ◌≤◌, length, ◌≡◌, ◌-◌, Some, refl, sym, ap, ◌∙◌, subst, true}
+use mathlib.Core.List.{IsPrefix}
+use Rattle.dg_bench.specs.Seen.{calls_of, Seen, IsSeen}
+use Rattle.dg_bench.proofs.Places.{agreed}
+use Rattle.dg_bench.proofs.notes.agree.Goals as goal
+
+pub returns-in-Some-clause-begins : goal.returns-in-Some-clause-begins
+returns-in-Some-clause-begins g c ours =
+    let view = c.pass.view_is in
+    let mine : c.pass.inside.ours ≡ true = ap (λ (s : Seen). s.ours) view ∙ ours in
+    let seen = subst (λ n. IsSeen g.B.Room.names c.pass.inside.ours c.pass.inside.count n) c.in-Some.is c.pass.invariant mine in
+    let counts : c.pass.inside.count ≡ c.args.pass.count = ap (λ (s : Seen). s.count) view in
+    let within : c.pass.inside.count ≤ length c.args.calls.now.items = rw (counts, ← c.args.calls.now.ok.0) c.requires.within in
+    let begins = agreed g.B.Room.names c.args.notes.now.items c.args.calls.now.items c.pass.inside.count c.in-Some.note (c.pass.inside.count - 1) c.requires.all seen.0 refl c.compare_at.ensures.agrees within in
+    subst (λ xs. IsPrefix xs c.args.calls.now.items) (ap calls_of (sym c.in-Some.is) ∙ ap (λ (s : Seen). s.calls) view) begins

@@ -1,0 +1,4 @@
+pub mod History
+pub mod Seen
+pub mod Refusals
+pub mod Made

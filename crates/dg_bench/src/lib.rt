@@ -1,0 +1,28 @@
+//! One bench for many callers: a core under one lock, and the history of its calls, each place of which is a cell that is
+//! read without the lock.
+#![tactic(auto)]
+
+mod bench;
+mod call;
+mod history;
+mod law;
+mod locked;
+mod notes;
+mod opened;
+mod pass;
+mod place;
+mod receipt;
+mod refusal;
+mod room;
+
+pub use crate::bench::Bench;
+pub use crate::call::Call;
+pub use crate::history::History;
+pub use crate::law::{histories_are_runs, sums_are_from_scratch};
+pub use crate::locked::Locked;
+pub use crate::opened::Opened;
+pub use crate::pass::Pass;
+pub use crate::place::Place;
+pub use crate::receipt::Receipt;
+pub use crate::refusal::BenchRefusal;
+pub use crate::room::Room;

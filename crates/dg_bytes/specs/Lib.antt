@@ -1,0 +1,4 @@
+pub mod Forms
+pub mod Canonical
+pub mod Added
+pub mod Growth

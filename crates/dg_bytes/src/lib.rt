@@ -1,0 +1,16 @@
+//! Bytes and lists of values, as contracts see them: the types that every other room speaks of.
+#![tactic(auto)]
+
+mod bytes;
+mod canonical;
+mod copying;
+mod listed;
+mod measure;
+mod seq;
+mod text;
+
+pub use crate::bytes::{Bytes, Growth};
+pub use crate::copying::TryCopy;
+pub use crate::measure::behind_element;
+pub use crate::seq::Seq;
+pub use crate::text::Text;

@@ -1,0 +1,15 @@
+use Rattle.std.proofs.Common.{◌≡◌, ◌++◌, map, length, drop, ◌+◌, ◌*◌}
+use Rattle.dg_language.specs.Words.{substitution_of}
+use Rattle.dg_words.specs.Parts.{pieces_of, pieces_of_part}
+use Rattle.dg_forms.proofs.substitute.+parts.Given as goal
+
+abbrev pub decreases-push_part : goal.decreases-push_part
+decreases-push_part l = 2 * length (pieces_of_part l.part.now)
+
+abbrev pub decreases-push_parts : goal.decreases-push_parts
+decreases-push_parts l = 2 * length l.parts.now + 1
+
+abbrev pub invariant-push_parts-loop-part : goal.invariant-push_parts-loop-part
+invariant-push_parts-loop-part l =
+    (pieces_of l.part-items ≡ l.fn.parts)
+    × (l.steps ++ map substitution_of (pieces_of (drop l.part-index l.part-items)) ≡ l.fn.steps ++ map substitution_of l.fn.parts)

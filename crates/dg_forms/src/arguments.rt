@@ -1,0 +1,56 @@
+//! The arguments of a command, taken apart.
+ghost use Rattle.std.specs.Prelude.{◌≡◌, ◌∷◌, [], MatchOption, None};
+ghost use Rattle.std.specs.Option.{option_copied};
+ghost use Rattle.dg_language.specs.Evaluation.{one_of, two_of, three_of, four_of};
+
+use dg_bytes::Bytes;
+
+/// The first and the others.
+pub fn split<T>(items: &[T]) -> Option<(&T, &[T])>
+    ensures { MatchOption result (items.now ≡ []) (λ p. items.now ≡ p.0.now ∷ p.1.now) }
+{
+    match items {
+        [] => None,
+        [first, others @ ..] => Some((first, others)),
+    }
+}
+
+/// The only word, if there is just one.
+pub fn only(words: &[Bytes]) -> Option<&Bytes>
+    ensures { option_copied result ≡ one_of words.now }
+{
+    match words {
+        [word] => Some(word),
+        _ => None,
+    }
+}
+
+/// The two words, if there are just two.
+pub fn two(words: &[Bytes]) -> Option<(&Bytes, &Bytes)>
+    ensures { MatchOption result (two_of words.now ≡ None) (λ p. words.now ≡ p.0.now ∷ p.1.now ∷ []) }
+{
+    match words {
+        [one, two] => Some((one, two)),
+        _ => None,
+    }
+}
+
+/// The three words, if there are just three.
+pub fn three(words: &[Bytes]) -> Option<(&Bytes, &Bytes, &Bytes)>
+    ensures { MatchOption result (three_of words.now ≡ None) (λ p. words.now ≡ p.0.now ∷ p.1.now ∷ p.2.now ∷ []) }
+{
+    match words {
+        [one, two, three] => Some((one, two, three)),
+        _ => None,
+    }
+}
+
+/// The four words, if there are just four.
+pub fn four(words: &[Bytes]) -> Option<(&Bytes, &Bytes, &Bytes, &Bytes)>
+    ensures { MatchOption result (four_of words.now ≡ None) (λ p. words.now ≡ p.0.now ∷ p.1.now ∷ p.2.now ∷ p.3.now ∷ []) }
+{
+    match words {
+        [one, two, three, four] => Some((one, two, three, four)),
+        _ => None,
+    }
+}

@@ -1,0 +1,83 @@
+//! What `expect` writes of a match and of an end, by expect(1).
+ghost use Rattle.std.specs.Prelude.{◌≡◌, ◌++◌, ◌+◌, ◌≤◌, codes, decimal, length, IfOk, OnOk, IsSome, IsSomeAnd, IfSome};
+ghost use Rattle.std.specs.List.{All};
+ghost use Rattle.dg_match.specs.Hits.{LiesBetween, LiesIn};
+ghost use Rattle.dg_scope.specs.Scopes.{value_limit};
+ghost use Rattle.dg_sessions.specs.Views.{session_at};
+ghost use Rattle.dg_language.specs.State.{assigned};
+ghost use Rattle.dg_language.specs.Expecting.{group_text, out_name, with_groups};
+
+use dg_bytes::Bytes;
+use dg_language::State;
+use dg_match::Span;
+use std::alloc::{AllocError, Global};
+
+/// The name of a variable of `expect_out`.
+fn out_name(alloc: Global, index: &[u8]) -> Result<Bytes, AllocError>
+    ensures { IfOk result (λ n. n ≡ out_name index.now) }
+{
+    let mut behind = Bytes::from_slice(alloc, index)?;
+    behind.extend(b")")?;
+    let mut bracketed = Bytes::from_slice(alloc, b"(")?;
+    bracketed.extend(behind.as_slice())?;
+    let mut name = Bytes::from_slice(alloc, b"expect_out")?;
+    name.extend(bracketed.as_slice())?;
+    Ok(name)
+}
+
+/// Writes a variable of `expect_out`.
+pub fn write_out(
+    alloc: Global,
+    state: &mut State,
+    index: &[u8],
+    value: Bytes,
+) -> Result<(), AllocError>
+    requires { length value ≤ value_limit }
+    ensures { OnOk result (state.new ≡ assigned (out_name index.now) value state.old) }
+{
+    let name = out_name(alloc, index)?;
+    state.assign(alloc, name.as_slice(), value)
+}
+
+/// The index under which the text of a group is written.
+fn group_index(alloc: Global, n: u32) -> Result<Bytes, AllocError>
+    ensures { IfOk result (λ b. b ≡ decimal n ++ codes ",string") }
+{
+    let mut index = Bytes::from_vec(n.to_string(alloc)?.into_bytes());
+    index.extend(b",string")?;
+    Ok(index)
+}
+
+/// The text of a group; one that took no part has none.
+pub(crate) fn group_text<'a>(bytes: &'a [u8], group: &Option<Span>) -> &'a [u8]
+    requires { IfSome group.now (LiesBetween 0 (length bytes.now)) }
+    ensures text { result.now ≡ group_text bytes.now group.now }
+    ensures shorter { length result.now ≤ length bytes.now }
+{
+    match group {
+        Some(span) => &bytes[span.start..span.end],
+        None => &[],
+    }
+}
+
+/// Writes the texts of the first nine groups of a match in these bytes.
+pub fn write_groups(
+    alloc: Global,
+    state: &mut State,
+    bytes: &[u8],
+    groups: &[Option<Span>],
+) -> Result<(), AllocError>
+    requires short { length bytes.now ≤ value_limit }
+    requires within { All (λ g. IfSome g (LiesBetween 0 (length bytes.now))) groups.now }
+    ensures { OnOk result (state.new ≡ with_groups 9 1 bytes.now groups.now state.old) }
+{
+    for n in 0..9 {
+        if n >= groups.len() {
+            return Ok(());
+        }
+        let text = Bytes::from_slice(alloc, group_text(bytes, &groups[n]))?;
+        let index = group_index(alloc, n as u32 + 1)?;
+        write_out(alloc, state, index.as_slice(), text)?;
+    }
+    Ok(())
+}

@@ -1,0 +1,183 @@
+//! Procedures: their parameters, and what calls bind them to.
+ghost use Rattle.std.specs.Prelude.{◌≡◌, ◌+◌, ◌*◌, ◌^◌, ◌<◌, ◌∷◌, ◌++◌, [], IfOk, OnOk, MatchOption, Some, None, nat_lt, length};
+ghost use Rattle.dg_language.specs.Procedures.{has_colons, name_fault, named, parameter_of, parameters, parameters_of, binding, bindings, collects, value_for, longest};
+
+use crate::arguments::split;
+use crate::values::{about_quoted, elements_in, text_of};
+use dg_bytes::{Bytes, Seq, TryCopy};
+use dg_language::{Binding, Parameter};
+use dg_scope::{LONGEST_VALUE, base_of, has_index};
+use std::alloc::{AllocError, Global};
+
+/// Whether a name has `::` in it.
+fn has_colons(name: &[u8]) -> bool
+    ensures { result ≡ has_colons name.now }
+{
+    let mut left = name;
+    'bytes: while let [first, others @ ..] = left {
+        if *first == b':' && matches!(others, [b':', ..]) {
+            return true;
+        }
+        left = others;
+    }
+    false
+}
+
+/// Why a name can't be a parameter's.
+fn name_fault(alloc: Global, name: &[u8]) -> Result<Option<Bytes>, AllocError>
+    ensures { IfOk result (λ f. f ≡ name_fault name.now) }
+{
+    if name.is_empty() {
+        return Ok(Some(Bytes::from_slice(alloc, b"argument with no name")?));
+    }
+    if has_colons(base_of(name)) {
+        let message = about_quoted(alloc, b"formal parameter ", name, b" is not a simple name")?;
+        return Ok(Some(message));
+    }
+    if has_index(name) {
+        let message = about_quoted(alloc, b"formal parameter ", name, b" is an array element")?;
+        return Ok(Some(message));
+    }
+    Ok(None)
+}
+
+/// A parameter of this name, or why there is none.
+fn named(
+    alloc: Global,
+    name: &Bytes,
+    default: Option<Bytes>,
+) -> Result<Result<Parameter, Bytes>, AllocError>
+    ensures { IfOk result (λ r. r ≡ named name.now default (name_fault name.now)) }
+{
+    if let Some(message) = name_fault(alloc, name.as_slice())? {
+        return Ok(Err(message));
+    }
+    Ok(Ok(Parameter {
+        name: name.copy(alloc)?,
+        default,
+    }))
+}
+
+/// A parameter of these fields, or why there is none.
+fn parameter_of(
+    alloc: Global,
+    text: &[u8],
+    fields: &[Bytes],
+) -> Result<Result<Parameter, Bytes>, AllocError>
+    ensures { IfOk result (λ r. r ≡ parameter_of text.now fields.now) }
+{
+    match fields {
+        [] => Ok(Err(Bytes::from_slice(alloc, b"argument with no name")?)),
+        [name] => Ok(named(alloc, name, None)?),
+        [name, default] => Ok(named(alloc, name, Some(default.copy(alloc)?))?),
+        _ => {
+            let message = about_quoted(
+                alloc,
+                b"too many fields in argument specifier ",
+                text,
+                b"",
+            )?;
+            Ok(Err(message))
+        }
+    }
+}
+
+/// The parameters of these texts, or why the first bad one is none.
+fn parameters(alloc: Global, texts: &[Bytes]) -> Result<Result<Seq<Parameter>, Bytes>, AllocError>
+    ensures { IfOk result (λ r. r ≡ parameters texts.now) }
+{
+    let mut made = Seq::new(alloc);
+    for text in texts {
+        let fields = match elements_in(alloc, text.as_slice())? {
+            Ok(fields) => fields,
+            Err(message) => return Ok(Err(message)),
+        };
+        match parameter_of(alloc, text.as_slice(), fields.as_slice())? {
+            Ok(parameter) => made.push(parameter)?,
+            Err(message) => return Ok(Err(message)),
+        }
+    }
+    Ok(Ok(made))
+}
+
+/// The parameters that a list names, or why one is none.
+#[tactic(auto, unfolding(dg_language::specs::Procedures::parameters_of))]
+pub fn parameters_of(
+    alloc: Global,
+    text: &[u8],
+) -> Result<Result<Seq<Parameter>, Bytes>, AllocError>
+    ensures { IfOk result (λ r. r ≡ parameters_of text.now) }
+{
+    match elements_in(alloc, text)? {
+        Ok(texts) => Ok(parameters(alloc, texts.as_slice())?),
+        Err(message) => Ok(Err(message)),
+    }
+}
+
+/// What a call's arguments are bound to; none if their count is wrong.
+pub fn bindings(
+    alloc: Global,
+    parameters: &[Parameter],
+    args: &[Bytes],
+) -> Result<Option<Seq<Binding>>, AllocError>
+    ensures { IfOk result (λ b. b ≡ bindings parameters.now args.now) }
+{
+    let mut made = Seq::new(alloc);
+    let mut left = parameters;
+    let mut args = args;
+    'parameters: while let Some((parameter, others)) = split(left) {
+        if collects(parameter, others) {
+            made.push(bind(alloc, &parameter.name, text_of(alloc, args)?)?)?;
+            return Ok(Some(made));
+        }
+        let Some((value, more)) = value_for(parameter, args) else {
+            return Ok(None);
+        };
+        made.push(bind(alloc, &parameter.name, value.copy(alloc)?)?)?;
+        left = others;
+        args = more;
+    }
+    if !args.is_empty() {
+        return Ok(None);
+    }
+    Ok(Some(made))
+}
+
+/// Whether a parameter, the last one, takes all arguments that are left.
+fn collects(parameter: &Parameter, others: &[Parameter]) -> bool
+    ensures { result ≡ collects parameter.now others.now }
+{
+    others.is_empty() && parameter.name.as_slice() == b"args".as_slice()
+}
+
+/// The value of a parameter, by the next argument or else by default, and the arguments behind it.
+fn value_for<'a>(parameter: &'a Parameter, args: &'a [Bytes]) -> Option<(&'a Bytes, &'a [Bytes])>
+    ensures { MatchOption result (value_for parameter.now args.now ≡ None) (λ p. value_for parameter.now args.now ≡ Some (p.0.now, p.1.now)) }
+{
+    match args {
+        [value, more @ ..] => Some((value, more)),
+        [] => match &parameter.default {
+            Some(value) => Some((value, args)),
+            None => None,
+        },
+    }
+}
+
+/// A name and its value.
+fn bind(alloc: Global, name: &Bytes, value: Bytes) -> Result<Binding, AllocError>
+    ensures { IfOk result (λ b. b ≡ binding name.now value) }
+{
+    Ok(Binding {
+        name: name.copy(alloc)?,
+        value,
+    })
+}
+
+/// Whether a value is longer than a value may be.
+pub fn is_too_long(bindings: &[Binding]) -> bool
+    ensures { result ≡ nat_lt 1048576 (longest bindings.now) }
+{
+    bindings
+        .iter()
+        .any(|binding| binding.value.len() > LONGEST_VALUE)
+}

@@ -1,5 +1,0 @@
-use Rattle.dg_grafting.proofs.Judging.{open_board-grafted}
-use Rattle.dg_grafting.proofs.law.the_judging_is_grafted.Goals as goal
-
-pub returns : goal.returns
-returns c = open_board-grafted

@@ -1,2 +1,0 @@
-pub mod Grafting
-pub mod Law

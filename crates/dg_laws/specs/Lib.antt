@@ -1,0 +1,4 @@
+pub mod Grafting
+pub mod Law
+pub mod Replays
+pub mod Awaiting

@@ -1,0 +1,23 @@
+//! The laws on continuations.
+ghost use Rattle.dg_laws.specs.Law.{EachTextIsGrafted, TheJudgingIsGrafted, EachTextComesToAnOutcome, NoPeekIsGrafted};
+
+/// The tree of each text under a continuation is the tree of the text alone, with the continuation grafted on its ends.
+pub fn each_text_is_grafted()
+    ensures { EachTextIsGrafted }
+{}
+
+/// So is the tree of a whole judging: of the board's file, the tool's library and the script.
+pub fn the_judging_is_grafted()
+    ensures { TheJudgingIsGrafted }
+{}
+
+/// In each source a text comes to a code, a value and a state, to a limit, or to a question without an answer, and which
+/// it is does not hang on what comes after.
+pub fn each_text_comes_to_an_outcome()
+    ensures { EachTextComesToAnOutcome }
+{}
+
+/// An evaluation that looks at what comes after it is not grafted.
+pub fn no_peek_is_grafted()
+    ensures { NoPeekIsGrafted }
+{}

@@ -1,0 +1,5 @@
+pub mod Options
+pub mod Words
+pub mod Values
+pub mod Plan
+pub mod Select

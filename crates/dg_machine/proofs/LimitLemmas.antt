@@ -1,0 +1,177 @@
+-- The words and the limit of `expect`.
+use Rattle.std.proofs.Common.{◌≡◌, ℕ, ◌+◌, ◌^◌, ◌<◌, ◌≤◌, ◌⊎◌, inl, inr, List, [], ◌∷◌, length, refl, ap, sym, ◌∙◌, arith}
+use Rattle.std.specs.Prelude.{ℤ, Option, option_map, Some, None, Ok, Err, codes}
+use Rattle.dg_words.specs.Faults.{fault_text}
+use Rattle.dg_words.specs.Reading.{words_of}
+use Rattle.dg_words.specs.declared.fault.WordFault.{WordFault}
+use Rattle.dg_words.specs.declared.word.Word.{Word}
+use Rattle.dg_expr.specs.Number.{number_of}
+use Rattle.dg_scope.specs.Scopes.{value_of}
+use Rattle.dg_sessions.specs.Phases.{is_open}
+use Rattle.dg_language.specs.declared.ask.Ask.{Ask}
+use Rattle.dg_language.specs.declared.expect.Expectation.{Expectation}
+use Rattle.dg_language.specs.declared.expect.Pair.{Pair}
+use Rattle.dg_language.specs.declared.substitution.Purpose.TheVariants.{Expect}
+use Rattle.dg_language.specs.Play.{Play, Asks}
+use Rattle.dg_language.specs.State.{State, learn, with_begun}
+use Rattle.dg_language.specs.Evaluation.{Ending, Then, Nested, fail}
+use Rattle.dg_language.specs.Variables.{touch}
+use Rattle.dg_language.specs.Sessions.{on_session, on_words, seek, sought}
+use Rattle.dg_language.specs.ExpectWords.{expect_words, listed}
+use Rattle.dg_language.specs.Expecting.{do_expect, expect_args, expect_list, expect_with, milliseconds, or_ten, with_limit, with_number}
+use Rattle.dg_language.specs.Language.{evaluate}
+use Rattle.dg_language.specs.Words.{gather, substitutions}
+use Rattle.dg_machine.specs.declared.frame.Frame.{Frame}
+use Rattle.dg_machine.specs.declared.frame.Frame.TheVariants.{Gathering}
+use Rattle.dg_machine.specs.declared.frame.Control.TheVariants.{Go}
+use Rattle.dg_machine.specs.declared.frame.Limiting.{Limiting}
+use Rattle.dg_machine.specs.declared.frame.Making.{Making}
+use Rattle.dg_machine.specs.declared.frame.Closing.{Closing}
+use Rattle.dg_machine.specs.declared.frame.Fit.TheVariants.{Open}
+use Rattle.dg_machine.specs.declared.frame.Pace.{Pace}
+use Rattle.dg_machine.specs.declared.frame.Pace.TheVariants.{Moved, Stands, Over, Lost}
+use Rattle.dg_machine.specs.declared.frame.Sought.TheVariants.{Session, Instead}
+use Rattle.dg_machine.specs.Seeking.{Seeks}
+use Rattle.dg_machine.specs.declared.machine.Machine.{Machine}
+use Rattle.dg_machine.specs.Acting.{compiled_with, limiting}
+use Rattle.dg_machine.specs.Meaning.{all_back, budget, ends_with, rest, stack_weight, weight, weight_of, Comes, Goes, Readies}
+use Rattle.dg_machine.proofs.GatherLemmas.{weight-same}
+use Rattle.dg_machine.proofs.LoopLemmas.{Goes-on}
+
+-- what goes on once a variable is ready is what comes
+pub ready-comes : (n : List ℕ) (f : State → Then → Play Ending) (w : ℕ) (old mid new : Machine) (p : Pace) → Readies n old mid None
+    → Goes (f mid.state (all_back mid.stack)) mid.state.known (weight_of mid + w) new p
+    → Comes (touch n old.state (λ t. f t (all_back old.stack))) old.state.known (weight_of old + w) new p
+ready-comes n f w old mid new p h g =
+    let stack = ap (λ (m : Machine). m.stack) h.1 in
+    let control = ap (λ (m : Machine). m.control) h.1 in
+    let state : mid.state ≡ with_begun old.state mid.state = ap (λ (m : Machine). m.state) h.1 in
+    let same : weight_of mid ≡ weight_of old = weight-same mid.control old.control mid.state old.state mid.stack old.stack control state stack in
+    let enough : weight_of mid + w ≤ weight_of old + w = omega arith in
+    Goes-on p (f mid.state (all_back mid.stack)) (touch n old.state (λ t. f t (all_back old.stack))) mid.state.known old.state.known
+    (weight_of mid + w) (weight_of old + w) new g
+    (h.0 (λ t. f t (all_back old.stack)) ∙ ap (λ (fs : List Frame). f mid.state (all_back fs)) (sym stack))
+    (ap (λ (m : Machine). m.state.known) h.1) enough
+
+-- ---- the limit
+
+-- what comes next, where the limit is this text
+abbrev pub limited_by : Limiting → List ℕ → State → Then → Play Ending
+limited_by l text s k = with_number text (number_of text) s k (λ limit. compiled_with l limit s k)
+
+pub limit-known : (text : List ℕ) (o : Option ℤ) (s : State) (k : Then) (f : ℕ → Play Ending) (limit : ℕ) → Some limit ≡ option_map milliseconds o
+    → with_number text o s k f ≡ f limit
+limit-known text None s k f limit e = cc
+limit-known text (Some z) s k f limit e = let same : limit ≡ milliseconds z = cc in rw same refl
+
+module _ (l : Limiting) where
+  pub limited : (text : List ℕ) (s : State) (k : Then) → l.timeout ≡ Some text → limiting l s k ≡ limited_by l text s k
+  unfolding with_limit
+  limited text s k e = ap (λ o. with_limit o s k (λ limit t. compiled_with l limit t k)) e
+
+  pub unlimited : (s : State) (k : Then) → l.timeout ≡ None
+      → limiting l s k
+      ≡ touch (sought (codes "timeout") s) s (λ t. limited_by l (or_ten (value_of t.variables (sought (codes "timeout") s))) t k)
+  unfolding with_limit seek
+  unlimited s k e = ap (λ o. with_limit o s k (λ limit t. compiled_with l limit t k)) e
+
+  pub limit-asks : (q : Ask) (s : State) (k : Then) → l.timeout ≡ None
+      → ((f : State → Play Ending) → touch (sought (codes "timeout") s) s f ≡ Asks q (λ a. touch (sought (codes "timeout") s) (learn q.question a s) f))
+      → limiting l s k ≡ Asks q (λ a. limiting l (learn q.question a s) k)
+  unfolding learn
+  limit-asks q s k e h =
+      unlimited s k e ∙ h (λ t. limited_by l (or_ten (value_of t.variables (sought (codes "timeout") s))) t k)
+      ∙ ap (Asks q) (λ i a. sym (unlimited (learn q.question a s) k e) i)
+
+-- ---- the words
+
+-- an `expect` whose words are read
+abbrev pub of_words : Expectation → ℕ → ℕ → Limiting
+of_words e session depth = record { timeout = e.timeout; session = session; pairs = e.pairs; depth = depth }
+
+module _ (words : List (List ℕ)) (d : ℕ) (s : State) (k : Then) where
+  pub expects : (e : Expectation) → Ok e ≡ expect_words None None words
+      → expect_with (evaluate d) words s k ≡ on_session is_open e.id s k (λ n t. limiting (of_words e n d) t k)
+  unfolding expect_with
+  expects e h =
+      ap
+      (λ r. on_words r s k (λ x. on_session is_open x.id s k (λ n t. limiting (of_words x n d) t k)))
+      (sym h)
+
+  pub expects-not : (why : List ℕ) → Err why ≡ expect_words None None words → expect_with (evaluate d) words s k ≡ fail why s k
+  unfolding expect_with
+  expects-not why h =
+      ap
+      (λ r. on_words r s k (λ x. on_session is_open x.id s k (λ n t. limiting (of_words x n d) t k)))
+      (sym h)
+
+-- the same from its parts
+abbrev pub whole : Option (List ℕ) × Option (List ℕ) × List Pair → Expectation
+whole p = record { timeout = p.0; id = p.1; pairs = p.2 }
+
+pub read-parts : (words : List (List ℕ)) (p : Option (List ℕ) × Option (List ℕ) × List Pair) (e : Expectation) → p ≡ (e.timeout, e.id, e.pairs)
+    → Ok e ≡ expect_words None None words → Ok (whole p) ≡ expect_words None None words
+read-parts words p e h r = ap (λ (q : Option (List ℕ) × Option (List ℕ) × List Pair). Ok (whole q)) h ∙ r
+
+-- the session is found, a question stands, or something comes instead
+module _ (words : List (List ℕ)) (d : ℕ) (e : Expectation) (read : Ok e ≡ expect_words None None words) (old mid : Machine) where
+  -- what is done with the session
+  abbrev pub with_session : ℕ → State → Then → Play Ending
+  with_session n t k = limiting (of_words e n d) t k
+
+  pub session-found : (n : ℕ) → Seeks Open e.id old mid (Session n)
+      → limiting (of_words e n d) mid.state (all_back mid.stack) ≡ expect_with (evaluate d) words old.state (all_back old.stack)
+  session-found n h =
+      ap (λ (fs : List Frame). limiting (of_words e n d) mid.state (all_back fs)) (ap (λ (m : Machine). m.stack) h.1)
+      ∙ sym (h.0 (all_back old.stack) (λ m t. limiting (of_words e m d) t (all_back old.stack)))
+      ∙ sym (expects words d old.state (all_back old.stack) e read)
+
+  pub weight-found : (n : ℕ) → Seeks Open e.id old mid (Session n) → weight_of mid ≡ weight_of old
+  weight-found n h =
+      weight-same mid.control old.control mid.state old.state mid.stack old.stack
+      (ap (λ (m : Machine). m.control) h.1) (ap (λ (m : Machine). m.state) h.1) (ap (λ (m : Machine). m.stack) h.1)
+
+  pub session-asks : (q : Ask) → Seeks Open e.id old mid (Instead (Stands q))
+      → expect_with (evaluate d) words old.state (all_back old.stack)
+      ≡ Asks q (λ a. expect_with (evaluate d) words (learn q.question a mid.state) (all_back mid.stack))
+  session-asks q h =
+      let asks = h with_session in
+      let stack = ap (λ (m : Machine). m.stack) asks.1 in
+      expects words d old.state (all_back old.stack) e read
+      ∙ asks.0
+      ∙ ap (Asks q)
+      (λ i a.
+      (sym (expects words d (learn q.question a mid.state) (all_back old.stack) e read)
+      ∙ ap (λ (fs : List Frame). expect_with (evaluate d) words (learn q.question a mid.state) (all_back fs)) (sym stack)) i)
+
+  pub session-over : (c : Closing) → Seeks Open e.id old mid (Instead (Over c)) → expect_with (evaluate d) words old.state (all_back old.stack) ≡ ends_with c mid.state
+  session-over c h = expects words d old.state (all_back old.stack) e read ∙ (h with_session).0
+
+  pub session-moves : Seeks Open e.id old mid (Instead Moved) → rest mid ≡ expect_with (evaluate d) words old.state (all_back old.stack)
+  session-moves h = (h with_session).0 ∙ sym (expects words d old.state (all_back old.stack) e read)
+
+-- of two facts the one that is left
+pub the-other : {A B : Type 0} → A ⊎ B → (A → ⊥) → B
+the-other (inl a) n = absurd (n a)
+the-other (inr b) n = b
+
+module _ (nested : Nested) (args : List (List ℕ)) (s : State) (k : Then) where
+  pub expect-given : None ≡ listed args → do_expect nested args s k ≡ expect_with nested args s k
+  unfolding do_expect
+  expect-given e = ap (λ o. expect_args nested o args s k) (sym e)
+
+  pub expect-listed : (text : List ℕ) (ws : List Word) → Some text ≡ listed args → words_of text ≡ Ok ws
+      → do_expect nested args s k ≡ gather nested (expect_with nested) [] [] [] (substitutions ws) s k
+  unfolding do_expect
+  expect-listed text ws e h = ap (λ o. expect_args nested o args s k) (sym e) ∙ ap (λ r. expect_list nested r s k) h
+
+  pub expect-unreadable : (text : List ℕ) (fault : WordFault) → Some text ≡ listed args → words_of text ≡ Err fault
+      → do_expect nested args s k ≡ fail (fault_text fault) s k
+  unfolding do_expect
+  expect-unreadable text fault e h = ap (λ o. expect_args nested o args s k) (sym e) ∙ ap (λ r. expect_list nested r s k) h
+
+-- the frame that makes the words of `expect`
+pub weight-expecting : (s : State) (m : Making) (d : ℕ) (fs : List Frame) → m.purpose ≡ Expect → length m.left < 2 ^ 64
+    → weight Go s (Gathering m d ∷ fs) < weight Go s fs + 2 ^ 249
+unfolding weight stack_weight budget
+weight-expecting s m d fs e l = let b : budget m.purpose ≡ 2 ^ 200 = ap budget e in omega arith

@@ -1,0 +1,17 @@
+use Rattle.std.proofs.Common.{◌<◌, ◌≤◌, ◌∙◌, refl, sym, ap, subst, length, arith}
+use Rattle.dg_machine.specs.Meaning.{rest, go}
+use Rattle.dg_language.proofs.TouchLemmas.{within-short, within-long}
+use Rattle.dg_machine.proofs.LoopLemmas.{weight-assigned, known-assigned}
+use Rattle.dg_machine.proofs.machine.Machine.give_part.Goals as goal
+
+pub returns-then-len-gt-LONGEST_VALUE : goal.returns-then-len-gt-LONGEST_VALUE
+returns-then-len-gt-LONGEST_VALUE c =
+    let count = c.len.ensures ∙ ap length c.take_first-value.ensures.first in
+    rw c.cut.ensures.same (within-long _ _ _ (subst (λ n. 1048576 < n) count c.if-len-gt-LONGEST_VALUE.true) ∙ c.in_ok-closing.ensures.ends, refl)
+
+pub returns : goal.returns
+unfolding rest go
+returns c =
+    let count = c.len.ensures ∙ ap length c.take_first-value.ensures.first in
+    rw (c.in_ok-push.ensures, c.in_ok-assign.ensures, c.take_first-value.ensures.first, c.take_first-value.ensures.others, c.requires)
+    (sym (within-short _ _ _ (subst (λ n. n ≤ 1048576) count c.if-len-gt-LONGEST_VALUE.false)), known-assigned _ _ _, (rw weight-assigned (omega arith)))

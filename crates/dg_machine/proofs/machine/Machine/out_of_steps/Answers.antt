@@ -1,0 +1,12 @@
+use Rattle.std.proofs.Common.{ap, ◌∙◌, ◌++◌}
+use Rattle.std.specs.Prelude.{codes}
+use Rattle.dg_results.specs.Lines.{lines_of, abort_lines}
+use Rattle.dg_machine.proofs.MachineLemmas.{steps-end}
+use Rattle.dg_machine.proofs.machine.Machine.out_of_steps.Goals as goal
+
+pub returns-clause-ends : goal.returns-clause-ends
+returns-clause-ends c =
+    let s = c.args.self.now.state in
+    let name = c.as_slice-name.ensures.bytes ∙ c.script.ensures ∙ ap (λ t. t.script) c.test.ensures in
+    let lines = c.in_ok-verdict.ensures s.calls c.in_ok-judging.ensures in
+    steps-end s _ (lines ∙ ap (λ n. lines_of s.calls ++ abort_lines n (codes "step limit reached")) name)

@@ -1,0 +1,3 @@
+pub mod Pumping
+pub mod Prefixes
+pub mod Places

@@ -1,0 +1,78 @@
+//! What the judging thread takes from a ring.
+ghost use Rattle.std.specs.Prelude.{◌≡◌, ◌≤◌, ◌++◌, [], ◌∷◌, IfSome, IfNone};
+ghost use Rattle.rtrb.specs.Ring.{received, SameConsumer};
+ghost use Rattle.dg_pipes.specs.Items.{IsAllowed};
+
+use crate::bells::Bells;
+use crate::item::{Item, Rule};
+use rtrb::Consumer;
+use std::alloc::Global;
+use std::sync::Wait;
+use std::time::{Clock, Duration, Instant};
+
+/// The longest sleep in milliseconds.
+const TICK: u32 = 5;
+/// With so few items left in the ring the reader thread is woken.
+const FEW: usize = 32;
+
+/// What was slept beyond whole milliseconds, in microseconds.
+#[derive(Clone, Copy, Default, Drop)]
+pub struct Rest {
+    micros: u32,
+}
+
+impl Rest {
+    // Sleeps until something came, for a tick at most. The milliseconds that passed, with what was
+    // left over before, or those of the limit that are left.
+    fn sleep(&mut self, rt: &(impl Wait + Clock), bells: &Bells, left: u32) -> u32
+        ensures { result ≤ left }
+    {
+        let tick = TICK.min(left);
+        let start = Instant::now(rt);
+        bells
+            .came
+            .park_timeout(rt, Duration::from_millis(u64::from(tick)));
+        let Ok(Ok(slept)) = start.map(|s| s.elapsed(rt)) else {
+            return tick;
+        };
+        let micros = slept.as_micros().saturating_add(u128::from(self.micros));
+        let millis = micros / 1000;
+        if millis >= u128::from(left) {
+            self.micros = 0;
+            return left;
+        }
+        self.micros = (micros % 1000) as u32;
+        millis as u32
+    }
+}
+
+/// The next item, as soon as it is there, within a limit in milliseconds, and how many of them
+/// passed. The sleep is in ticks of 5 ms, the last one shorter, each of which the reader thread cuts
+/// short: what passed is counted, a tick that lasted longer too, and not what might have.
+pub fn take(
+    rt: &(impl Wait + Clock),
+    ring: &mut Consumer<Item, Global, Rule>,
+    bells: &Bells,
+    rest: &mut Rest,
+    limit: u32,
+) -> (u32, Option<Item>)
+    ensures ring { SameConsumer ring.old ring.new }
+    ensures waited { result.0 ≤ limit }
+    ensures some { IfSome result.1 (λ x. (received ring.new ≡ received ring.old ++ x ∷ []) × IsAllowed x) }
+    ensures none { IfNone result.1 ((received ring.new ≡ received ring.old) × (result.0 ≡ limit)) }
+{
+    let mut waited = 0;
+    for _ in rt.forever() {
+        if let Ok(item) = ring.pop() {
+            if ring.slots() <= FEW {
+                bells.room.unpark();
+            }
+            return (waited, Some(item));
+        }
+        if waited >= limit {
+            return (limit, None);
+        }
+        waited += rest.sleep(rt, bells, limit - waited);
+    }
+    unreachable!()
+}

@@ -1,0 +1,62 @@
+//! Reports: the boards with spaces between them, then for each test `BOARD SCRIPT CALL,CALL..`.
+use crate::calls::results::judged;
+use crate::calls::text::text;
+use dg_bytes::{Bytes, Seq};
+use dg_sum::{Judged, exit_status, sum_text};
+use dg_world::{Refusal, Selection, TestId};
+use std::alloc::{AllocError, Global};
+
+/// The parts of a text between bytes of a kind.
+fn parts(alloc: Global, text: &[u8], between: u8) -> Result<Vec<Bytes>, AllocError> {
+    let mut parts = Vec::new(alloc);
+    for part in text.split(|byte| *byte == between) {
+        parts.push(Bytes::from_slice(alloc, part)?)?;
+    }
+    Ok(parts)
+}
+
+/// The test that a field tells of, if it is one.
+fn test(alloc: Global, field: &[u8]) -> Result<Option<Judged>, AllocError> {
+    let words = parts(alloc, field, b' ')?;
+    let [board, script, calls] = words.as_slice() else {
+        return Ok(None);
+    };
+    let calls = parts(alloc, calls.as_slice(), b',')?;
+    match TestId::new(alloc, board.as_slice(), script.as_slice()) {
+        Ok(test) => Ok(Some(Judged {
+            test,
+            verdict: judged(alloc, calls.as_slice())?,
+        })),
+        Err(Refusal::Memory) => Err(AllocError),
+        Err(_) => Ok(None),
+    }
+}
+
+/// The selection of a new world, on these boards.
+fn selection(alloc: Global, boards: &[u8]) -> Result<Selection, AllocError> {
+    let mut selection = Selection::of_new_world(alloc)?;
+    selection.boards = Seq::from_vec(parts(alloc, boards, b' ')?);
+    Ok(selection)
+}
+
+/// The status and the bytes of a report.
+pub fn answer(alloc: Global, args: &[Bytes]) -> Result<Bytes, AllocError> {
+    let [boards, tests @ ..] = args else {
+        return text(alloc, b"no boards");
+    };
+    let selection = selection(alloc, boards.as_slice())?;
+    let mut all = Vec::new(alloc);
+    for field in tests {
+        match test(alloc, field.as_slice())? {
+            Some(test) => all.push(test)?,
+            None => return text(alloc, b"no test"),
+        }
+    }
+    let mut given = text(
+        alloc,
+        exit_status(all.as_slice()).to_string(alloc)?.as_bytes(),
+    )?;
+    given.push(b' ')?;
+    given.extend(sum_text(alloc, &selection, all.as_slice())?.as_slice())?;
+    Ok(given)
+}

@@ -1,0 +1,6 @@
+//! Readings that are kept beside the texts that they were read of.
+#![tactic(auto)]
+
+mod shelf;
+
+pub use crate::shelf::{Reading, Shelf};

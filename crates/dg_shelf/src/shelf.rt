@@ -1,0 +1,137 @@
+//! Readings by text.
+ghost use Rattle.std.specs.Prelude.{◌≡◌, IfOk, IfSome};
+ghost use Rattle.std.specs.Arc.{arc_value};
+
+use dg_bytes::{Bytes, Text};
+use std::alloc::{AllocError, Global};
+use std::marker::Model;
+use std::sync::Arc;
+
+/// What can be read of a text, and is the same whenever that text is read.
+pub trait Reading: Sized + Drop {
+    ghost use Rattle.std.specs.Prelude.{ℕ, List};
+
+    /// What is read of a text.
+    ghost read_of: { List ℕ → Self };
+
+    /// Reads a text, or has no memory.
+    fn read(alloc: Global, text: &[u8]) -> Result<Self, AllocError>
+        ensures { IfOk result (λ r. r ≡ read_of text.now) };
+}
+
+/// A text and what was read of it. A contract sees the text.
+#[derive(Drop)]
+struct Entry<T: Reading> {
+    text: Text,
+    reading: Arc<T>,
+}
+
+impl<T: Reading> Model for Entry<T> {
+    ghost use Rattle.std.specs.Prelude.{◌≡◌, ℕ, List};
+    ghost use Rattle.std.specs.Arc.{arc_value};
+
+    ghost Value = { List ℕ };
+
+    ghost view = { λ e. e.text };
+
+    ghost invariant = { λ e. arc_value e.reading ≡ T.read_of e.text };
+}
+
+impl<T: Reading> Entry<T> {
+    /// What was read of this text, if the entry is of it.
+    fn of(&self, text: &[u8]) -> Result<Option<Arc<T>>, AllocError>
+        ensures { IfOk result (λ o. IfSome o (λ r. arc_value r ≡ T.read_of text.now)) }
+    {
+        if self.text.as_slice() != text {
+            return Ok(None);
+        }
+        Ok(Some(Arc::try_clone(&self.reading)?))
+    }
+}
+
+/// Readings of texts that were read lately, at most one at each of a number of places. The places are
+/// made when the first text is read. A contract sees nothing of it: what is read of a text is the same
+/// whether it was kept or not.
+pub struct Shelf<T: Reading> {
+    places: Vec<Option<Entry<T>>>,
+    count: usize,
+    longest: usize,
+}
+
+impl<T: Reading> Drop for Shelf<T> {
+    fn drop(self) {
+        let Shelf {
+            places: _,
+            count: _,
+            longest: _,
+        } = self;
+    }
+}
+
+impl<T: Reading> Model for Shelf<T> {
+    ghost Value = { Unit {0} };
+
+    ghost view = { λ s. tt };
+}
+
+/// How many bytes of a text tell its place.
+const TOLD: usize = 64;
+
+/// Where the reading of a text is kept. Most texts that differ have places that differ.
+fn place_of(text: &[u8], places: usize) -> usize {
+    let mut sum = text.len() as u64;
+    for byte in text.iter().take(TOLD) {
+        sum = sum.wrapping_mul(0x0100_0000_01b3) ^ (*byte as u64);
+    }
+    if places == 0 {
+        0
+    } else {
+        (sum >> 7) as usize % places
+    }
+}
+
+impl<T: Reading> Shelf<T> {
+    /// No readings yet, for so many places, of texts of at most so many bytes.
+    pub fn new(alloc: Global, count: usize, longest: usize) -> Shelf<T> {
+        Shelf {
+            places: Vec::new(alloc),
+            count,
+            longest,
+        }
+    }
+
+    /// What is read of a text. It is read only where it isn't kept.
+    pub fn reading(&mut self, alloc: Global, text: &Bytes) -> Result<Arc<T>, AllocError>
+        ensures { IfOk result (λ r. arc_value r ≡ T.read_of text.now) }
+    {
+        let place = place_of(text.as_slice(), self.places.len());
+        if let Some(Some(entry)) = self.places.get(place) {
+            if let Some(reading) = entry.of(text.as_slice())? {
+                return Ok(reading);
+            }
+        }
+        let reading = Arc::new(alloc, T::read(alloc, text.as_slice())?)?;
+        if text.len() <= self.longest {
+            let entry = Entry {
+                text: text.to_text(alloc)?,
+                reading: Arc::try_clone(&reading)?,
+            };
+            self.keep(entry)?;
+        }
+        Ok(reading)
+    }
+
+    /// Keeps a reading in the place of its text.
+    fn keep(&mut self, entry: Entry<T>) -> Result<(), AllocError> {
+        if self.places.is_empty() {
+            for _ in 0..self.count {
+                self.places.push(None)?;
+            }
+        }
+        let place = place_of(entry.text.as_slice(), self.places.len());
+        if let Some(slot) = self.places.get_mut(place) {
+            *slot = Some(entry);
+        }
+        Ok(())
+    }
+}

@@ -1,6 +1,0 @@
-//! Edits and their limits, answers, tests, and copies.
-mod copies;
-mod edits;
-mod names;
-mod scripts;
-mod selections;

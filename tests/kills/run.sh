@@ -1,0 +1,137 @@
+#!/bin/sh
+# Kills runs of the program at random moments: tests/kills/run.sh [COUNT [SEED]], 100 kills if unsaid. The program has to be
+# built (make), or named by RUNTEST. SCRIPTS are the names of the scripts, SIZE is how many lines half of their children write.
+#
+# After each kill every file of the run's folder has to be whole, of the run before or of this one; no child may be left; and the
+# next run has to work, and to leave just the files that an undisturbed run leaves. Half of the moments are near the time in which files are written.
+set -e
+top=$(cd "$(dirname "$0")/../.." && pwd)
+runtest=${RUNTEST:-$top/crates/runtest/out/runtest}
+count=${1:-100}
+seed=${2:-$(date +%s)}
+scripts=${SCRIPTS:-01 02 03 04 05 06}
+work=$(mktemp -d)
+trap 'rm -rf "$work"' EXIT
+trap 'exit 1' INT TERM
+# The children run under a name that nothing else has.
+cp "$(command -v cat)" "$work/cat"
+awk -v size="${SIZE:-2000}" 'BEGIN { for (i = 1; i <= size; i++) print "line " i }' > "$work/lines"
+
+# suite VERSION: two children a script, of which one is left open.
+suite() {
+    mkdir -p "$work/$1/lib" "$work/$1/kill.all"
+    cat > "$work/$1/lib/kill.exp" << 'EOF'
+proc talk {rounds mark} {
+    global CAT
+    spawn $CAT
+    for {set i 0} {$i < $rounds} {incr i} {
+        send "$mark $i\n"
+        expect "$mark $i\n" {} default {fail "$mark $i"; return}
+    }
+    pass "$mark, $rounds rounds"
+}
+proc flood {mark} {
+    global CAT LINES
+    spawn $CAT $LINES
+    expect eof {pass "$mark, all read"} timeout {fail "$mark, all read"}
+    wait
+}
+EOF
+    for script in $scripts; do
+        printf 'talk 10 "%s of %s"\nflood "%s of %s"\n' "$script" "$1" "$script" "$1" > "$work/$1/kill.all/$script.exp"
+    done
+}
+
+# run VERSION FOLDER: in the place of the shell that calls it.
+run() {
+    exec "$runtest" --tool kill --srcdir "$work/$1" --outdir "$2" "CAT=$work/cat" "LINES=$work/lines" > "$work/said" 2>&1
+}
+
+# run_whole VERSION FOLDER: how long it takes, and how long until it writes the first file.
+run_whole() {
+    begun=$(date +%s%N)
+    (run "$1" "$2") || return 1
+    all=$(($(date +%s%N) - begun))
+    judged=$(($(date -r "$2/transcripts/unix/kill.all/${scripts%% *}.exp.tr" +%s%N) - begun))
+}
+
+# shape FILE: a number for what it says but for its times and where the chunks were cut.
+shape() {
+    case $1 in
+        *.tr) awk '$1 == "chunk" { bytes = bytes $3; next }
+                   { if (bytes != "") print "bytes", bytes; bytes = "" }
+                   $1 == "end" { print "end"; next }
+                   { print }' "$1" | cksum ;;
+        *) cksum < "$1" ;;
+    esac
+}
+
+# shapes FOLDER: a line for each of its files, in order.
+shapes() {
+    (cd "$1" && find . -type f | LC_ALL=C sort | while read -r file; do echo "$file $(shape "$file")"; done)
+}
+
+children() {
+    ps -A -o args= | grep -c "^$work/cat" || true
+}
+
+fault() {
+    echo "kill $turn (seed $seed): $1"
+    cp -r "$work/out" "${TMPDIR:-/tmp}/kills-left.$$" && echo "the folder: ${TMPDIR:-/tmp}/kills-left.$$"
+    exit 1
+}
+
+# No child is left, a second after the runner's death at most.
+childless() {
+    for _ in 1 2 3 4 5 6 7 8 9 10; do
+        [ "$(children)" -eq 0 ] && return
+        sleep 0.1
+    done
+    fault "$(children) children are left"
+}
+
+# Each file is whole: its line is one of the two versions'. One that was being written stands beside its place.
+whole() {
+    shapes "$work/out" > "$work/now"
+    grep -v '\.new ' "$work/now" | while read -r line; do
+        grep -qxF "$line" "$work/1.shapes" "$work/2.shapes" || echo "$line"
+    done > "$work/torn"
+    [ ! -s "$work/torn" ] || fault "torn: $(cat "$work/torn")"
+    if cmp -s "$work/now" "$work/$old.shapes"; then
+        unchanged=$((unchanged + 1))
+    else
+        changed=$((changed + 1))
+    fi
+}
+
+turn=0
+unchanged=0
+changed=0
+late=0
+for version in 1 2; do
+    suite $version
+    run_whole $version "$work/$version.out" || { cat "$work/said"; exit 1; }
+    shapes "$work/$version.out" > "$work/$version.shapes"
+done
+echo "a run takes $((all / 1000000)) ms, of which it writes files for $(((all - judged) / 1000000)) ms; seed $seed"
+cp -r "$work/1.out" "$work/out"
+new=1
+while [ "$turn" -lt "$count" ]; do
+    turn=$((turn + 1))
+    old=$new
+    new=$((3 - old))
+    moment=$(awk -v seed="$seed" -v turn="$turn" -v all="$all" -v judged="$judged" \
+        'BEGIN { srand(seed * 1000 + turn); writes = all - judged; from = turn % 2 ? 0 : judged - writes; to = turn % 2 ? all : judged + writes / 2; print (from + rand() * (to - from)) / 1e9 }')
+    (run $new "$work/out") &
+    runner=$!
+    sleep "$moment"
+    kill -9 $runner 2> /dev/null || true
+    status=0
+    wait $runner 2> /dev/null || status=$?
+    [ $status -ne 0 ] || late=$((late + 1))
+    childless
+    whole
+    run_whole $new "$work/out" || fault "the next run doesn't pass: $(cat "$work/said")"
+    shapes "$work/out" | cmp -s - "$work/$new.shapes" || fault "the next run left other files than an undisturbed one"
+done
+echo "$count kills: $unchanged before a file was written, $((changed - late)) after that, $late too late; nothing torn, no child left, each next run worked"
