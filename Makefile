@@ -19,11 +19,11 @@ demo: $(PROGRAM)
 
 # The merge gate: every proof from nothing, the edits that must fail, the tests and the program.
 check:
-	$(RT) ci
+	RT_JOBS=$${RT_JOBS:-$$(sh tests/gate/lanes.sh)} $(RT) ci
 
 # The merge gate, and docs/TIMES.md: the processor seconds of each crate's proof, tests and wrong bodies.
 times:
-	python3 tests/gate/times.py
+	RT_JOBS=$${RT_JOBS:-$$(sh tests/gate/lanes.sh)} python3 tests/gate/times.py
 
 # Times this program and its crates beside tclsh and Expect; all of these have to be on the path.
 bench: $(PROGRAM)

@@ -22,7 +22,11 @@ pub trait Intake {
 }
 
 /// The bytes of a file, at most `limit` of them.
-fn read_file<R: Files + AllocGlobal>(rt: &R, path: &str, limit: u64) -> io::Result<Bytes> {
+pub(crate) fn read_file<R: Files + AllocGlobal>(
+    rt: &R,
+    path: &str,
+    limit: u64,
+) -> io::Result<Bytes> {
     let mut bytes = Vec::new(rt.alloc());
     let file = fs::open(rt, path)?;
     file.take(limit).read_to_end(&mut bytes)?;

@@ -1,6 +1,7 @@
 //! Files that are there whole or as they were.
 use crate::fault::RunFault;
 use crate::paths::beside;
+use crate::suite::read_file;
 use std::path::Path;
 use std::rt::Files;
 use std::{fs, io};
@@ -28,12 +29,24 @@ pub fn write_in_place<R: Files + AllocGlobal>(
     }
 }
 
-/// Writes a transcript, and makes the folders that it stands in.
+/// Whether a file has just these bytes.
+fn has_bytes<R: Files + AllocGlobal>(rt: &R, path: &str, bytes: &[u8]) -> bool {
+    let most = (bytes.len() as u64).saturating_add(1);
+    match read_file(rt, path, most) {
+        Ok(found) => found.as_slice() == bytes,
+        Err(_) => false,
+    }
+}
+
+/// Writes a transcript, and makes the folders that it stands in. A file that has this text already is left as it is.
 pub fn write_transcript<R: Files + AllocGlobal>(
     rt: &R,
     path: &str,
     text: &[u8],
 ) -> Result<(), RunFault> {
+    if has_bytes(rt, path, text) {
+        return Ok(());
+    }
     if let Some(folder) = Path::new(path).parent() {
         if let Err(error) = fs::create_dir_all(rt, folder) {
             return Err(RunFault::of_write(rt.alloc(), path, &error));

@@ -8,9 +8,11 @@ mod drawing;
 mod entries;
 mod rows;
 mod runs;
+mod steps;
 
 use crate::drawing::try_drawn;
 use crate::rows::try_rows;
+use crate::steps::try_steps;
 use anyhow::Result;
 use std::io::{BufWriter, Write};
 use std::{env, fs, io};
@@ -35,6 +37,7 @@ fn try_files(rt: &HostRuntime, folder: &str) -> Result<()> {
     try_rows(alloc, &mut out, ROWS, rows.as_slice())?;
     let pieces = bytes_of(rt, folder, PIECES)?;
     try_drawn(alloc, &mut out, PIECES, pieces.as_slice())?;
+    try_steps(alloc, &mut out)?;
     Ok(out.flush()?)
 }
 
