@@ -1,3 +1,5 @@
 pub mod Places
 pub mod Steps
 pub mod Making
+pub mod Crossing
+pub mod Working

@@ -1,14 +1,11 @@
 -- What the notes of a bench's cells tell of its calls.
-use Rattle.std.proofs.Common.{ℕ, ◌≡◌, ◌+◌, ◌-◌, ◌<◌, ◌≤◌, ◌⊎◌, length-append, inl, inr, zero, suc, Bool, true, false, List, [], ◌∷◌, ◌++◌, length, take, drop, slice_get, Some, rules, refl, sym, ap, ◌∙◌, subst, arith, IfSome}
-use Rattle.std.specs.declared.option.Option.{Option}
-use Rattle.std.specs.declared.option.Option.TheVariants.{None}
+use Rattle.std.proofs.Common.{ℕ, ◌≡◌, ◌+◌, ◌-◌, ◌<◌, ◌≤◌, ◌⊎◌, length-append, inl, inr, zero, suc, List, [], ◌∷◌, ◌++◌, length, take, slice_get, Some, refl, sym, ap, ◌∙◌, subst, arith, IfSome}
 use native.Mathlib.Numerals.{unary_clauses}
 use mathlib.Core.List.{IsPrefix}
 use Rattle.once_cell.specs.Once.{Agrees}
 use Rattle.once_cell.specs.declared.race.note.Note.{Note}
 use Rattle.dg_bench.specs.declared.call.Call.{Call}
 use Rattle.dg_bench.specs.declared.place.Place.{Place}
-use Rattle.dg_bench.specs.History.{IsLegal}
 use Rattle.dg_bench.specs.Seen.{KnowsAll, Knows, all_of, calls_of, calls_to}
 
 take_suc : {X : Type 0} (xs : List X) (k : ℕ) (x : X) → slice_get xs k ≡ Some x → take k xs ++ x ∷ [] ≡ take (suc k) xs

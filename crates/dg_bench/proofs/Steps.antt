@@ -1,5 +1,5 @@
 -- A history that goes one call further, and what a legal history is.
-use Rattle.std.proofs.Common.{◌≡◌, ◌⊎◌, inl, inr, ℕ, List, [], ◌∷◌, ◌++◌, refl, sym, ap, subst, map}
+use Rattle.std.proofs.Common.{◌≡◌, inl, ℕ, List, [], ◌∷◌, ◌++◌, refl, subst, map}
 use Rattle.std.specs.Prelude.{Some}
 use Rattle.dg_core.specs.Core.{CoreView, new_core}
 use Rattle.dg_core.specs.Scratch.{scratch}

@@ -2,3 +2,4 @@ pub mod History
 pub mod Seen
 pub mod Refusals
 pub mod Made
+pub mod Work

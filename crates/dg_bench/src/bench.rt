@@ -6,6 +6,7 @@ ghost use Rattle.dg_bench.specs.History.{IsLegal};
 ghost use Rattle.dg_bench.specs.Seen.{Begins, seen_all};
 ghost use Rattle.dg_bench.specs.Made.{IsMade, IsLook};
 ghost use Rattle.dg_bench.specs.Refusals.{IsRefused, never};
+ghost use Rattle.dg_bench.specs.Work.{IsListed};
 ghost use Rattle.dg_bench.specs.declared.call.Call.TheVariants.{Edit as edited, Ask as asked, Commit as committed, Live as lived, Report as reported};
 
 use crate::call::Call;
@@ -16,10 +17,12 @@ use crate::place::Place;
 use crate::receipt::Receipt;
 use crate::refusal::BenchRefusal;
 use crate::room::Room;
+use crate::work::Work;
+use dg_bytes::Seq;
 use dg_core::Reply;
 use dg_records::Record;
 use dg_transcript::Transcript;
-use dg_world::{Answer, Edit, Question};
+use dg_world::{Answer, Edit, Question, TestId};
 use once_cell::race::OnceBox;
 use std::alloc::{AllocError, Global};
 use std::marker::Model;
@@ -146,6 +149,21 @@ impl<B: Room> Bench<B> {
         self.locked
             .lock(rt)
             .report(alloc, self.cells.as_slice(), pass)
+    }
+
+    /// The tests that workers judge: those of the world which the calls make that the pass has then seen. It is no call of
+    /// the history.
+    pub fn tests(
+        &self,
+        rt: &impl Wait,
+        alloc: Global,
+        pass: Pass<B>,
+        work: Work,
+    ) -> Result<(Pass<B>, Seq<TestId>), (Pass<B>, BenchRefusal)>
+        ensures ok { IfOk result (λ r. IsListed work pass r.0 r.1) }
+        ensures refused { IfErr result (λ r. IsRefused never pass r.0 r.1) }
+    {
+        self.locked.lock(rt).tests(alloc, pass, work)
     }
 
     /// The call of a receipt, with its reply; none for the receipt of a look. It takes no lock.

@@ -4,9 +4,11 @@
 
 mod bench;
 mod call;
+mod client;
 mod history;
 mod law;
 mod locked;
+mod make_gate;
 mod notes;
 mod opened;
 mod pass;
@@ -14,15 +16,20 @@ mod place;
 mod receipt;
 mod refusal;
 mod room;
+mod work;
+mod workers;
 
 pub use crate::bench::Bench;
 pub use crate::call::Call;
 pub use crate::history::History;
 pub use crate::law::{histories_are_runs, sums_are_from_scratch};
 pub use crate::locked::Locked;
+pub use crate::make_gate::{MakeGate, RunTests};
 pub use crate::opened::Opened;
 pub use crate::pass::Pass;
 pub use crate::place::Place;
 pub use crate::receipt::Receipt;
 pub use crate::refusal::BenchRefusal;
 pub use crate::room::Room;
+pub use crate::work::{Work, WorkFault};
+pub use crate::workers::run_workers;

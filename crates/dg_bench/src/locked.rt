@@ -8,6 +8,7 @@ ghost use Rattle.dg_bench.specs.History.{IsLegal, Makes};
 ghost use Rattle.dg_bench.specs.Made.{Enters, Looks};
 ghost use Rattle.dg_bench.specs.Seen.{Begins, seen_all};
 ghost use Rattle.dg_bench.specs.Refusals.{Refuses, SeesAll, never};
+ghost use Rattle.dg_bench.specs.Work.{Lists, tests_of};
 ghost use Rattle.dg_bench.specs.declared.call.Call.TheVariants.{Edit as edited, Ask as asked, Commit as committed, Live as lived, Report as reported};
 
 use crate::call::Call;
@@ -18,12 +19,13 @@ use crate::place::Place;
 use crate::receipt::Receipt;
 use crate::refusal::BenchRefusal;
 use crate::room::Room;
-use dg_bytes::TryCopy;
+use crate::work::Work;
+use dg_bytes::{Seq, TryCopy};
 use dg_core::{Core, Reply};
 use dg_match::Reading;
 use dg_records::Record;
 use dg_transcript::Transcript;
-use dg_world::{Answer, Edit, Question, Refusal};
+use dg_world::{Answer, Edit, Question, Refusal, TestId};
 use once_cell::race::{Note, OnceBox};
 use std::alloc::{AllocError, Global};
 use std::marker::{Model, PhantomData};
@@ -334,6 +336,40 @@ impl<B: Room> Locked<B> {
             Ok(Some(answer)) => Ok((pass, Receipt::of_front(found), answer)),
             Ok(None) => self.ask_first(alloc, cells, pass, question),
             Err(_) => Err((pass, BenchRefusal::Memory)),
+        }
+    }
+
+    /// The tests that workers judge, which changes nothing.
+    pub fn tests(
+        &mut self,
+        alloc: Global,
+        pass: Pass<B>,
+        work: Work,
+    ) -> Result<(Pass<B>, Seq<TestId>), (Pass<B>, BenchRefusal)>
+        ensures same { self.new ≡ self.old }
+        ensures ok { IfOk result (λ r. Lists work self.old pass r.0 r.1) }
+        ensures refused { IfErr result (λ r. (limit : ℕ) → Refuses never limit self.old self.new pass r.0 r.1) }
+    {
+        let pass = match self.admit(pass) {
+            Ok(pass) => pass,
+            Err(refused) => return Err(refused),
+        };
+        match self.listed(alloc, work) {
+            Ok(tests) => Ok((pass, tests)),
+            Err(_) => Err((pass, BenchRefusal::Memory)),
+        }
+    }
+
+    /// The selected tests, or the pending ones.
+    fn listed(&self, alloc: Global, work: Work) -> Result<Seq<TestId>, AllocError>
+        ensures { IfOk result (λ l. l ≡ tests_of work self.now.core) }
+    {
+        match work {
+            Work::Live => self.core.selected(alloc),
+            Work::Rejudge => match self.core.report(alloc)? {
+                Reply::Sum(_, _) => Ok(Seq::new(alloc)),
+                Reply::Pending(tests) => Ok(tests),
+            },
         }
     }
 

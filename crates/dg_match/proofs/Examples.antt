@@ -5,7 +5,7 @@ use Rattle.dg_match.specs.Held.{Held, with_last, without_nulls}
 use Rattle.dg_match.specs.Tries.{once_tried}
 use Rattle.dg_match.specs.Literals.{least_place}
 use Rattle.dg_match.specs.declared.pattern.Pattern.TheVariants.{Exact}
-use Rattle.dg_match.specs.Fronts.{front}
+use Rattle.dg_match.specs.Fronts.{text_of}
 
 -- a buffer that remembers that `zz` has passed two places
 abbrev held : List ℕ → Held
@@ -35,17 +35,23 @@ another_literal = refl
 nulls_removed : without_nulls (120 ∷ 0 ∷ 121 ∷ 0 ∷ []) ≡ codes "xy"
 nulls_removed = refl
 
-front_of_a_plain_glob : front (codes "login: ") ≡ codes "login: "
-front_of_a_plain_glob = refl
+text_of_a_plain_glob : text_of (codes "login: ") ≡ codes "login: "
+text_of_a_plain_glob = refl
 
-front_behind_stars : front (codes "**foo*bar") ≡ codes "foo"
-front_behind_stars = refl
+text_behind_stars : text_of (codes "**foo*bar") ≡ codes "bar"
+text_behind_stars = refl
 
-front_of_a_bound_glob : front (codes "^foo") ≡ []
-front_of_a_bound_glob = refl
+text_before_stars : text_of (codes "*error*:*") ≡ codes "error"
+text_before_stars = refl
 
-front_before_a_dollar : front (codes "foo$") ≡ codes "foo"
-front_before_a_dollar = refl
+text_of_a_bound_glob : text_of (codes "^foo") ≡ []
+text_of_a_bound_glob = refl
 
-front_of_a_bracket : front (codes "*[a-z]foo") ≡ []
-front_of_a_bracket = refl
+text_before_a_dollar : text_of (codes "foo$") ≡ codes "foo"
+text_before_a_dollar = refl
+
+text_behind_a_bracket : text_of (codes "*[a-z]foo") ≡ codes "foo"
+text_behind_a_bracket = refl
+
+text_before_a_bracket_that_ends_anywhere : text_of (codes "b[a-]]foo") ≡ codes "b"
+text_before_a_bracket_that_ends_anywhere = refl

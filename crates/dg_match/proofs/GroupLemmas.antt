@@ -36,7 +36,7 @@ groups_same : (count : ℕ) (f g : ℕ → Option (ℕ × ℕ)) → ((k : ℕ) �
 groups_same count f g h =
     map_range_same _ _ 1 (count - 1) (λ k p q. ap (option_map span_of) (h k p (omega arith)))
 
-none_alike : (o q : Option Match) → option_map span o ≡ option_map span q → o ≡ None → q ≡ None
+pub none_alike : (o q : Option Match) → option_map span o ≡ option_map span q → o ≡ None → q ≡ None
 none_alike o None e h = refl
 none_alike o (Some m) e h = absurd (none-some _ (sym (ap (option_map span) h) ∙ e))
 

@@ -6,6 +6,7 @@ pub mod SpanLemmas
 pub mod BufferLemmas
 pub mod RegexLemmas
 pub mod GroupLemmas
+pub mod NeedsLemmas
 pub mod BookLemmas
 pub mod AnswerLemmas
 pub mod WithinLemmas

@@ -3,7 +3,7 @@ use Rattle.std.proofs.Common.{◌≡◌, ℕ, zero, suc, ◌+◌, ◌<◌, ◌�
 use Rattle.std.proofs.lemmas.List.{take_all}
 use Rattle.std.specs.Prelude.{OnOk}
 use Rattle.dg_match.specs.Held.{Held}
-use Rattle.dg_match.specs.Fronts.{front}
+use Rattle.dg_match.specs.Fronts.{text_of}
 use Rattle.dg_match.specs.Literals.{least_place}
 use Rattle.dg_match.specs.Searches.{bytes_compared, glob_compared, places_passed, sought}
 use Rattle.dg_match.specs.Tries.{AreTried, all_tried, counted, known_passed, once_tried, remembered}
@@ -17,8 +17,8 @@ use Rattle.dg_match.proofs.SearchLemmas.{nothing_sought}
 abbrev pub noted : ℕ → ℕ → Start → Held → Held
 noted i n s h = record h { compared = counted (h.compared + n); starts = remembered i s h.starts }
 
-pub glob_tried : (i : ℕ) (glob text : List ℕ) (known n passed : ℕ) (h new : Held) → text ≡ front glob → known ≡ known_passed i text h.starts →
-    passed ≡ places_passed (front glob) h.bytes (least_place (front glob) h.bytes) → n ≡ glob_compared known glob h.bytes →
+pub glob_tried : (i : ℕ) (glob text : List ℕ) (known n passed : ℕ) (h new : Held) → text ≡ text_of glob → known ≡ known_passed i text h.starts →
+    passed ≡ places_passed (text_of glob) h.bytes (least_place (text_of glob) h.bytes) → n ≡ glob_compared known glob h.bytes →
     new ≡ noted i n (made text passed) h → new ≡ once_tried i (Glob glob) h
 unfolding once_tried
 glob_tried i glob text known n passed h new is so places count e =

@@ -4,6 +4,7 @@ pub mod Literals
 pub mod Fronts
 pub mod Regexes
 pub mod Groups
+pub mod Needs
 pub mod Book
 pub mod Programs
 pub mod Hits

@@ -1,7 +1,7 @@
 -- What the search for a text in bytes compares, and which places it passes.
 use Rattle.std.specs.Prelude.{ℕ, ◌+◌, ◌-◌, List, [], length, nat_lt, Option, None, Some, if◌then◌else◌}
 use Rattle.dg_match.specs.Literals.{least_place}
-use Rattle.dg_match.specs.Fronts.{front, begins_with_star}
+use Rattle.dg_match.specs.Fronts.{text_of}
 use Rattle.dg_match.specs.declared.pattern.Pattern.{Pattern}
 use Rattle.dg_match.specs.declared.pattern.Pattern.TheVariants.{Glob, Exact, Regex}
 
@@ -16,20 +16,20 @@ abbrev pub bytes_compared : ℕ → List ℕ → List ℕ → Option ℕ → ℕ
 bytes_compared from text bytes None = if nat_lt (length bytes - from) (length text) then 0 else length bytes - from
 bytes_compared from text bytes (Some k) = k + length text - from
 
--- how many bytes are compared with a glob, by the least place of its front: those from there on, or all where a star leads
-abbrev pub bytes_behind : List ℕ → List ℕ → Option ℕ → ℕ
-bytes_behind glob bytes None = 0
-bytes_behind glob bytes (Some k) = if begins_with_star glob then length bytes else length bytes - k
+-- how many bytes are compared with a glob, by the least place of its text: all where it has one
+abbrev pub bytes_behind : List ℕ → Option ℕ → ℕ
+bytes_behind bytes None = 0
+bytes_behind bytes (Some k) = length bytes
 
--- the text of a pattern that is searched for: a literal itself, a glob's front, and none of a `-re` pattern
+-- the text of a pattern that is searched for: a literal itself, a glob's longest run, and none of a `-re` pattern
 abbrev pub sought : Pattern → List ℕ
-sought (Glob p) = front p
+sought (Glob p) = text_of p
 sought (Exact t) = t
 sought (Regex t) = []
 
 abbrev pub glob_compared : ℕ → List ℕ → List ℕ → ℕ
 glob_compared from glob bytes =
-    bytes_compared from (front glob) bytes (least_place (front glob) bytes) + bytes_behind glob bytes (least_place (front glob) bytes)
+    bytes_compared from (text_of glob) bytes (least_place (text_of glob) bytes) + bytes_behind bytes (least_place (text_of glob) bytes)
 
 -- how many bytes are compared in a try of a pattern whose text has passed the places before this one
 abbrev pub compared_by : Pattern → ℕ → List ℕ → ℕ

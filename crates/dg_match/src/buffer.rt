@@ -1,5 +1,6 @@
 //! The buffer that a session's output goes into.
-ghost use Rattle.std.specs.Prelude.{◌≡◌, ◌≤◌, ◌+◌, ◌*◌, ◌++◌, ℕ, List, [], drop, length, take, OnOk, OnErr, IfOk, IfSome, option_map, MatchOption};
+ghost use Rattle.std.specs.Prelude.{◌≡◌, ◌≤◌, ◌+◌, ◌*◌, ◌++◌, ℕ, List, [], drop, length, take, OnOk, OnErr, IfOk, IfSome, IsTrue, None, option_map, MatchOption};
+ghost use Rattle.dg_match.specs.Groups.{regex_match};
 ghost use Rattle.dg_match.specs.Held.{emptied, heard, output_of, with_last, without_first, without_nulls};
 ghost use Rattle.dg_match.specs.Hits.{IsTried, IsAnswer, HasNoMatch, LiesIn, hit_of};
 ghost use Rattle.dg_match.specs.Starts.{IsPassed};
@@ -7,11 +8,13 @@ ghost use Rattle.dg_match.specs.Tries.{AreTried, HasCompared, all_tried, counted
 ghost use Rattle.dg_match.specs.Literals.{IsNowhere, IsFirstPlace};
 ghost use Rattle.dg_glob.specs.Glob.{IsFirstSpan};
 
+use crate::built::Built;
 use crate::found::{Found, first_match};
 use crate::hit::Hit;
 use crate::pattern::Pattern;
-use crate::search::{Search, front, search_glob, search_text};
+use crate::search::{Search, search_glob, search_text, text_of};
 use crate::starts::Starts;
+use crate::watch::Watch;
 use dg_bytes::{Bytes, Seq};
 use memchr::memchr;
 use std::alloc::{AllocError, Global};
@@ -30,6 +33,7 @@ pub struct Buffer {
     max: usize,
     compared: u64,
     starts: Starts,
+    watch: Watch,
 }
 
 impl Model for Buffer {
@@ -45,6 +49,7 @@ impl Model for Buffer {
 
     ghost invariant = { λ b. (b.front ≤ length b.bytes.items)
         × AllPassed (drop b.front b.bytes.items) b.starts
+        × AllPassed (drop b.front b.bytes.items) b.watch
         × (length (drop b.front b.bytes.items) ≤ b.max) };
 }
 
@@ -96,6 +101,7 @@ impl Buffer {
             max,
             compared: 0,
             starts: Starts::new(alloc),
+            watch: Watch::new(alloc),
         }
     }
 
@@ -121,6 +127,7 @@ impl Buffer {
     {
         self.front += count;
         self.starts.cut(count);
+        self.watch.cut(count);
     }
 
     /// Keeps the last bytes.
@@ -143,6 +150,7 @@ impl Buffer {
         let excess = (self.bytes.len() - self.front).saturating_sub(self.max);
         self.front += excess;
         self.starts.cut(excess);
+        self.watch.cut(excess);
         Ok(())
     }
 
@@ -211,11 +219,7 @@ impl Buffer {
                 let search = self.try_text(alloc, index, text.as_slice())?;
                 Ok(without_groups(alloc, search))
             }
-            Pattern::Regex(built) => {
-                let found = first_match(alloc, built, self.as_slice())?;
-                self.skip(alloc, index)?;
-                Ok(found)
-            }
+            Pattern::Regex(built) => self.try_regex(alloc, index, built),
         }
     }
 
@@ -229,9 +233,9 @@ impl Buffer {
         ensures err { OnErr result (self.new ≡ self.old) }
         ensures only { HasCompared (2 * length self.old.bytes) self.old self.new }
     {
-        let front = front(glob);
-        let search = search_glob(self.as_slice(), glob, self.passed(index, front));
-        self.note(alloc, index, front, search)?;
+        let text = text_of(glob);
+        let search = search_glob(self.as_slice(), glob, self.passed(index, text));
+        self.note(alloc, index, text, search)?;
         Ok(search)
     }
 
@@ -248,6 +252,37 @@ impl Buffer {
         let search = search_text(self.as_slice(), text, self.passed(index, text));
         self.note(alloc, index, text, search)?;
         Ok(search)
+    }
+
+    /// Tries the `-re` pattern of an index.
+    fn try_regex(
+        &mut self,
+        alloc: Global,
+        index: usize,
+        built: &Built,
+    ) -> Result<Option<Found>, AllocError>
+        requires { index ≤ length self.old.starts }
+        ensures found { IfOk result (λ found. found ≡ regex_match built.now self.old.bytes) }
+        ensures tried { OnOk result (self.new ≡ once_tried index (Pattern.Regex built.now) self.old) }
+        ensures err { OnErr result (self.new ≡ self.old) }
+        ensures only { HasCompared 0 self.old self.new }
+    {
+        let found = if self.lacks(alloc, index, built)? {
+            None
+        } else {
+            first_match(alloc, built, self.as_slice())?
+        };
+        self.skip(alloc, index)?;
+        Ok(found)
+    }
+
+    /// Whether the bytes lack what the `-re` pattern of an index needs, so that it has no match.
+    fn lacks(&mut self, alloc: Global, index: usize, built: &Built) -> Result<bool, AllocError>
+        ensures none { IfOk result (λ r. IsTrue r → regex_match built.now self.old.bytes ≡ None) }
+        ensures same { self.new ≡ self.old }
+    {
+        let bytes = &self.bytes[self.front..];
+        self.watch.lacks(alloc, bytes, index, built.needs())
     }
 
     /// How many places a text that stands in every match of the pattern of this index is known
@@ -325,6 +360,7 @@ impl Buffer {
         without_front(&mut bytes, self.front);
         self.front = 0;
         self.starts.cut(len);
+        self.watch.cut(len);
         Bytes::from_vec(bytes)
     }
 

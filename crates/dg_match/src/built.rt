@@ -1,9 +1,12 @@
 //! A pattern that `regex` has built.
-ghost use Rattle.std.specs.Prelude.{◌≡◌, IfOk, IsErrOf, OnOk};
+ghost use Rattle.std.specs.Prelude.{◌≡◌, All, IfOk, IsErrOf, OnOk};
 ghost use Rattle.regex.specs.Bytes.{regex_source};
+ghost use Rattle.regex_extract.specs.Needles.{needles_of};
+ghost use Rattle.dg_match.specs.Needs.{NeedsOneOf};
 ghost use Rattle.dg_match.specs.Regexes.{IsPatternText, IsNoPatternText, IsBuilt};
 
 use crate::fault::PatternFault;
+use crate::needs::Needs;
 use regex::bytes::Regex;
 use std::alloc::{AllocError, Global};
 use std::marker::Model;
@@ -14,20 +17,24 @@ use std::sync::Arc;
 #[derive(Drop)]
 pub struct Built {
     regex: Arc<Regex>,
+    needs: Arc<Needs>,
 }
 
 impl Model for Built {
-    ghost use Rattle.std.specs.Prelude.{ℕ, List};
+    ghost use Rattle.std.specs.Prelude.{ℕ, List, All};
 
     ghost Value = { List ℕ };
 
     ghost use Rattle.std.specs.Arc.{arc_value};
     ghost use Rattle.regex.specs.Bytes.{regex_source};
+    ghost use Rattle.regex_extract.specs.Needles.{needles_of};
+    ghost use Rattle.dg_match.specs.Needs.{NeedsOneOf};
     ghost use Rattle.dg_match.specs.Regexes.{IsBuilt};
 
     ghost view = { λ b. regex_source (arc_value b.regex) };
 
-    ghost invariant = { λ b. IsBuilt (arc_value b.regex) };
+    ghost invariant = { λ b. IsBuilt (arc_value b.regex)
+        × All (λ s. NeedsOneOf (regex_source (arc_value b.regex)) (needles_of s)) (arc_value b.needs).sets.items };
 }
 
 impl Built {
@@ -42,15 +49,26 @@ impl Built {
             return Err(PatternFault::Syntax);
         };
         match Regex::new(alloc, source) {
-            Ok(regex) => match Arc::new(alloc, regex) {
-                Ok(regex) => Ok(Built { regex }),
-                Err(_) => Err(PatternFault::Memory),
+            Ok(regex) => match Built::of(alloc, source, regex) {
+                Ok(built) => Ok(built),
+                Err(AllocError) => Err(PatternFault::Memory),
             },
             Err(regex::Error::Syntax(_)) => Err(PatternFault::Syntax),
             Err(regex::Error::OutOfMemory) => Err(PatternFault::Memory),
             Err(regex::Error::CompiledTooBig) => Err(PatternFault::TooLarge),
             Err(regex::Error::Internal) => unreachable!(),
         }
+    }
+
+    /// The pattern that `regex` has built of a text.
+    fn of(alloc: Global, source: &str, regex: Regex) -> Result<Built, AllocError>
+        requires text { regex_source regex ≡ source.now }
+        requires built { IsBuilt regex }
+        ensures { IfOk result (λ b. b ≡ source.now) }
+    {
+        let needs = Arc::new(alloc, Needs::of(alloc, source)?)?;
+        let regex = Arc::new(alloc, regex)?;
+        Ok(Built { regex, needs })
     }
 
     /// The same pattern once more. Nothing is built anew.
@@ -60,6 +78,7 @@ impl Built {
     {
         Ok(Built {
             regex: Arc::try_clone(&self.regex)?,
+            needs: Arc::try_clone(&self.needs)?,
         })
     }
 
@@ -69,5 +88,12 @@ impl Built {
         ensures built { IsBuilt result.now }
     {
         self.regex.as_ref()
+    }
+
+    /// The texts that its matches need.
+    pub(crate) fn needs(&self) -> &Needs
+        ensures { All (λ s. NeedsOneOf self.now (needles_of s)) result.now.sets.items }
+    {
+        self.needs.as_ref()
     }
 }

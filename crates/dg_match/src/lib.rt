@@ -9,11 +9,13 @@ mod fault;
 mod found;
 mod hit;
 mod law;
+mod needs;
 mod pattern;
 mod programs;
 mod reading;
 mod search;
 mod starts;
+mod watch;
 
 pub use crate::book::PatternBook;
 pub use crate::buffer::Buffer;

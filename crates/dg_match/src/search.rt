@@ -1,5 +1,5 @@
 //! Searches of the buffer that leave out the starts that are known to be passed.
-ghost use Rattle.std.specs.Prelude.{◌≡◌, ◌≤◌, ◌<◌, ◌*◌, ℕ, MatchOption, None, Some, length, nat_lt, if◌then◌else◌};
+ghost use Rattle.std.specs.Prelude.{◌≡◌, ◌≤◌, ◌<◌, ◌*◌, ℕ, MatchOption, None, false, Some, length, nat_lt, if◌then◌else◌};
 ghost use Rattle.memchr.specs.Find.{OccursAt};
 ghost use Rattle.dg_glob.specs.Glob.{IsFirstSpan, IsSpan};
 ghost use Rattle.dg_match.specs.Starts.{IsPassed};
@@ -129,89 +129,84 @@ fn plain_run(glob: &[u8]) -> &[u8]
     &glob[..count]
 }
 
-/// The glob behind the stars that it begins with.
-fn past_stars(glob: &[u8]) -> &[u8]
-    ensures { result.now ≡ word.past_stars glob.now }
+/// The longer of the longest run so far and of the one that begins here. Inside a run none begins.
+fn longer_run<'a>(longest: &'a [u8], rest: &'a [u8], in_run: bool) -> &'a [u8]
+    ensures { result.now ≡
+        (if in_run then longest.now else word.longer longest.now (word.plain_run rest.now)) }
 {
+    if in_run {
+        return longest;
+    }
+    let run = plain_run(rest);
+    if run.len() < longest.len() {
+        longest
+    } else {
+        run
+    }
+}
+
+/// The longest run of bytes of a glob that stand for themselves outside its brackets, and the last of
+/// those. What stands behind a backslash is left out, and what stands behind a range that ends with
+/// `]`, since it depends on the byte where such a bracket ends.
+fn longest_run(glob: &[u8]) -> &[u8]
+    ensures { result.now ≡ word.longest_run false glob.now }
+{
+    let mut longest = &glob[..0];
+    let mut in_bracket = false;
+    let mut in_run = false;
     let mut rest = glob;
     while let Some((&byte, after)) = rest.split_first() {
-        if byte != b'*' {
+        if in_bracket {
+            if byte == b'-' && after.first() == Some(&b']') {
+                break;
+            }
+            in_bracket = byte != b']';
+        } else if byte == b'\\' {
             break;
+        } else if byte == b'[' {
+            in_bracket = true;
+            in_run = false;
+        } else {
+            longest = longer_run(longest, rest, in_run);
+            in_run = stands_for_itself(byte);
         }
         rest = after;
     }
-    rest
+    longest
 }
 
-/// A text that stands in every match of a glob: its first bytes that stand for themselves, behind
-/// the stars that it begins with.
-pub(crate) fn front(glob: &[u8]) -> &[u8]
-    ensures { result.now ≡ word.front glob.now }
+/// A text that stands in every match of a glob.
+pub(crate) fn text_of(glob: &[u8]) -> &[u8]
+    ensures { result.now ≡ word.text_of glob.now }
 {
     if glob.first() == Some(&b'^') {
         return &glob[..0];
     }
-    plain_run(past_stars(glob))
+    longest_run(glob)
 }
 
-/// Whether a glob begins with a star.
-fn begins_with_star(glob: &[u8]) -> bool
-    ensures { result ≡ word.begins_with_star glob.now }
-{
-    glob.first() == Some(&b'*')
-}
-
-/// Searches the buffer for a glob.
+/// Searches the buffer for a glob. Only where its text stands the whole buffer is searched.
 pub(crate) fn search_glob(bytes: &[u8], glob: &[u8], passed: usize) -> Search
-    requires { IsPassed (word.front glob.now) bytes.now passed }
+    requires { IsPassed (word.text_of glob.now) bytes.now passed }
     ensures found { MatchOption result.found ((s e : ℕ) → IsSpan glob.now bytes.now s e → ⊥)
         (λ s. IsFirstSpan glob.now bytes.now s.start s.end) }
-    ensures passed { IsPassed (word.front glob.now) bytes.now result.passed }
+    ensures passed { IsPassed (word.text_of glob.now) bytes.now result.passed }
     ensures places { result.passed ≡
-        places_passed (word.front glob.now) bytes.now (least_place (word.front glob.now) bytes.now) }
+        places_passed (word.text_of glob.now) bytes.now (least_place (word.text_of glob.now) bytes.now) }
     ensures at_most { result.compared ≤ 2 * length bytes.now }
     ensures counted { result.compared ≡ glob_compared passed glob.now bytes.now }
 {
-    let front = front(glob);
-    match first_place(bytes, front, passed) {
+    let text = text_of(glob);
+    match first_place(bytes, text, passed) {
         Place::Nowhere { compared } => Search {
             found: None,
-            passed: passed_by(bytes, front),
+            passed: passed_by(bytes, text),
             compared,
         },
         Place::At { start, compared } => Search {
-            found: glob_from(bytes, glob, start),
+            found: find_glob(glob, bytes),
             passed: start,
-            compared: compared.saturating_add(compared_behind(bytes, glob, start)),
+            compared: compared.saturating_add(bytes.len()),
         },
     }
-}
-
-/// How many bytes a search for a glob has to compare once its front was found at this place.
-fn compared_behind(bytes: &[u8], glob: &[u8], start: usize) -> usize
-    ensures bound { result ≤ length bytes.now }
-    ensures value { result ≡ bytes_behind glob.now bytes.now (Some start) }
-{
-    if begins_with_star(glob) {
-        bytes.len()
-    } else {
-        bytes.len().saturating_sub(start)
-    }
-}
-
-/// The first span of a glob whose front stands at this place first. Where no star leads, no span
-/// begins before it.
-fn glob_from(bytes: &[u8], glob: &[u8], start: usize) -> Option<Span>
-    requires { IsLeastPlace (word.front glob.now) bytes.now start }
-    ensures { MatchOption result ((s e : ℕ) → IsSpan glob.now bytes.now s e → ⊥)
-        (λ s. IsFirstSpan glob.now bytes.now s.start s.end) }
-{
-    if begins_with_star(glob) {
-        return find_glob(glob, bytes);
-    }
-    let span = find_glob(glob, &bytes[start..])?;
-    Some(Span {
-        start: start + span.start,
-        end: start + span.end,
-    })
 }

@@ -1,4 +1,5 @@
 //! The selected tests of a suite, run with child processes on pipes.
+use crate::progress::Progress;
 use crate::suite::{Suite, pattern_lost};
 use dg_bytes::{Bytes, Seq, TryCopy};
 use dg_eval::JobFault;
@@ -20,13 +21,19 @@ pub(crate) struct Written {
 }
 
 /// Runs a test, and keeps its record and its transcript, whose text it gives. None of its children is left.
-fn run_test<R>(rt: &R, test: &TestId, suite: &mut Suite) -> Result<Bytes, RunFault>
+fn run_test<R>(
+    rt: &R,
+    test: &TestId,
+    suite: &mut Suite,
+    progress: &mut Progress<'_, R>,
+) -> Result<Bytes, RunFault>
 where
     R: AllocGlobal
         + Processes<Started = SystemProcess>
         + Threads
         + Wait
         + Clock
+        + Eprint
         + Copy
         + Drop
         + Send
@@ -42,6 +49,7 @@ where
         Err(LiveFault::Job(JobFault::PatternLost)) => return Err(pattern_lost(alloc, test)),
         Err(_) => return Err(RunFault::Memory),
     };
+    progress.end(record.verdict());
     let text = encode(alloc, &transcript)?;
     match suite.core.commit_live(alloc, record, transcript) {
         Ok(()) => Ok(text),
@@ -51,13 +59,18 @@ where
 }
 
 /// Runs all selected tests, in order, and gives the texts of their transcripts.
-pub(crate) fn run_tests<R>(rt: &R, suite: &mut Suite) -> Result<Vec<Written>, RunFault>
+pub(crate) fn run_tests<R>(
+    rt: &R,
+    suite: &mut Suite,
+    progress: &mut Progress<'_, R>,
+) -> Result<Vec<Written>, RunFault>
 where
     R: AllocGlobal
         + Processes<Started = SystemProcess>
         + Threads
         + Wait
         + Clock
+        + Eprint
         + Copy
         + Drop
         + Send
@@ -65,8 +78,10 @@ where
 {
     let tests: Seq<TestId> = suite.core.selected(rt.alloc())?;
     let mut written = Vec::new(rt.alloc());
+    progress.expect(tests.len());
     for test in tests.as_slice() {
-        let text = run_test(rt, test, suite)?;
+        progress.begin(test);
+        let text = run_test(rt, test, suite, progress)?;
         let test = test.copy(rt.alloc())?;
         written.push(Written { test, text })?;
     }

@@ -4,7 +4,9 @@
 mod answer;
 mod fault;
 mod live;
+mod progress;
 mod reading;
+mod replay;
 mod request;
 mod run;
 mod session;
@@ -14,6 +16,7 @@ mod tests;
 mod writing;
 
 use crate::fault::{ProgramFault, SessionFault};
+use crate::progress::Progress;
 use crate::run::run_plan;
 use crate::session::run_session;
 use dg_bytes::Bytes;
@@ -21,7 +24,7 @@ use dg_core::Core;
 use dg_folders::RunFault;
 use dg_line::{LineFault, Mode, Plan, plan_of};
 use dg_world::Edit;
-use std::io::{BufReader, BufWriter, Write};
+use std::io::{BufReader, BufWriter, IsTerminal, Write};
 use std::process::ExitCode;
 use std::{env, io};
 
@@ -91,11 +94,25 @@ fn planned(rt: &HostRuntime) -> Result<Option<Plan>, ProgramFault> {
     }
 }
 
+/// Whether progress is shown: where standard error is a terminal on which a line can be written over.
+fn shows_progress(rt: &HostRuntime) -> bool {
+    match env::var(rt, "TERM") {
+        Ok(term) => !term.is_empty() && term.as_str() != "dumb" && rt.stderr().is_terminal(),
+        Err(_) => false,
+    }
+}
+
 /// Prints the report of a run, and gives its status.
-fn print_report(rt: &HostRuntime, run: Result<(Bytes, u8), RunFault>) -> Result<u8, ProgramFault> {
+fn print_report(
+    rt: &HostRuntime,
+    run: Result<(Bytes, u8), RunFault>,
+    progress: &Progress<'_, HostRuntime>,
+) -> Result<u8, ProgramFault> {
+    progress.clear();
     match run {
         Ok((report, status)) => {
             print_bytes(rt, report.as_slice())?;
+            progress.finish();
             Ok(status)
         }
         Err(fault) => Err(ProgramFault::Run(fault)),
@@ -129,7 +146,11 @@ fn main(rt: HostRuntime) -> ExitCode {
     let status = match planned(&rt) {
         Ok(Some(plan)) => match plan.mode {
             Mode::Session => serve(&rt, plan),
-            Mode::Run | Mode::Rejudge => print_report(&rt, run_plan(&rt, plan)),
+            Mode::Run | Mode::Rejudge => {
+                let mut progress = Progress::new(&rt, shows_progress(&rt));
+                let run = run_plan(&rt, plan, &mut progress);
+                print_report(&rt, run, &progress)
+            }
         },
         Ok(None) => Ok(0),
         Err(fault) => Err(fault),

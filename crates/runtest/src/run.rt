@@ -1,5 +1,7 @@
 //! A run over a suite's folders.
 use crate::live::{Written, run_tests};
+use crate::progress::Progress;
+use crate::replay::judge_tests;
 use crate::session::cause_number;
 use crate::suite::{Suite, text_of};
 use dg_bytes::{Bytes, Seq};
@@ -24,17 +26,17 @@ fn path_of(alloc: Global, outdir: &str, test: &TestId) -> Result<String, RunFaul
     Ok(transcript_path(alloc, outdir, board.as_str(), script.as_str())?)
 }
 
-/// The transcript of a test in the folder of a run, where there is one, becomes that of the test.
+/// The transcript of a test in the folder of a run becomes that of the test. Whether there is one.
 fn take_transcript<R: Files + AllocGlobal>(
     rt: &R,
     outdir: &str,
     test: &TestId,
     suite: &mut Suite,
-) -> Result<(), RunFault> {
+) -> Result<bool, RunFault> {
     let alloc = rt.alloc();
     let path = path_of(alloc, outdir, test)?;
     let Some(text) = read_transcript(rt, path.as_str())? else {
-        return Ok(());
+        return Ok(false);
     };
     let edit = Edit::PutTranscript(
         Bytes::from_slice(alloc, test.board().as_slice())?,
@@ -42,7 +44,7 @@ fn take_transcript<R: Files + AllocGlobal>(
         text,
     );
     match suite.take(edit) {
-        Ok(()) => Ok(()),
+        Ok(()) => Ok(true),
         Err(Refusal::BadTranscript(line, cause)) => {
             Err(RunFault::BadTranscript(path, line, cause_number(cause)))
         }
@@ -52,14 +54,17 @@ fn take_transcript<R: Files + AllocGlobal>(
 }
 
 /// Reads the transcripts of the selected tests, in the order of the tests.
-fn take_transcripts<R: Files + AllocGlobal>(
+fn take_transcripts<R: Files + AllocGlobal + Clock + Eprint>(
     rt: &R,
     outdir: &str,
     suite: &mut Suite,
+    progress: &mut Progress<'_, R>,
 ) -> Result<(), RunFault> {
     let tests: Seq<TestId> = suite.core.selected(rt.alloc())?;
     for test in tests.as_slice() {
-        take_transcript(rt, outdir, test, suite)?;
+        if take_transcript(rt, outdir, test, suite)? {
+            progress.count_transcript();
+        }
     }
     Ok(())
 }
@@ -78,7 +83,13 @@ fn write_transcripts<R: Files + AllocGlobal>(
 }
 
 /// Judges what is selected: by running every test, with the transcripts written down, or by the transcripts that there are.
-fn judge<R>(rt: &R, mode: Mode, outdir: &str, suite: &mut Suite) -> Result<(Bytes, u8), RunFault>
+fn judge<R>(
+    rt: &R,
+    mode: Mode,
+    outdir: &str,
+    suite: &mut Suite,
+    progress: &mut Progress<'_, R>,
+) -> Result<(Bytes, u8), RunFault>
 where
     R: Files
         + AllocGlobal
@@ -86,16 +97,18 @@ where
         + Threads
         + Wait
         + Clock
+        + Eprint
         + Copy
         + Drop
         + Send
         + 'static,
 {
     if mode == Mode::Rejudge {
-        take_transcripts(rt, outdir, suite)?;
+        take_transcripts(rt, outdir, suite, progress)?;
+        judge_tests(rt, suite, progress)?;
         return suite.judge();
     }
-    let written = run_tests(rt, suite)?;
+    let written = run_tests(rt, suite, progress)?;
     let report = suite.judge()?;
     write_transcripts(rt, outdir, written.as_slice())?;
     Ok(report)
@@ -103,7 +116,11 @@ where
 
 /// Reads the suite of a plan, judges what is selected, live or by the transcripts that an earlier run wrote, and writes the
 /// report to `OUTDIR/TOOL.sum`. Gives the report and its status.
-pub fn run_plan<R>(rt: &R, plan: Plan) -> Result<(Bytes, u8), RunFault>
+pub(crate) fn run_plan<R>(
+    rt: &R,
+    plan: Plan,
+    progress: &mut Progress<'_, R>,
+) -> Result<(Bytes, u8), RunFault>
 where
     R: Files
         + AllocGlobal
@@ -111,6 +128,7 @@ where
         + Threads
         + Wait
         + Clock
+        + Eprint
         + Copy
         + Drop
         + Send
@@ -131,7 +149,7 @@ where
         Err(_) => return Err(RunFault::HistoryFull),
     }
     read_suite(rt, srcdir.as_str(), tool.as_bytes(), &mut suite)?;
-    let (report, status) = judge(rt, mode, outdir.as_str(), &mut suite)?;
+    let (report, status) = judge(rt, mode, outdir.as_str(), &mut suite, progress)?;
     let path = sum_path(alloc, outdir.as_str(), tool.as_str())?;
     write_in_place(rt, path.as_str(), report.as_slice())?;
     Ok((report, status))

@@ -7,10 +7,10 @@ use std::alloc::Global;
 use std::test::Fail;
 
 /// The bytes that are left to the calls, and 16 more in each round.
-const ROOM: usize = 120_000;
+pub const ROOM: usize = 120_000;
 
 /// The rounds, the last of which has room enough.
-const ROUNDS: usize = 7_000;
+pub const ROUNDS: usize = 7_000;
 
 const INPUT: &[u8] = b"put t/a.exp 7061737320226f6e65220a\nreport\nput ../x -\nreport\n";
 
@@ -102,14 +102,24 @@ fn is_whole(held: &[u8], ended: Option<Result<(), SessionFault>>) -> Option<bool
 
 /// How many rounds were whole, short of memory, or anything else.
 #[derive(Drop)]
-struct Rounds {
-    whole: usize,
-    short: usize,
-    others: usize,
+pub struct Rounds {
+    pub whole: usize,
+    pub short: usize,
+    pub others: usize,
 }
 
 impl Rounds {
-    fn count(&mut self, outcome: Option<bool>) {
+    /// None yet.
+    pub fn new() -> Rounds {
+        Rounds {
+            whole: 0,
+            short: 0,
+            others: 0,
+        }
+    }
+
+    /// Counts a round.
+    pub fn count(&mut self, outcome: Option<bool>) {
         let counted = match outcome {
             Some(true) => &mut self.whole,
             Some(false) => &mut self.short,
@@ -120,7 +130,7 @@ impl Rounds {
 }
 
 /// Takes all memory that there is, without writing to it.
-fn take_all(alloc: Global, blocks: &mut Vec<Vec<u8>>) {
+pub fn take_all(alloc: Global, blocks: &mut Vec<Vec<u8>>) {
     let mut size = 1usize << 46;
     for _ in 0..400_000u32 {
         if size < 16 {
@@ -139,11 +149,7 @@ fn take_all(alloc: Global, blocks: &mut Vec<Vec<u8>>) {
 
 /// The sessions beside ever smaller blocks.
 fn sessions(alloc: Global, mut held: Vec<u8>) -> Rounds {
-    let mut rounds = Rounds {
-        whole: 0,
-        short: 0,
-        others: 0,
-    };
+    let mut rounds = Rounds::new();
     for step in 0..ROUNDS {
         let pad = Vec::<u8>::with_capacity(alloc, ROOM - 16 * step);
         held.clear();

@@ -1,4 +1,4 @@
-use Rattle.std.proofs.Common.{rules, ◌≤◌, length, ◌≡◌, ◌-◌, Some, refl, sym, ap, ◌∙◌, subst, true}
+use Rattle.std.proofs.Common.{◌≤◌, length, ◌≡◌, ◌-◌, refl, sym, ap, ◌∙◌, subst, true}
 use mathlib.Core.List.{IsPrefix}
 use Rattle.dg_bench.specs.Seen.{calls_of, Seen, IsSeen}
 use Rattle.dg_bench.proofs.Places.{agreed}

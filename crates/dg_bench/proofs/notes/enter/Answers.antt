@@ -1,4 +1,4 @@
-use Rattle.std.proofs.Common.{rules, ◌<◌, ◌≡◌, ◌+◌, Some, refl, sym, ap, ◌∙◌, subst, length, arith, slice_get, map}
+use Rattle.std.proofs.Common.{◌<◌, ◌≡◌, Some, refl, sym, ap, ◌∙◌, subst, length, slice_get}
 use Rattle.std.proofs.lemmas.Option.{slice_get-map, slice_get_read}
 use Rattle.std.specs.Option.{option_map}
 use Rattle.once_cell.specs.Once.{cell_name}

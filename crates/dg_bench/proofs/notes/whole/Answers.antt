@@ -1,6 +1,6 @@
-use Rattle.std.proofs.Common.{rules, ◌<◌, ◌≡◌, ◌+◌, ◌-◌, Some, refl, sym, ap, ◌∙◌, subst, true, length, arith}
+use Rattle.std.proofs.Common.{◌<◌, ◌≡◌, ◌+◌, ◌-◌, Some, sym, ap, ◌∙◌, subst, true, length, arith}
 use Rattle.dg_bench.specs.History.{IsLegal}
-use Rattle.dg_bench.specs.Seen.{seen_all, seen_of, Knows, Seen}
+use Rattle.dg_bench.specs.Seen.{Knows}
 use Rattle.dg_bench.proofs.Places.{all_known}
 use Rattle.dg_bench.proofs.notes.whole.Goals as goal
 

@@ -1,4 +1,4 @@
-use Rattle.std.proofs.Common.{rules, ◌≡◌, subst}
+use Rattle.std.proofs.Common.{subst}
 use Rattle.dg_bench.specs.Seen.{IsTold}
 use Rattle.dg_bench.proofs.bench.Bench.call_at.Goals as goal
 

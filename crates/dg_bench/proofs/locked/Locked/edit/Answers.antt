@@ -1,4 +1,4 @@
-use Rattle.std.proofs.Common.{◌≡◌, ◌∷◌, ◌++◌, [], refl, ap, ◌∙◌}
+use Rattle.std.proofs.Common.{◌≡◌, ◌∷◌, ◌++◌, [], ap, ◌∙◌}
 use Rattle.dg_bench.specs.declared.call.Call.TheVariants.{Edit as edited}
 use Rattle.dg_bench.specs.Seen.{kept_of}
 use Rattle.dg_bench.proofs.Making.{next_legal, kept_next}

@@ -1,4 +1,3 @@
-use Rattle.std.proofs.Common.{rules, ◌≡◌}
 use Rattle.dg_bench.proofs.locked.Locked.show.Goals as goal
 
 pub whole-requires-clause-all : goal.whole-requires-clause-all

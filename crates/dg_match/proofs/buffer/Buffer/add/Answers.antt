@@ -11,6 +11,7 @@ invariant_of-self-2 c =
     let excess = c.saturating_sub-excess.ensures ∙ ap (λ (n : ℕ). n - c.self.inside.front - c.self.inside.max) (c.len.ensures ∙ c.extend.new.bytes.ok.0) in (
       chunk_within _ _ c.self.inside.max _ _ _ c.in_ok-extend.ensures.ok c.self.invariant.0 excess,
       chunk_passed _ _ c.self.inside.max _ _ _ c.in_ok-extend.ensures.ok c.self.invariant.0 excess _ _ c.self.invariant.1 c.cut.ensures.passed,
+      chunk_passed _ _ c.self.inside.max _ _ _ c.in_ok-extend.ensures.ok c.self.invariant.0 excess _ _ c.self.invariant.2 c.cut-2.ensures,
       chunk_fits _ _ c.self.inside.max _ _ _ c.in_ok-extend.ensures.ok c.self.invariant.0 excess,
     )
 

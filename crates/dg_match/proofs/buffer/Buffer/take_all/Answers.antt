@@ -10,9 +10,12 @@ invariant_of-self c =
     let count = ap length (c.as_slice-len.ensures ∙ sym held) in
     let passed : AllPassed (drop (length c.as_slice-len.result.now) (drop c.self.inside.front c.self.inside.bytes.items)) c.cut.new.self =
     c.cut.ensures.passed (drop c.self.inside.front c.self.inside.bytes.items) (omega arith) c.self.invariant.1 in
+    let watched : AllPassed (drop (length c.as_slice-len.result.now) (drop c.self.inside.front c.self.inside.bytes.items)) c.cut-2.new.self =
+    c.cut-2.ensures (drop c.self.inside.front c.self.inside.bytes.items) (omega arith) c.self.invariant.2 in
     let gone = drop_all (length c.as_slice-len.result.now) (drop c.self.inside.front c.self.inside.bytes.items) (omega arith) in
     let size = ap length none in (
       omega arith,
       subst (λ (bytes : List ℕ). AllPassed bytes c.cut.new.self) (gone ∙ sym none) passed,
+      subst (λ (bytes : List ℕ). AllPassed bytes c.cut-2.new.self) (gone ∙ sym none) watched,
       omega arith,
     )

@@ -5,8 +5,8 @@ use Rattle.dg_match.proofs.built.Built.new.Goals as goal
 pub returns-in_default-clause-syntax : goal.returns-in_default-clause-syntax
 returns-in_default-clause-syntax c = λ _. no_pattern_unless_utf8 _ (c.in_default.ensures.cases.0)
 
-pub returns-in-Ok-new-2-clause-read : goal.returns-in-Ok-new-2-clause-read
-returns-in-Ok-new-2-clause-read c =
+pub returns-in-Ok-of-clause-read : goal.returns-in-Ok-of-clause-read
+returns-in-Ok-of-clause-read c =
     let cases = c.in-Ok.ensures.cases in
     let made = c.in-Ok-new.ensures in
     rw (sym cases.0) (pattern_of_regex c.in-Ok-new.regex _ made.source made.config made.read (rw (sym cases.0) at cases.1))

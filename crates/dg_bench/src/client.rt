@@ -1,0 +1,153 @@
+//! A worker's own way to the bench.
+ghost use Rattle.std.specs.Prelude.{◌≡◌, IfOk, OnOk, IfSome};
+
+use crate::bench::Bench;
+use crate::pass::Pass;
+use crate::refusal::BenchRefusal;
+use crate::room::Room;
+use crate::work::WorkFault;
+use dg_eval::{Job, Turn};
+use dg_gate::{AskFault, Asker};
+use dg_live::LiveFault;
+use dg_records::Record;
+use dg_transcript::Transcript;
+use dg_world::{Answer, Question, TestId};
+use std::alloc::Global;
+use std::mem;
+use std::sync::Wait;
+
+/// A caller with a pass of its own, which keeps why the bench did not answer a question.
+pub(crate) struct Client<'a, B: Room, R: Wait> {
+    rt: &'a R,
+    alloc: Global,
+    bench: &'a Bench<B>,
+    pass: Pass<B>,
+    refusal: Option<BenchRefusal>,
+}
+
+/// Written by hand, and so one call for whoever lets a client go.
+impl<'a, B: Room, R: Wait> Drop for Client<'a, B, R> {
+    fn drop(self) {
+        let Client {
+            rt: _,
+            alloc: _,
+            bench: _,
+            pass: _,
+            refusal: _,
+        } = self;
+    }
+}
+
+impl<'a, B: Room, R: Wait> Asker for Client<'a, B, R> {
+    ghost use Rattle.dg_bench.specs.Work.{Answers};
+
+    ghost step = { λ before question answer after. Answers before.pass after.pass question answer };
+
+    fn ask(&mut self, question: &Question) -> Result<Answer, AskFault> {
+        let pass = mem::replace(&mut self.pass, self.bench.pass());
+        match self.bench.ask(self.rt, self.alloc, pass, question) {
+            Ok((pass, _receipt, answer)) => {
+                self.pass = pass;
+                Ok(answer)
+            }
+            Err((pass, BenchRefusal::Memory)) => {
+                self.pass = pass;
+                Err(AskFault::Memory)
+            }
+            Err((pass, refusal)) => {
+                self.pass = pass;
+                self.refusal = Some(refusal);
+                Err(AskFault::Refused)
+            }
+        }
+    }
+}
+
+impl<'a, B: Room, R: Wait> Client<'a, B, R> {
+    /// A caller with this pass.
+    pub(crate) fn new(rt: &'a R, alloc: Global, bench: &'a Bench<B>, pass: Pass<B>) -> Self {
+        Client {
+            rt,
+            alloc,
+            bench,
+            pass,
+            refusal: None,
+        }
+    }
+
+    /// The fault of a judging that gave no record.
+    pub(crate) fn fault(&mut self, test: TestId, why: LiveFault) -> WorkFault {
+        WorkFault::of_judging(test, why, self.refusal.take())
+    }
+
+    /// Tells a job what the bench answers to its next question, or gives its record.
+    fn take_turn(&mut self, job: &mut Job) -> Result<Option<Record>, LiveFault>
+        ensures test { OnOk result (job.new.test ≡ job.old.test) }
+        ensures record { IfOk result (λ o. IfSome o (λ r. r.test ≡ job.old.test)) }
+    {
+        let ask = match job.advance(self.alloc) {
+            Ok(Turn::Need(ask)) => ask,
+            Ok(Turn::Done(record)) => return Ok(Some(record)),
+            Err(fault) => return Err(LiveFault::Job(fault)),
+        };
+        match self.ask(&ask.question) {
+            Ok(answer) => match job.answer(answer) {
+                Ok(()) => Ok(None),
+                Err(fault) => Err(LiveFault::Job(fault)),
+            },
+            Err(fault) => Err(LiveFault::Asker(fault)),
+        }
+    }
+
+    /// Judges a test, whose questions the bench answers, also those about its children.
+    pub(crate) fn rejudge(&mut self, test: TestId) -> Result<Record, LiveFault>
+        ensures { IfOk result (λ r. r.test ≡ test) }
+    {
+        let Ok(mut job) = Job::start(self.alloc, test) else {
+            return Err(LiveFault::Memory);
+        };
+        'turns: for _turn in 0..u64::MAX {
+            if let Some(record) = self.take_turn(&mut job)? {
+                return Ok(record);
+            }
+        }
+        Err(LiveFault::Memory)
+    }
+
+    /// Keeps a record.
+    pub(crate) fn commit(&mut self, record: Record) -> Result<(), WorkFault> {
+        let pass = mem::replace(&mut self.pass, self.bench.pass());
+        match self.bench.commit(self.rt, self.alloc, pass, record) {
+            Ok((pass, _receipt)) => {
+                self.pass = pass;
+                Ok(())
+            }
+            Err((pass, _record, refusal)) => {
+                self.pass = pass;
+                Err(WorkFault::of_refusal(refusal))
+            }
+        }
+    }
+
+    /// Keeps a live run.
+    pub(crate) fn commit_live(
+        &mut self,
+        record: Record,
+        transcript: Transcript,
+    ) -> Result<(), WorkFault> {
+        let pass = mem::replace(&mut self.pass, self.bench.pass());
+        match self
+            .bench
+            .commit_live(self.rt, self.alloc, pass, record, transcript)
+        {
+            Ok((pass, _receipt)) => {
+                self.pass = pass;
+                Ok(())
+            }
+            Err((pass, _record, _transcript, refusal)) => {
+                self.pass = pass;
+                Err(WorkFault::of_refusal(refusal))
+            }
+        }
+    }
+}

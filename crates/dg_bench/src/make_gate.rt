@@ -1,0 +1,57 @@
+//! Where workers get their gates.
+use dg_gate::{Asker, Gate};
+use dg_live::{LiveFault, run_live};
+use dg_records::Record;
+use dg_transcript::Transcript;
+use dg_world::TestId;
+use std::alloc::{AllocError, Global};
+
+/// Makes gates for workers, and takes them back.
+pub trait MakeGate {
+    ghost use Rattle.std.specs.Prelude.{◌+◌, ◌^◌, ◌<◌, IfOk};
+
+    type Made: Gate + Drop;
+
+    /// A gate for one test of a worker: it may be called, and 65,536 of its calls may still be refused.
+    fn make(&self, worker: usize) -> Result<Self::Made, AllocError>
+        ensures room { IfOk result (λ g. Self.Made.count g + 65536 < 2 ^ 64) }
+        ensures ready { IfOk result Self.Made.is_ready };
+
+    /// Takes the gate back, after the run of that test.
+    fn end(&self, worker: usize, gate: Self::Made);
+}
+
+/// Runs tests live for workers. Whatever makes gates does.
+pub trait RunTests {
+    ghost use Rattle.std.specs.Prelude.{◌≡◌, IfOk, IfErr};
+    ghost use Rattle.dg_living.specs.Replayed.{transcript_of};
+    ghost use Rattle.dg_live.specs.Walk.{CanFail};
+
+    /// Judges a test over a gate of its own, as [`run_live`] does: its record, and the transcript of what that read.
+    fn run_test<A: Asker>(
+        &self,
+        alloc: Global,
+        worker: usize,
+        test: TestId,
+        asker: &mut A,
+    ) -> Result<(Record, Transcript), LiveFault>
+        ensures run { IfOk result (λ p. (p.0.test ≡ test) × (p.1 ≡ transcript_of p.0.reads)) }
+        ensures fault { IfErr result CanFail };
+}
+
+impl<M: MakeGate> RunTests for M {
+    fn run_test<A: Asker>(
+        &self,
+        alloc: Global,
+        worker: usize,
+        test: TestId,
+        asker: &mut A,
+    ) -> Result<(Record, Transcript), LiveFault> {
+        let Ok(mut gate) = self.make(worker) else {
+            return Err(LiveFault::Memory);
+        };
+        let run = run_live(alloc, test, &mut gate, asker);
+        self.end(worker, gate);
+        run
+    }
+}
