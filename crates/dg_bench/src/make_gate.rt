@@ -27,6 +27,9 @@ pub trait RunTests {
     ghost use Rattle.dg_living.specs.Replayed.{transcript_of};
     ghost use Rattle.dg_live.specs.Walk.{CanFail};
 
+    // What has to hold before a test is run, as that what is called there may be called.
+    ghost is_ready: { Self → Type 0 };
+
     /// Judges a test over a gate of its own, as [`run_live`] does: its record, and the transcript of what that read.
     fn run_test<A: Asker>(
         &self,
@@ -35,11 +38,14 @@ pub trait RunTests {
         test: TestId,
         asker: &mut A,
     ) -> Result<(Record, Transcript), LiveFault>
+        requires ready { is_ready self.now }
         ensures run { IfOk result (λ p. (p.0.test ≡ test) × (p.1 ≡ transcript_of p.0.reads)) }
         ensures fault { IfErr result CanFail };
 }
 
 impl<M: MakeGate> RunTests for M {
+    ghost is_ready = { λ m. Unit {0} };
+
     fn run_test<A: Asker>(
         &self,
         alloc: Global,

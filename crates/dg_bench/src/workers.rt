@@ -35,7 +35,9 @@ impl<'a, B: Room, M: RunTests, R: Wait> Crew<'a, B, M, R> {
         client: &mut Client<'a, B, R>,
         worker: usize,
         test: &TestId,
-    ) -> Result<(), WorkFault> {
+    ) -> Result<(), WorkFault>
+        requires ready { M.is_ready self.now.maker.now }
+    {
         let own = test.copy(self.alloc)?;
         match self.work {
             Work::Live => match self.maker.run_test(self.alloc, worker, own, client) {
@@ -51,7 +53,8 @@ impl<'a, B: Room, M: RunTests, R: Wait> Crew<'a, B, M, R> {
 
     /// Judges the tests of a worker: from its own number on, each as many further as there are workers.
     fn run(&self, worker: usize, pass: Pass<B>) -> Result<(), WorkFault>
-        requires { 0 < self.now.workers }
+        requires some { 0 < self.now.workers }
+        requires ready { M.is_ready self.now.maker.now }
     {
         let mut client = Client::new(self.rt, self.alloc, self.bench, pass);
         for test in self.tests.iter().skip(worker).step_by(self.workers) {
@@ -80,13 +83,15 @@ fn run_crew<B: Room + Send + Sync, M: RunTests + Sync, R: Threads + Wait + Sync>
     crew: &Crew<'_, B, M, R>,
     mut pass: Pass<B>,
 ) -> Result<(), WorkFault>
-    requires { 0 < crew.now.workers }
+    requires some { 0 < crew.now.workers }
+    requires ready { M.is_ready crew.now.maker.now }
 {
     thread::scope(
         thread::scope_env(),
         crew.rt,
         |scope| -> Result<(), WorkFault>
-            requires { 0 < crew.now.workers }
+            requires some { 0 < crew.now.workers }
+            requires ready { M.is_ready crew.now.maker.now }
         {
             let mut handles = Vec::new(crew.alloc);
             let mut starting = Ok(());
@@ -98,7 +103,8 @@ fn run_crew<B: Room + Send + Sync, M: RunTests + Sync, R: Threads + Wait + Sync>
                 let twin = pass.twin();
                 match scope.spawn(
                     move || -> Result<(), WorkFault>
-                        requires { 0 < crew.now.workers }
+                        requires some { 0 < crew.now.workers }
+                        requires ready { M.is_ready crew.now.maker.now }
                     { crew.run(worker, twin) },
                 ) {
                     Ok(handle) => handles.push_reserved(handle),
@@ -128,7 +134,8 @@ pub fn run_workers<B: Room + Send + Sync, M: RunTests + Sync, R: Threads + Wait 
     workers: usize,
     work: Work,
 ) -> Result<(Pass<B>, Reply), (Pass<B>, WorkFault)>
-    requires { (0 < workers) × (workers ≤ 16) }
+    requires few { (0 < workers) × (workers ≤ 16) }
+    requires ready { M.is_ready maker.now }
     ensures ok { IfOk result (λ r. IsReported pass r.0 r.1) }
     ensures fault { IfErr result (λ r. Stops pass r.0 r.1) }
 {

@@ -6,20 +6,19 @@ mod fault;
 mod live;
 mod progress;
 mod reading;
-mod replay;
 mod request;
 mod run;
 mod session;
 mod suite;
 #[cfg(test)]
 mod tests;
+mod transcripts;
 mod writing;
 
 use crate::fault::{ProgramFault, SessionFault};
 use crate::progress::Progress;
-use crate::run::run_plan;
+use crate::run::{Outcome, run_plan};
 use crate::session::run_session;
-use dg_bytes::Bytes;
 use dg_core::Core;
 use dg_folders::RunFault;
 use dg_line::{LineFault, Mode, Plan, plan_of};
@@ -105,14 +104,20 @@ fn shows_progress(rt: &HostRuntime) -> bool {
 /// Prints the report of a run, and gives its status.
 fn print_report(
     rt: &HostRuntime,
-    run: Result<(Bytes, u8), RunFault>,
-    progress: &Progress<'_, HostRuntime>,
+    run: Result<Outcome, RunFault>,
+    progress: &Progress<HostRuntime>,
 ) -> Result<u8, ProgramFault> {
     progress.clear();
     match run {
-        Ok((report, status)) => {
+        Ok(
+            Outcome {
+                report,
+                status,
+                counts,
+            },
+        ) => {
             print_bytes(rt, report.as_slice())?;
-            progress.finish();
+            progress.finish(counts);
             Ok(status)
         }
         Err(fault) => Err(ProgramFault::Run(fault)),
@@ -147,8 +152,8 @@ fn main(rt: HostRuntime) -> ExitCode {
         Ok(Some(plan)) => match plan.mode {
             Mode::Session => serve(&rt, plan),
             Mode::Run | Mode::Rejudge => {
-                let mut progress = Progress::new(&rt, shows_progress(&rt));
-                let run = run_plan(&rt, plan, &mut progress);
+                let progress = Progress::new(rt, shows_progress(&rt));
+                let run = run_plan(&rt, plan, &progress);
                 print_report(&rt, run, &progress)
             }
         },

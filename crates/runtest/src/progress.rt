@@ -6,6 +6,7 @@ ghost use Rattle.runtest.specs.Progress.{is_result};
 use dg_results::{Class, Verdict};
 use dg_world::TestId;
 use std::str;
+use std::sync::atomic::{AtomicUsize, Ordering};
 use std::time::{Clock, Instant};
 
 /// Whether a line of this class is a result, and no message.
@@ -37,45 +38,66 @@ fn unexpected_in(verdict: &Verdict) -> usize
         .count()
 }
 
-/// How far a run is. Where it is not shown nothing is written, and a write that fails changes nothing.
-#[derive(Drop)]
-pub(crate) struct Progress<'a, R> {
-    rt: &'a R,
-    is_shown: bool,
-    began: Option<Instant>,
-    tests: usize,
-    read: usize,
-    done: usize,
+/// What a run came to: its results, those of them that are unexpected, the tests that were evaluated, and the transcripts
+/// that were read.
+#[derive(Clone, Copy)]
+pub(crate) struct Counts {
     results: usize,
     unexpected: usize,
+    evaluated: usize,
+    read: usize,
 }
 
-impl<R: Eprint + Clock + AllocGlobal> Progress<'_, R> {
+impl Counts {
+    /// Of a run that read so many transcripts.
+    pub(crate) fn of_read(read: usize) -> Counts {
+        Counts {
+            results: 0,
+            unexpected: 0,
+            evaluated: 0,
+            read,
+        }
+    }
+
+    /// Counts a test that was evaluated.
+    pub(crate) fn add(&mut self, verdict: &Verdict) {
+        self.evaluated = self.evaluated.saturating_add(1);
+        self.results = self.results.saturating_add(results_in(verdict));
+        self.unexpected = self.unexpected.saturating_add(unexpected_in(verdict));
+    }
+}
+
+/// How far a run is, for all its workers. Where it is not shown nothing is written, and a write that fails changes nothing.
+#[derive(Drop)]
+pub(crate) struct Progress<R> {
+    rt: R,
+    is_shown: bool,
+    began: Option<Instant>,
+    tests: AtomicUsize,
+    done: AtomicUsize,
+    unexpected: AtomicUsize,
+}
+
+impl<R: Eprint + Clock + AllocGlobal> Progress<R> {
     /// A run that begins.
-    pub(crate) fn new(rt: &R, is_shown: bool) -> Progress<'_, R> {
+    pub(crate) fn new(rt: R, is_shown: bool) -> Progress<R> {
+        let began = Instant::now(&rt).ok();
         Progress {
             rt,
             is_shown,
-            began: Instant::now(rt).ok(),
-            tests: 0,
-            read: 0,
-            done: 0,
-            results: 0,
-            unexpected: 0,
+            began,
+            tests: AtomicUsize::new(0),
+            done: AtomicUsize::new(0),
+            unexpected: AtomicUsize::new(0),
         }
     }
 
     /// So many tests are judged.
-    pub(crate) fn expect(&mut self, tests: usize) {
-        self.tests = tests;
+    pub(crate) fn expect(&self, tests: usize) {
+        self.tests.store(tests, Ordering::SeqCst);
     }
 
-    /// A transcript was read.
-    pub(crate) fn count_transcript(&mut self) {
-        self.read = self.read.saturating_add(1);
-    }
-
-    /// The judging of a test begins.
+    /// A test begins.
     pub(crate) fn begin(&self, test: &TestId) {
         if !self.is_shown {
             return;
@@ -85,17 +107,21 @@ impl<R: Eprint + Clock + AllocGlobal> Progress<'_, R> {
         let Ok(name) = format!(in self.rt.alloc(); "{board} {script}") else {
             return;
         };
-        let (done, tests, unexpected) = (self.done, self.tests, self.unexpected);
-        let _ = eprint!(self.rt;
+        let done = self.done.load(Ordering::SeqCst);
+        let tests = self.tests.load(Ordering::SeqCst);
+        let unexpected = self.unexpected.load(Ordering::SeqCst);
+        if let Ok(line) = format!(in self.rt.alloc();
             "\r{done} of {tests} tests, {unexpected} unexpected: {name:.34}\x1b[K"
-        );
+        ) {
+            let _ = eprint!(self.rt; "{line}");
+        }
     }
 
     /// A test was judged.
-    pub(crate) fn end(&mut self, verdict: &Verdict) {
-        self.done = self.done.saturating_add(1);
-        self.results = self.results.saturating_add(results_in(verdict));
-        self.unexpected = self.unexpected.saturating_add(unexpected_in(verdict));
+    pub(crate) fn end(&self, verdict: &Verdict) {
+        self.done.fetch_add(1, Ordering::SeqCst);
+        self.unexpected
+            .fetch_add(unexpected_in(verdict), Ordering::SeqCst);
     }
 
     /// Clears the line.
@@ -106,14 +132,19 @@ impl<R: Eprint + Clock + AllocGlobal> Progress<'_, R> {
     }
 
     /// Writes the last line.
-    pub(crate) fn finish(&self) {
+    pub(crate) fn finish(&self, counts: Counts) {
         if !self.is_shown {
             return;
         }
-        let (unexpected, results, seconds) = (self.unexpected, self.results, self.seconds());
-        let (done, read) = (self.done, self.read);
+        let Counts {
+            results,
+            unexpected,
+            evaluated,
+            read,
+        } = counts;
+        let seconds = self.seconds();
         let _ = eprintln!(self.rt;
-            "{unexpected} unexpected of {results}, {seconds} seconds, {done} evaluated, {read} from transcripts"
+            "{unexpected} unexpected of {results}, {seconds} seconds, {evaluated} evaluated, {read} from transcripts"
         );
     }
 
@@ -122,7 +153,7 @@ impl<R: Eprint + Clock + AllocGlobal> Progress<'_, R> {
         let Some(began) = &self.began else {
             return 0;
         };
-        match began.elapsed(self.rt) {
+        match began.elapsed(&self.rt) {
             Ok(time) => time.as_secs(),
             Err(_) => 0,
         }

@@ -1,37 +1,67 @@
 //! A run over a suite's folders.
-use crate::live::{Written, run_tests};
-use crate::progress::Progress;
-use crate::replay::judge_tests;
+ghost use Rattle.std.specs.Prelude.{◌≡◌, map};
+ghost use Rattle.once_cell.specs.Once.{cell_name};
+
+use crate::live::Runner;
+use crate::progress::{Counts, Progress};
 use crate::session::cause_number;
-use crate::suite::{Suite, text_of};
+use crate::suite::{Suite, pattern_lost, text_of};
+use crate::transcripts::{path_of, write_transcripts};
+use dg_bench::{Bench, Call, Opened, Pass, Room, Work, WorkFault, run_workers};
 use dg_bytes::{Bytes, Seq};
-use dg_core::Core;
-use dg_folders::{
-    Intake, RunFault, read_suite, read_transcript, sum_path, transcript_path, write_in_place,
-    write_transcript,
-};
+use dg_core::Reply;
+use dg_folders::{Intake, RunFault, read_suite, read_transcript, sum_path, write_in_place};
 use dg_line::{Mode, Plan};
-use dg_world::{Edit, Refusal, TestId};
+use dg_pipes::Fresh;
+use dg_world::{Edit, Refusal, Selection, TestId};
 use std::alloc::Global;
+use std::marker::Brand;
 use std::process::{Processes, SystemProcess};
 use std::rt::Files;
 use std::sync::Wait;
 use std::thread::Threads;
 use std::time::Clock;
 
-/// Where the transcript of a test stands in the folder of a run.
-fn path_of(alloc: Global, outdir: &str, test: &TestId) -> Result<String, RunFault> {
-    let board = text_of(alloc, test.board().as_slice())?;
-    let script = text_of(alloc, test.script().as_slice())?;
-    Ok(transcript_path(alloc, outdir, board.as_str(), script.as_str())?)
+/// How many calls the history of a run may have.
+const CALLS: usize = 262_144;
+
+/// What a run came to.
+#[derive(Drop)]
+pub(crate) struct Outcome {
+    pub(crate) report: Bytes,
+    pub(crate) status: u8,
+    pub(crate) counts: Counts,
+}
+
+/// How a run goes: its folders, the tool, and how many tests are judged at a time.
+#[derive(Drop)]
+struct Course {
+    mode: Mode,
+    jobs: usize,
+    srcdir: String,
+    outdir: String,
+    tool: String,
+}
+
+impl Course {
+    /// That of a plan.
+    fn of_plan(alloc: Global, plan: &Plan) -> Result<Course, RunFault> {
+        Ok(Course {
+            mode: plan.mode,
+            jobs: plan.jobs as usize,
+            srcdir: text_of(alloc, plan.srcdir.as_slice())?,
+            outdir: text_of(alloc, plan.outdir.as_slice())?,
+            tool: text_of(alloc, plan.selection.tool.as_slice())?,
+        })
+    }
 }
 
 /// The transcript of a test in the folder of a run becomes that of the test. Whether there is one.
-fn take_transcript<R: Files + AllocGlobal>(
+fn take_transcript<B: Room, R: Files + AllocGlobal + Wait>(
     rt: &R,
     outdir: &str,
     test: &TestId,
-    suite: &mut Suite,
+    suite: &mut Suite<'_, B, R>,
 ) -> Result<bool, RunFault> {
     let alloc = rt.alloc();
     let path = path_of(alloc, outdir, test)?;
@@ -49,108 +79,186 @@ fn take_transcript<R: Files + AllocGlobal>(
             Err(RunFault::BadTranscript(path, line, cause_number(cause)))
         }
         Err(Refusal::Memory) => Err(RunFault::Memory),
-        Err(_) => Err(RunFault::BadFile(path)),
+        Err(_) => Err(suite.fault(RunFault::BadFile(path))),
     }
 }
 
-/// Reads the transcripts of the selected tests, in the order of the tests.
-fn take_transcripts<R: Files + AllocGlobal + Clock + Eprint>(
+/// Reads the transcripts of tests, in their order. Gives how many there are.
+fn take_transcripts<B: Room, R: Files + AllocGlobal + Wait>(
     rt: &R,
     outdir: &str,
-    suite: &mut Suite,
-    progress: &mut Progress<'_, R>,
-) -> Result<(), RunFault> {
-    let tests: Seq<TestId> = suite.core.selected(rt.alloc())?;
-    for test in tests.as_slice() {
+    tests: &[TestId],
+    suite: &mut Suite<'_, B, R>,
+) -> Result<usize, RunFault> {
+    let mut read = 0usize;
+    for test in tests {
         if take_transcript(rt, outdir, test, suite)? {
-            progress.count_transcript();
+            read = read.saturating_add(1);
         }
     }
-    Ok(())
+    Ok(read)
 }
 
-/// Writes the transcripts of tests that were run, in their order.
-fn write_transcripts<R: Files + AllocGlobal>(
+/// Selects, and reads the files of the suite.
+fn take_suite<B: Room, R: Files + AllocGlobal + Wait + Clone + Drop>(
     rt: &R,
-    outdir: &str,
-    written: &[Written],
+    course: &Course,
+    selection: Selection,
+    suite: &mut Suite<'_, B, R>,
 ) -> Result<(), RunFault> {
-    for run in written {
-        let path = path_of(rt.alloc(), outdir, &run.test)?;
-        write_transcript(rt, path.as_str(), run.text.as_slice())?;
-    }
-    Ok(())
-}
-
-/// Judges what is selected: by running every test, with the transcripts written down, or by the transcripts that there are.
-fn judge<R>(
-    rt: &R,
-    mode: Mode,
-    outdir: &str,
-    suite: &mut Suite,
-    progress: &mut Progress<'_, R>,
-) -> Result<(Bytes, u8), RunFault>
-where
-    R: Files
-        + AllocGlobal
-        + Processes<Started = SystemProcess>
-        + Threads
-        + Wait
-        + Clock
-        + Eprint
-        + Copy
-        + Drop
-        + Send
-        + 'static,
-{
-    if mode == Mode::Rejudge {
-        take_transcripts(rt, outdir, suite, progress)?;
-        judge_tests(rt, suite, progress)?;
-        return suite.judge();
-    }
-    let written = run_tests(rt, suite, progress)?;
-    let report = suite.judge()?;
-    write_transcripts(rt, outdir, written.as_slice())?;
-    Ok(report)
-}
-
-/// Reads the suite of a plan, judges what is selected, live or by the transcripts that an earlier run wrote, and writes the
-/// report to `OUTDIR/TOOL.sum`. Gives the report and its status.
-pub(crate) fn run_plan<R>(
-    rt: &R,
-    plan: Plan,
-    progress: &mut Progress<'_, R>,
-) -> Result<(Bytes, u8), RunFault>
-where
-    R: Files
-        + AllocGlobal
-        + Processes<Started = SystemProcess>
-        + Threads
-        + Wait
-        + Clock
-        + Eprint
-        + Copy
-        + Drop
-        + Send
-        + 'static,
-{
-    let alloc = rt.alloc();
-    let mode = plan.mode;
-    let srcdir = text_of(alloc, plan.srcdir.as_slice())?;
-    let outdir = text_of(alloc, plan.outdir.as_slice())?;
-    let tool = text_of(alloc, plan.selection.tool.as_slice())?;
-    let mut suite = Suite {
-        alloc,
-        core: Core::new(alloc)?,
-    };
-    match suite.take(Edit::Select(plan.into_selection())) {
+    match suite.take(Edit::Select(selection)) {
         Ok(()) => {}
         Err(Refusal::Memory) => return Err(RunFault::Memory),
         Err(_) => return Err(RunFault::HistoryFull),
     }
-    read_suite(rt, srcdir.as_str(), tool.as_bytes(), &mut suite)?;
-    let (report, status) = judge(rt, mode, outdir.as_str(), &mut suite, progress)?;
-    let path = sum_path(alloc, outdir.as_str(), tool.as_str())?;
+    let tool = course.tool.as_bytes();
+    match read_suite(rt, course.srcdir.as_str(), tool, suite) {
+        Ok(()) => Ok(()),
+        Err(fault) => Err(suite.fault(fault)),
+    }
+}
+
+/// Reads all that a run reads. Gives the selected tests, and how many transcripts there are, beside a pass that has seen the edits.
+fn gather<B: Room, R: Files + AllocGlobal + Wait + Clone + Drop>(
+    rt: &R,
+    bench: &Bench<B>,
+    course: &Course,
+    selection: Selection,
+) -> Result<(Pass<B>, Seq<TestId>, usize), RunFault> {
+    let mut suite = Suite::new(rt, rt.alloc(), bench);
+    take_suite(rt, course, selection, &mut suite)?;
+    let tests = suite.tests()?;
+    let read = match course.mode {
+        Mode::Rejudge => {
+            take_transcripts(rt, course.outdir.as_str(), tests.as_slice(), &mut suite)?
+        }
+        Mode::Run | Mode::Session => 0,
+    };
+    Ok((suite.into_pass(), tests, read))
+}
+
+/// The fault of workers that stopped.
+fn fault_of(alloc: Global, fault: WorkFault) -> RunFault {
+    match fault {
+        WorkFault::Bench(_) => RunFault::HistoryFull,
+        WorkFault::Thread => RunFault::NoThread,
+        WorkFault::Memory => RunFault::Memory,
+        WorkFault::PatternLost(test) => pattern_lost(alloc, &test),
+    }
+}
+
+/// Judges what is selected: by running every test, or by the transcripts that there are. Gives the report and its status.
+fn judge<B: Room + Send + Sync, R>(
+    rt: &R,
+    bench: &Bench<B>,
+    course: &Course,
+    pass: Pass<B>,
+    progress: &Progress<R>,
+) -> Result<(Pass<B>, Bytes, u8), RunFault>
+where
+    R: AllocGlobal
+        + Processes<Started = SystemProcess>
+        + Threads
+        + Wait
+        + Clock
+        + Eprint
+        + Copy
+        + Drop
+        + Send
+        + Sync
+        + 'static,
+{
+    let alloc = rt.alloc();
+    let runner = Runner {
+        rt: *rt,
+        opener: move |output| Fresh::open(*rt, alloc, output),
+        progress,
+    };
+    let workers = course.jobs.clamp(1, 16);
+    let work = match course.mode {
+        Mode::Rejudge => Work::Rejudge,
+        Mode::Run | Mode::Session => Work::Live,
+    };
+    match run_workers(rt, alloc, bench, pass, &runner, workers, work) {
+        Ok((pass, reply)) => match reply {
+            Reply::Sum(report, status) => Ok((pass, report, status)),
+            Reply::Pending(_) => Err(RunFault::HistoryFull),
+        },
+        Err((_, fault)) => Err(fault_of(alloc, fault)),
+    }
+}
+
+/// What the calls of a run that read so many transcripts come to.
+fn counts_of(calls: &[Call], read: usize) -> Counts {
+    let mut counts = Counts::of_read(read);
+    for call in calls {
+        match call {
+            Call::Live(record, _) | Call::Commit(record) => counts.add(record.verdict()),
+            Call::Edit(_) | Call::Ask(_, _) | Call::Report(_) => {}
+        }
+    }
+    counts
+}
+
+/// Runs a plan over a bench of these cells.
+fn run_over<B: Room + Send + Sync, R>(
+    rt: &R,
+    opened: Opened,
+    plan: Plan,
+    progress: &Progress<R>,
+) -> Result<Outcome, RunFault>
+where
+    R: Files
+        + AllocGlobal
+        + Processes<Started = SystemProcess>
+        + Threads
+        + Wait
+        + Clock
+        + Eprint
+        + Copy
+        + Drop
+        + Send
+        + Sync
+        + 'static,
+    requires { map cell_name opened.cells.items ≡ B.names }
+{
+    let alloc = rt.alloc();
+    let course = Course::of_plan(alloc, &plan)?;
+    let bench = opened.named::<B>(alloc)?;
+    let (pass, tests, read) = gather(rt, &bench, &course, plan.into_selection())?;
+    progress.expect(tests.len());
+    let (mut pass, report, status) = judge(rt, &bench, &course, pass, progress)?;
+    let Ok(history) = bench.into_history(&mut pass) else {
+        return Err(RunFault::HistoryFull);
+    };
+    let outdir = course.outdir.as_str();
+    write_transcripts(rt, outdir, tests.as_slice(), history.calls())?;
+    let path = sum_path(alloc, outdir, course.tool.as_str())?;
     write_in_place(rt, path.as_str(), report.as_slice())?;
-    Ok((report, status))
+    Ok(Outcome {
+        report,
+        status,
+        counts: counts_of(history.calls(), read),
+    })
+}
+
+/// Reads the suite of a plan, judges what is selected, live or by the transcripts that an earlier run wrote, and writes the
+/// transcripts of what was run, and the report to `OUTDIR/TOOL.sum`.
+pub(crate) fn run_plan<R>(rt: &R, plan: Plan, progress: &Progress<R>) -> Result<Outcome, RunFault>
+where
+    R: Files
+        + AllocGlobal
+        + Processes<Started = SystemProcess>
+        + Threads
+        + Wait
+        + Clock
+        + Eprint
+        + Copy
+        + Drop
+        + Send
+        + Sync
+        + 'static,
+{
+    let opened = Opened::new(rt.alloc(), CALLS)?;
+    run_over::<Brand, R>(rt, opened, plan, progress)
 }

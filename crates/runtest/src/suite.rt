@@ -1,51 +1,110 @@
-//! A core that a suite's files are put into, and that answers what live runs ask of it.
-use dg_bytes::Bytes;
-use dg_core::{Core, CoreFault};
+//! A bench that a suite's files are put into.
+use dg_bench::{Bench, BenchRefusal, Pass, Room, Work};
+use dg_bytes::Seq;
 use dg_folders::{Intake, RunFault};
-use dg_gate::{AskFault, Asker};
-use dg_world::{Answer, Edit, Question, Refusal, TestId};
+use dg_world::{Edit, Refusal, TestId};
 use std::alloc::Global;
-use std::str;
+use std::sync::Wait;
+use std::{mem, str};
 
-/// A core that a suite's files are put into.
-pub(crate) struct Suite {
-    pub(crate) alloc: Global,
-    pub(crate) core: Core,
+/// A bench that a suite's files are put into.
+pub(crate) struct Suite<'a, B: Room, R: Wait> {
+    rt: &'a R,
+    alloc: Global,
+    bench: &'a Bench<B>,
+    pass: Pass<B>,
+    is_full: bool,
 }
 
-impl Drop for Suite {
+impl<B: Room, R: Wait> Drop for Suite<'_, B, R> {
     fn drop(self) {
-        let Suite { alloc: _, core: _ } = self;
+        let Suite {
+            rt: _,
+            alloc: _,
+            bench: _,
+            pass: _,
+            is_full: _,
+        } = self;
     }
 }
 
-impl Intake for Suite {
+impl<B: Room, R: Wait> Intake for Suite<'_, B, R> {
     fn take(&mut self, edit: Edit) -> Result<(), Refusal> {
-        self.core.edit(self.alloc, edit)
-    }
-}
-
-impl Asker for Suite {
-    ghost use Rattle.dg_core.specs.Core.{IsAskedOf};
-
-    ghost step = { λ before question answer after. IsAskedOf before.core after.core question answer };
-
-    fn ask(&mut self, question: &Question) -> Result<Answer, AskFault> {
-        match self.core.ask(self.alloc, question) {
-            Ok(answer) => Ok(answer),
-            Err(_) => Err(AskFault::Memory),
+        let pass = mem::replace(&mut self.pass, self.bench.pass());
+        match self.bench.edit(self.rt, self.alloc, pass, edit) {
+            Ok((pass, _receipt)) => {
+                self.pass = pass;
+                Ok(())
+            }
+            Err((pass, refusal)) => {
+                self.pass = pass;
+                Err(self.refusal_of(refusal))
+            }
         }
     }
 }
 
-impl Suite {
-    /// The report of what is selected, and its status.
-    pub(crate) fn judge(&mut self) -> Result<(Bytes, u8), RunFault> {
-        match self.core.settle(self.alloc) {
-            Ok(report) => Ok(report),
-            Err(CoreFault::PatternLost(test)) => Err(pattern_lost(self.alloc, &test)),
-            Err(CoreFault::Memory) => Err(RunFault::Memory),
+impl<'a, B: Room, R: Wait> Suite<'a, B, R> {
+    /// No files yet.
+    pub(crate) fn new(rt: &'a R, alloc: Global, bench: &'a Bench<B>) -> Suite<'a, B, R> {
+        Suite {
+            rt,
+            alloc,
+            bench,
+            pass: bench.pass(),
+            is_full: false,
         }
+    }
+
+    /// Why an edit was not made. That the history is full is kept.
+    fn refusal_of(&mut self, refusal: BenchRefusal) -> Refusal {
+        match refusal {
+            BenchRefusal::Edit(refusal) => refusal,
+            BenchRefusal::Memory => Refusal::Memory,
+            BenchRefusal::HistoryFull | BenchRefusal::Shorter { seen: _, found: _ } => {
+                self.is_full = true;
+                Refusal::TooMany
+            }
+        }
+    }
+
+    /// The fault of a suite that was not taken whole.
+    pub(crate) fn fault(&self, fault: RunFault) -> RunFault {
+        if self.is_full {
+            RunFault::HistoryFull
+        } else {
+            fault
+        }
+    }
+
+    /// The selected tests, in order.
+    pub(crate) fn tests(&mut self) -> Result<Seq<TestId>, RunFault> {
+        let pass = mem::replace(&mut self.pass, self.bench.pass());
+        match self.bench.tests(self.rt, self.alloc, pass, Work::Live) {
+            Ok((pass, tests)) => {
+                self.pass = pass;
+                Ok(tests)
+            }
+            Err((pass, refusal)) => {
+                self.pass = pass;
+                match refusal {
+                    BenchRefusal::Memory => Err(RunFault::Memory),
+                    _ => Err(RunFault::HistoryFull),
+                }
+            }
+        }
+    }
+
+    /// A pass that has seen all edits.
+    pub(crate) fn into_pass(self) -> Pass<B> {
+        let Suite {
+            rt: _,
+            alloc: _,
+            bench: _,
+            pass,
+            is_full: _,
+        } = self;
+        pass
     }
 }
 

@@ -1,14 +1,13 @@
 //! Growths that are refused in a live run, and where it is kept.
 use super::growth::{ROOM, ROUNDS, Rounds, take_all};
-use crate::suite::Suite;
 use dg_bytes::Bytes;
 use dg_core::{Core, Reply as Told};
 use dg_eval::JobFault;
-use dg_gate::{AskFault, Ended, Piece, Reply, ScriptGate};
+use dg_gate::{AskFault, Asker, Ended, Piece, Reply, ScriptGate};
 use dg_live::{LiveFault, run_live};
 use dg_records::Record;
 use dg_transcript::{Transcript, encode};
-use dg_world::{Edit, Refusal, TestId};
+use dg_world::{Answer, Edit, Question, Refusal, TestId};
 use std::alloc::{AllocError, Global};
 use std::collections::VecDeque;
 use std::test::Fail;
@@ -41,13 +40,38 @@ impl From<AllocError> for Short {
     }
 }
 
-/// A suite with the script.
-fn suite_of(alloc: Global) -> Option<Suite> {
+/// A core with the script, which answers what the run asks of it.
+struct Desk {
+    alloc: Global,
+    core: Core,
+}
+
+impl Drop for Desk {
+    fn drop(self) {
+        let Desk { alloc: _, core: _ } = self;
+    }
+}
+
+impl Asker for Desk {
+    ghost use Rattle.dg_core.specs.Core.{IsAskedOf};
+
+    ghost step = { λ before question answer after. IsAskedOf before.core after.core question answer };
+
+    fn ask(&mut self, question: &Question) -> Result<Answer, AskFault> {
+        match self.core.ask(self.alloc, question) {
+            Ok(answer) => Ok(answer),
+            Err(_) => Err(AskFault::Memory),
+        }
+    }
+}
+
+/// A desk with the script.
+fn desk_of(alloc: Global) -> Option<Desk> {
     let name = Bytes::from_slice(alloc, b"t/a.exp").ok()?;
     let text = Bytes::from_slice(alloc, SCRIPT).ok()?;
     let mut core = Core::new(alloc).ok()?;
     core.edit(alloc, Edit::PutFile(name, text)).ok()?;
-    Some(Suite { alloc, core })
+    Some(Desk { alloc, core })
 }
 
 /// What a gate answers to a child that takes what it is sent, writes an `x`, and exits.
@@ -74,14 +98,14 @@ fn why(fault: LiveFault) -> Short {
 /// Runs the test.
 fn run(
     alloc: Global,
-    suite: &mut Suite,
+    desk: &mut Desk,
     replies: VecDeque<Reply>,
 ) -> Result<(Record, Transcript), Short> {
     let Ok(test) = TestId::new(alloc, b"unix", b"t/a.exp") else {
         return Err(Short::Memory);
     };
     let mut gate = ScriptGate::new(replies);
-    match run_live(alloc, test, &mut gate, suite) {
+    match run_live(alloc, test, &mut gate, desk) {
         Ok(run) => Ok(run),
         Err(fault) => Err(why(fault)),
     }
@@ -99,44 +123,44 @@ fn why_not_kept(alloc: Global, refusal: Refusal, transcript: &Transcript) -> Sho
 /// Keeps a run. One that isn't kept comes back.
 fn keep(
     alloc: Global,
-    suite: &mut Suite,
+    desk: &mut Desk,
     record: Record,
     transcript: Transcript,
 ) -> Result<(), Short> {
-    match suite.core.commit_live(alloc, record, transcript) {
+    match desk.core.commit_live(alloc, record, transcript) {
         Ok(()) => Ok(()),
         Err((refusal, _, back)) => Err(why_not_kept(alloc, refusal, &back)),
     }
 }
 
 /// Runs the test, and keeps the run.
-fn run_and_keep(alloc: Global, suite: &mut Suite, replies: VecDeque<Reply>) -> Result<(), Short> {
-    match run(alloc, suite, replies) {
-        Ok((record, transcript)) => keep(alloc, suite, record, transcript),
+fn run_and_keep(alloc: Global, desk: &mut Desk, replies: VecDeque<Reply>) -> Result<(), Short> {
+    match run(alloc, desk, replies) {
+        Ok((record, transcript)) => keep(alloc, desk, record, transcript),
         Err(short) => Err(short),
     }
 }
 
 /// Runs the test beside a block of so many bytes, and keeps the run.
-fn attempt(alloc: Global, suite: &mut Suite, pad: usize) -> Result<(), Short> {
+fn attempt(alloc: Global, desk: &mut Desk, pad: usize) -> Result<(), Short> {
     let replies = replies_of(alloc)?;
     let Ok(_pad) = Vec::<u8>::with_capacity(alloc, pad) else {
         return Err(Short::Memory);
     };
-    run_and_keep(alloc, suite, replies)
+    run_and_keep(alloc, desk, replies)
 }
 
 /// Whether the test was judged rightly, by its run alone.
-fn is_kept(alloc: Global, suite: &Suite) -> bool {
-    match suite.core.report(alloc) {
-        Ok(Told::Sum(text, 0)) => text.is(REPORT) && suite.core.evaluations() == 0,
+fn is_kept(alloc: Global, desk: &Desk) -> bool {
+    match desk.core.report(alloc) {
+        Ok(Told::Sum(text, 0)) => text.is(REPORT) && desk.core.evaluations() == 0,
         _ => false,
     }
 }
 
 /// Whether the test is pending.
-fn is_pending(alloc: Global, suite: &Suite) -> bool {
-    match suite.core.report(alloc) {
+fn is_pending(alloc: Global, desk: &Desk) -> bool {
+    match desk.core.report(alloc) {
         Ok(Told::Pending(tests)) => tests.len() == 1,
         _ => false,
     }
@@ -145,16 +169,16 @@ fn is_pending(alloc: Global, suite: &Suite) -> bool {
 /// Whether the test is run and kept beside a block of so many bytes, or not for want of memory. The core is then as it was, and
 /// keeps a run once the block is gone. Nothing where anything else comes of it.
 fn round(alloc: Global, pad: usize) -> Option<bool> {
-    let mut suite = suite_of(alloc)?;
-    let is_first = match attempt(alloc, &mut suite, pad) {
+    let mut desk = desk_of(alloc)?;
+    let is_first = match attempt(alloc, &mut desk, pad) {
         Ok(()) => true,
         Err(Short::Memory) => false,
         Err(Short::Other) => return None,
     };
-    if !is_first && !(is_pending(alloc, &suite) && attempt(alloc, &mut suite, 0).is_ok()) {
+    if !is_first && !(is_pending(alloc, &desk) && attempt(alloc, &mut desk, 0).is_ok()) {
         return None;
     }
-    if is_kept(alloc, &suite) {
+    if is_kept(alloc, &desk) {
         Some(is_first)
     } else {
         None
