@@ -47,12 +47,11 @@ run() {
     exec "$runtest" --tool kill --srcdir "$work/$1" --outdir "$2" "CAT=$work/cat" "LINES=$work/lines" > "$work/said" 2>&1
 }
 
-# run_whole VERSION FOLDER: how long it takes, and how long until it writes the first file.
+# run_whole VERSION FOLDER: how long it takes.
 run_whole() {
     begun=$(date +%s%N)
     (run "$1" "$2") || return 1
     all=$(($(date +%s%N) - begun))
-    judged=$(($(date -r "$2/transcripts/unix/kill.all/${scripts%% *}.exp.tr" +%s%N) - begun))
 }
 
 # shape FILE: a number for what it says but for its times and where the chunks were cut.
@@ -112,16 +111,18 @@ for version in 1 2; do
     suite $version
     run_whole $version "$work/$version.out" || { cat "$work/said"; exit 1; }
     shapes "$work/$version.out" > "$work/$version.shapes"
+    # from the first file on; a file that has its text already is not written again
+    writes=$((begun + all - $(date -r "$work/$version.out/transcripts/unix/kill.all/${scripts%% *}.exp.tr" +%s%N)))
 done
-echo "a run takes $((all / 1000000)) ms, of which it writes files for $(((all - judged) / 1000000)) ms; seed $seed"
+echo "a run takes $((all / 1000000)) ms, of which it writes files for $((writes / 1000000)) ms; seed $seed"
 cp -r "$work/1.out" "$work/out"
 new=1
 while [ "$turn" -lt "$count" ]; do
     turn=$((turn + 1))
     old=$new
     new=$((3 - old))
-    moment=$(awk -v seed="$seed" -v turn="$turn" -v all="$all" -v judged="$judged" \
-        'BEGIN { srand(seed * 1000 + turn); writes = all - judged; from = turn % 2 ? 0 : judged - writes; to = turn % 2 ? all : judged + writes / 2; print (from + rand() * (to - from)) / 1e9 }')
+    moment=$(awk -v seed="$seed" -v turn="$turn" -v all="$all" -v writes="$writes" \
+        'BEGIN { srand(seed * 1000 + turn); from = turn % 2 ? 0 : all - 2 * writes; to = turn % 2 ? all : all - writes / 2; if (from < 0) from = 0; print (from + rand() * (to - from)) / 1e9 }')
     (run $new "$work/out") &
     runner=$!
     sleep "$moment"
