@@ -13,7 +13,6 @@ use dg_expr::{
     ExprFault, Infix, Instruction, Prefix, Side, apply, apply_one, compile, number, read_expr,
     truth,
 };
-use dg_language::Queue;
 use dg_words::fault_text;
 use std::alloc::{AllocError, Global};
 
@@ -62,14 +61,11 @@ pub fn syntax_error(alloc: Global, text: &[u8]) -> Result<Bytes, AllocError>
 }
 
 /// The code of the expression that a text spells, if it spells one.
-pub fn code_of(alloc: Global, text: &[u8]) -> Result<Option<Queue<Instruction>>, AllocError>
+pub fn code_of(alloc: Global, text: &[u8]) -> Result<Option<Seq<Instruction>>, AllocError>
     ensures { IfOk result (λ code. code ≡ code_in (tree_in text.now)) }
 {
     match read_expr(alloc, text) {
-        Ok(tree) => {
-            let code = compile(alloc, tree)?;
-            Ok(Some(Queue::new(code.into_vec())))
-        }
+        Ok(tree) => Ok(Some(compile(alloc, tree)?)),
         Err(ExprFault::Memory) => Err(AllocError),
         Err(_) => Ok(None),
     }

@@ -1,4 +1,4 @@
--- The words and commands of a text, and an expression's instructions, may go to another thread; threads may share commands.
+-- The words and commands of a text, and an expression's instructions, may go to another thread; threads may share commands and instructions.
 use denote.Param.Send.{IsSend, IsSync, sendable}
 use Rattle.std.proofs.Crossing.{Vec-send, Vec-sync}
 use Rattle.dg_bytes.proofs.bytes.Bytes.TheSendSync as bytes
@@ -32,6 +32,9 @@ Words-sync = seq.the_sync Word.the_row Word-sync
 
 pub Instruction-send : IsSend Instruction.the_row
 Instruction-send = search (sendable, Parts-send, between.the_field_send, before.the_field_send) depth 40
+
+pub Instruction-sync : IsSync Instruction.the_row
+Instruction-sync = search (sendable, Parts-sync, between.the_field_sync, before.the_field_sync) depth 40
 
 Command-send : IsSend Command.the_row
 Command-send = search (sendable, Words-send) depth 20

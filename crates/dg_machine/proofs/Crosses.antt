@@ -1,14 +1,15 @@
 -- An evaluation, running or asking, may go to another thread.
 use denote.Enum.Declared.{shape, variants}
-use denote.Param.Send.{EachSend, IsSend, enum_send, recorded_send, sendable}
+use denote.Param.Send.{EachSend, IsSend, IsSync, enum_send, recorded_send, sendable}
 use Rattle.std.proofs.Crossing.{Arc-send}
 use Rattle.dg_bytes.proofs.bytes.Bytes.TheSendSync as bytes
 use Rattle.dg_bytes.proofs.seq.Seq.TheSendSync as seq
 use Rattle.dg_bytes.specs.contracts.seq.Seq as Seq
-use Rattle.dg_language.proofs.Crosses.{Commands-send, Commands-sync, Instruction-send}
+use Rattle.dg_language.proofs.Crosses.{Commands-send, Commands-sync, Instruction-send, Instruction-sync}
 use Rattle.dg_language.proofs.queue.Queue.TheSendSync as queue
 use Rattle.dg_language.proofs.state.State.TheSendSync as state
-use Rattle.dg_language.specs.contracts.command.Command as Command
+use Rattle.dg_expr.specs.contracts.code.Instruction as Instruction
+use Rattle.dg_shelf.proofs.shelf.Shelf.TheSendSync as shelf
 use Rattle.dg_language.proofs.ask.Ask.TheSendSync as ask
 use Rattle.dg_language.proofs.expect.Pair.TheSendSync as pair
 use Rattle.dg_match.proofs.Crosses.{Pattern-send, Programs-send}
@@ -32,24 +33,42 @@ use Rattle.dg_machine.specs.contracts.frame.Repetition as Repetition
 use Rattle.dg_machine.specs.contracts.frame.Rounds as Rounds
 use Rattle.dg_machine.specs.contracts.machine.Machine as Machine
 use Rattle.dg_machine.specs.contracts.patterns.Prepared as Prepared
+use Rattle.dg_machine.specs.contracts.instructions.Formula as Formula
+use Rattle.dg_machine.specs.contracts.instructions.Instructions as Instructions
 use Rattle.dg_machine.specs.contracts.script.Body as Body
+use Rattle.dg_machine.specs.contracts.script.Commands as Commands
 use Rattle.dg_machine.specs.contracts.script.Script as Script
 use Rattle.dg_machine.specs.contracts.script.Source as Source
 
+Read-send : IsSend Commands.the_row
+Read-send = search (sendable, Commands-send) depth 20
+
+Read-sync : IsSync Commands.the_row
+Read-sync = search (sendable, Commands-sync) depth 20
+
+Formula-send : IsSend Formula.the_row
+Formula-send = let code = seq.the_send Instruction.the_row Instruction-send in search sendable depth 20
+
+Formula-sync : IsSync Formula.the_row
+Formula-sync = let code = seq.the_sync Instruction.the_row Instruction-sync in search sendable depth 20
+
+Instructions-send : IsSend Instructions.the_row
+Instructions-send = let kept = Arc-send Formula.the_row Formula-send Formula-sync in search sendable depth 20
+
 Source-send : IsSend Source.the_field.row
-Source-send = let kept = Arc-send (Seq.the_row Command.the_row) Commands-send Commands-sync in search (sendable, bytes.the_send) depth 20
+Source-send = let kept = Arc-send Commands.the_row Read-send Read-sync in search (sendable, bytes.the_send) depth 20
 
 Script-send : IsSend Script.the_row
 Script-send = search (sendable, Source-send) depth 20
 
 Body-send : IsSend Body.the_row
-Body-send = let kept = Arc-send (Seq.the_row Command.the_row) Commands-send Commands-sync in search (sendable, bytes.the_send) depth 20
+Body-send = let kept = Arc-send Commands.the_row Read-send Read-sync in search (sendable, bytes.the_send) depth 20
 
 Rounds-send : IsSend Rounds.the_field.row
 Rounds-send = search (sendable, bytes.the_send, seq.the_send, queue.the_send, Body-send) depth 20
 
 Calculation-send : IsSend Calculation.the_field.row
-Calculation-send = search (sendable, bytes.the_send, stack.the_send, queue.the_send, Instruction-send) depth 20
+Calculation-send = search (sendable, bytes.the_send, stack.the_send, Instructions-send) depth 20
 
 Repetition-send : IsSend Repetition.the_field.row
 Repetition-send = search (sendable, bytes.the_send, stage.the_field_send, Body-send) depth 20
@@ -134,7 +153,9 @@ Frame-send : IsSend Frame.the_row
 Frame-send = let each = enum_send (shape Frame.the_type) Frames-send in search (recorded_send) depth 20
 
 Machine-send : IsSend Machine.the_field.row
-Machine-send = let frames = stack.the_send Frame.the_row Frame-send in search (sendable, state.the_send, control.the_field_send, Programs-send) depth 20
+Machine-send =
+    let frames = stack.the_send Frame.the_row Frame-send in
+    search (sendable, state.the_send, control.the_field_send, Programs-send, shelf.the_send, Read-send, Read-sync, Formula-send, Formula-sync) depth 20
 
 pub Evaluation-send : IsSend Evaluation.the_row
 Evaluation-send = search (sendable, test.the_send, Machine-send) depth 20

@@ -72,9 +72,9 @@ module _ (d : ℕ) (act : Act) (made : List (List ℕ)) (outer : List (List ℕ 
   unfolding gather
   gather-begins n ps e = rw e refl
 
-  pub gather-ends : (ps : List Substitution) → left ≡ IndexEnds ∷ ps
-      → gather (evaluate d) act made outer text left s k ≡ gather (evaluate d) act made outer text (IndexEnds ∷ ps) s k
-  gather-ends ps e = rw e refl
+  pub gather-on : (p : Substitution) (ps : List Substitution) → left ≡ p ∷ ps
+      → gather (evaluate d) act made outer text left s k ≡ gather (evaluate d) act made outer text (p ∷ ps) s k
+  gather-on p ps e = rw e refl
 
   pub gather-script : (t : List ℕ) (ps : List Substitution) → left ≡ Script t ∷ ps
       → gather (evaluate d) act made outer text left s k

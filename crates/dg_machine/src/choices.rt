@@ -58,7 +58,7 @@ impl Machine {
             depth,
         };
         self.stack.push(Frame::Choosing { choice })?;
-        Ok(self.calculate(alloc, condition.as_slice(), depth)?)
+        Ok(self.calculate(alloc, &condition, depth)?)
     }
 
     /// An `if` goes on, once the value of a condition is there.

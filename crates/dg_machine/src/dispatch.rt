@@ -92,6 +92,7 @@ impl Machine {
         ensures { IfOk result (RunsAs (λ s k. known_command (evaluate depth) (usable s.on_board (builtin_of name.now)) name.now args.now s k) self.old self.new) }
     {
         match find_builtin(self.state.is_on_board(), name) {
+            Some(Builtin::Variable(which)) => Ok(self.variable(alloc, which, args)?),
             Some(which) => Ok(self.builtin(alloc, which, args, depth)?),
             None => Ok(self.pure(alloc, name, args)?),
         }
@@ -127,15 +128,11 @@ impl Machine {
         requires { self.old.control ≡ Control.Go }
         ensures { IfOk result (λ p. Comes (command (evaluate depth) words self.old.state (all_back self.old.stack)) self.old.state.known (weight_of self.old + 2 ^ 250) self.new p) }
     {
-        match self.command(alloc, words.as_slice(), depth)? {
-            Pace::Stands(ask) => {
-                self.stack.push(Frame::Running { words, depth })?;
-                Ok(Pace::Stands(ask))
-            }
-            Pace::Moved => Ok(Pace::Moved),
-            Pace::Over(closing) => Ok(Pace::Over(closing)),
-            Pace::Lost => Ok(Pace::Lost),
+        let pace = self.command(alloc, words.as_slice(), depth)?;
+        if let Pace::Stands(_) = &pace {
+            self.stack.push(Frame::Running { words, depth })?;
         }
+        Ok(pace)
     }
 
     /// Words that were made are used.

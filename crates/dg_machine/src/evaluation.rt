@@ -4,13 +4,18 @@ ghost use Rattle.dg_world.specs.Question.{fits};
 
 use crate::frame::{Closing, Control, Frame, Opening, Stack, Stop};
 use crate::machine::Machine;
+use crate::script::KEPT;
 use dg_bytes::Seq;
 use dg_language::{Ask, Close, State};
 use dg_match::Programs;
 use dg_results::Verdict;
+use dg_shelf::Shelf;
 use dg_world::{Answer, Read, TestId};
 use std::alloc::{AllocError, Global};
 use std::marker::Model;
+
+/// How many scripts, and how many expressions, are kept at most.
+const PLACES: usize = 64;
 
 /// The judging of a test, between two questions. A contract sees its test, the answers so far and
 /// the steps that were taken.
@@ -112,6 +117,8 @@ impl Evaluation {
             stack,
             control: Control::Go,
             programs: Programs::new(alloc),
+            scripts: Shelf::new(alloc, PLACES, KEPT),
+            formulas: Shelf::new(alloc, PLACES, KEPT),
         };
         Ok(Evaluation { test, machine })
     }

@@ -1,26 +1,27 @@
 //! How an expression is computed, an instruction at a time.
-ghost use Rattle.std.specs.Prelude.{◌≡◌, ◌+◌, ◌*◌, ◌^◌, ◌<◌, ◌∷◌, [], IfOk, length};
+ghost use Rattle.std.specs.Prelude.{◌≡◌, ◌+◌, ◌*◌, ◌^◌, ◌<◌, ◌∷◌, [], IfOk, List, length};
 ghost use Rattle.dg_expr.specs.Code.{below, top};
 ghost use Rattle.dg_expr.specs.Truth.{truth_of};
 ghost use Rattle.dg_expr.specs.declared.code.Instruction.{Instruction as Step};
 ghost use Rattle.dg_language.specs.Evaluation.{if_done};
-ghost use Rattle.dg_language.specs.Expressions.{calculate, do_expr, or_no_truth, written};
+ghost use Rattle.dg_language.specs.Expressions.{calculate, do_expr, operand_steps, or_no_truth, written};
 ghost use Rattle.dg_language.specs.Language.{evaluate};
+ghost use Rattle.dg_machine.specs.Instructions.{IsTaken};
+ghost use Rattle.dg_words.specs.Piece.{Piece};
 ghost use Rattle.dg_machine.specs.declared.frame.Control.{Control};
 ghost use Rattle.dg_machine.specs.Choosing.{calculating, calculating_on, calculating_with, instructing};
 ghost use Rattle.dg_machine.specs.Meaning.{all_back, weight_of, Goes};
 
 use crate::frame::{Calculation, Frame, Making, Pace, Stack};
+use crate::instructions::{Instructions, Taken};
 use crate::machine::Machine;
 use dg_bytes::{Bytes, Seq};
-use dg_expr::{Infix, Instruction, Prefix, truth_text};
+use dg_expr::{Infix, Prefix, truth_text};
 use dg_forms::{
-    code_of, in_decimal, operand_of, split, syntax_error, truth_in, value_behind, value_between,
-    with_spaces,
+    in_decimal, split, syntax_error, truth_in, value_behind, value_between, with_spaces,
 };
-use dg_language::{Code, Purpose};
+use dg_language::{Code, Purpose, Queue, Substitution};
 use dg_scope::LONGEST_VALUE;
-use dg_words::Parts;
 use std::alloc::{AllocError, Global};
 
 /// Takes the value on top.
@@ -49,14 +50,15 @@ impl Machine {
     pub(crate) fn calculate(
         &mut self,
         alloc: Global,
-        text: &[u8],
+        text: &Bytes,
         depth: u32,
     ) -> Result<Pace, AllocError>
         requires { self.old.control ≡ Control.Go }
         ensures { IfOk result (λ p. Goes (calculate (evaluate depth) text.now self.old.state (all_back self.old.stack)) self.old.state.known (weight_of self.old + 2 ^ 139) self.new p) }
     {
-        let Some(left) = code_of(alloc, text)? else {
-            let message = syntax_error(alloc, text)?;
+        let formula = self.formulas.reading(alloc, text)?;
+        let Some(left) = Instructions::of(formula) else {
+            let message = syntax_error(alloc, text.as_slice())?;
             return Ok(self.fail(alloc, message)?);
         };
         let _count = left.len();
@@ -102,10 +104,10 @@ impl Machine {
         &mut self,
         alloc: Global,
         mut calculation: Calculation,
-        parts: Parts,
+        left: Queue<Substitution>,
     ) -> Result<Pace, AllocError>
         requires { self.old.control ≡ Control.Go }
-        ensures { IfOk result (λ p. Goes (instructing calculation (Step.Push parts) self.old.state (all_back self.old.stack)) self.old.state.known (weight_of self.old + 2 ^ 67 + 8 + 2 ^ 67 * length calculation.left) self.new p) }
+        ensures { IfOk result (λ p. (pieces : List Piece) → left ≡ operand_steps pieces → Goes (instructing calculation (Step.Push pieces) self.old.state (all_back self.old.stack)) self.old.state.known (weight_of self.old + 2 ^ 67 + 8 + 2 ^ 67 * length calculation.left) self.new p) }
     {
         let depth = calculation.depth;
         let making = Making {
@@ -113,7 +115,7 @@ impl Machine {
             made: Seq::new(alloc),
             outer: Stack::new(alloc),
             text: Bytes::new(alloc),
-            left: operand_of(alloc, &parts)?,
+            left,
         };
         let _count = making.left.len();
         calculation.passed = 0;
@@ -233,20 +235,20 @@ impl Machine {
         &mut self,
         alloc: Global,
         calculation: Calculation,
-        instruction: Instruction,
+        taken: Taken,
     ) -> Result<Pace, AllocError>
         requires { self.old.control ≡ Control.Go }
-        ensures { IfOk result (λ p. Goes (instructing calculation instruction self.old.state (all_back self.old.stack)) self.old.state.known (weight_of self.old + 2 ^ 67 + 8 + 2 ^ 67 * length calculation.left) self.new p) }
+        ensures { IfOk result (λ p. (i : Step) → IsTaken i taken → Goes (instructing calculation i self.old.state (all_back self.old.stack)) self.old.state.known (weight_of self.old + 2 ^ 67 + 8 + 2 ^ 67 * length calculation.left) self.new p) }
     {
-        match instruction {
-            Instruction::Push(parts) => Ok(self.load(alloc, calculation, parts)?),
-            Instruction::ApplyOne(op) => Ok(self.apply_one(alloc, calculation, op)?),
-            Instruction::Apply(op) => Ok(self.apply(alloc, calculation, op)?),
-            Instruction::And(passed) => Ok(self.and(alloc, calculation, passed)?),
-            Instruction::Or(passed) => Ok(self.or(alloc, calculation, passed)?),
-            Instruction::Truth => Ok(self.tell(alloc, calculation)?),
-            Instruction::Unless(passed) => Ok(self.unless(alloc, calculation, passed)?),
-            Instruction::Skip(passed) => Ok(self.go_on(calculation, passed)?),
+        match taken {
+            Taken::Operand(left) => Ok(self.load(alloc, calculation, left)?),
+            Taken::One(op) => Ok(self.apply_one(alloc, calculation, op)?),
+            Taken::Two(op) => Ok(self.apply(alloc, calculation, op)?),
+            Taken::And(passed) => Ok(self.and(alloc, calculation, passed)?),
+            Taken::Or(passed) => Ok(self.or(alloc, calculation, passed)?),
+            Taken::Truth => Ok(self.tell(alloc, calculation)?),
+            Taken::Unless(passed) => Ok(self.unless(alloc, calculation, passed)?),
+            Taken::Skip(passed) => Ok(self.go_on(calculation, passed)?),
         }
     }
 
@@ -260,7 +262,7 @@ impl Machine {
         requires { self.old.control ≡ Control.Go }
         ensures { IfOk result (λ p. Goes (calculating calculation self.old.state (all_back self.old.stack)) self.old.state.known (weight_of self.old + 8 + 2 ^ 67 * length calculation.left) self.new p) }
     {
-        let Some(instruction) = calculation.left.next() else {
+        let Some(taken) = calculation.left.next(alloc)? else {
             let value = take_top(alloc, &mut calculation.values);
             self.end(Code::Done, value);
             return Ok(Pace::Moved);
@@ -269,7 +271,7 @@ impl Machine {
             let passed = calculation.passed - 1;
             return Ok(self.go_on(calculation, passed)?);
         }
-        Ok(self.instruct(alloc, calculation, instruction)?)
+        Ok(self.instruct(alloc, calculation, taken)?)
     }
 
     /// What an operand is made of has ended.
@@ -334,6 +336,6 @@ impl Machine {
             return Ok(Pace::Over(closing));
         }
         self.stack.push(Frame::Writing)?;
-        Ok(self.calculate(alloc, text.as_slice(), depth)?)
+        Ok(self.calculate(alloc, &text, depth)?)
     }
 }

@@ -1,10 +1,10 @@
 //! What stands round an evaluation.
 ghost use Rattle.std.specs.Prelude.{◌≡◌, [], ◌∷◌, OnOk, MatchOption};
 
+use crate::instructions::Instructions;
 use crate::patterns::Prepared;
 use crate::script::{Body, Script};
 use dg_bytes::{Bytes, Seq};
-use dg_expr::Instruction;
 use dg_language::{Ask, Clause, Close, Code, Pair, Purpose, Queue, Substitution};
 use dg_results::Verdict;
 use dg_transcript::{Action, Entry};
@@ -49,7 +49,7 @@ pub(crate) struct Calculation {
     /// How many of the instructions that are left are passed over.
     pub passed: usize,
     /// The instructions that are left.
-    pub left: Queue<Instruction>,
+    pub left: Instructions,
     pub depth: u32,
 }
 

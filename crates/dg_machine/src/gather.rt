@@ -261,7 +261,29 @@ impl Machine {
         Ok(pace)
     }
 
-    /// The words go on being made, by one step, or are used.
+    /// The words go on being made, by this step.
+    fn gather_step(
+        &mut self,
+        alloc: Global,
+        making: Making,
+        step: Substitution,
+        depth: u32,
+    ) -> Result<Pace, AllocError>
+        requires { self.old.control ≡ Control.Go }
+        ensures { IfOk result (λ p. Comes (gather (evaluate depth) (used (evaluate depth) making.purpose) making.made making.outer making.text (step ∷ making.left) self.old.state (all_back self.old.stack)) self.old.state.known (weight_of self.old + budget making.purpose + 8 + 4 * length making.left) self.new p) }
+    {
+        match step {
+            Substitution::Literal(text) => Ok(self.add_value(alloc, making, text, depth)?),
+            Substitution::Variable(name) => Ok(self.gather_variable(alloc, making, name, depth)?),
+            Substitution::IndexBegins(name) => Ok(self.begin_index(alloc, making, name, depth)?),
+            Substitution::IndexEnds => Ok(self.end_index(alloc, making, depth)?),
+            Substitution::Script(script) => Ok(self.run_script(alloc, making, script, depth)?),
+            Substitution::WordEnds => Ok(self.end_word(alloc, making, depth)?),
+            Substitution::ListEnds => Ok(self.end_list(alloc, making, depth)?),
+        }
+    }
+
+    /// The words go on being made, by one step, or are used. A variable, the most frequent step, comes first.
     pub(crate) fn gather(
         &mut self,
         alloc: Global,
@@ -274,19 +296,10 @@ impl Machine {
         make_texts(alloc, &mut making)?;
         match making.left.next() {
             None => Ok(self.use_words(alloc, making, depth)?),
-            Some(Substitution::Literal(text)) => Ok(self.add_value(alloc, making, text, depth)?),
             Some(Substitution::Variable(name)) => {
                 Ok(self.gather_variable(alloc, making, name, depth)?)
             }
-            Some(Substitution::IndexBegins(name)) => {
-                Ok(self.begin_index(alloc, making, name, depth)?)
-            }
-            Some(Substitution::IndexEnds) => Ok(self.end_index(alloc, making, depth)?),
-            Some(Substitution::Script(script)) => {
-                Ok(self.run_script(alloc, making, script, depth)?)
-            }
-            Some(Substitution::WordEnds) => Ok(self.end_word(alloc, making, depth)?),
-            Some(Substitution::ListEnds) => Ok(self.end_list(alloc, making, depth)?),
+            Some(step) => Ok(self.gather_step(alloc, making, step, depth)?),
         }
     }
 }

@@ -11,6 +11,7 @@ mod expecting;
 mod expressions;
 mod frame;
 mod gather;
+mod instructions;
 mod machine;
 mod matches;
 mod opening;

@@ -8,12 +8,14 @@ ghost use Rattle.dg_language.specs.Language.{commands_at, sequence, evaluate};
 ghost use Rattle.dg_machine.specs.Meaning.{all_back, weight_of, ends_with, Begins, Goes, Readies};
 
 use crate::frame::{Closing, Control, Frame, Making, Pace, Stack};
-use crate::script::{Begun, Script};
+use crate::instructions::Formula;
+use crate::script::{Begun, Commands, KEPT, Script};
 use dg_bytes::{Bytes, Seq, TryCopy};
 use dg_forms::wrong_count;
 use dg_language::{Ask, Close, Code, Purpose, Queue, State, Substitution, Touch};
 use dg_match::Programs;
 use dg_scope::LONGEST_VALUE;
+use dg_shelf::Shelf;
 use dg_words::fault_text;
 use std::alloc::{AllocError, Global};
 
@@ -24,6 +26,9 @@ pub(crate) struct Machine {
     pub control: Control,
     /// The `-re` patterns that were built.
     pub programs: Programs,
+    /// The scripts and the expressions that were read lately.
+    pub scripts: Shelf<Commands>,
+    pub formulas: Shelf<Formula>,
 }
 
 /// Written by hand, and so one call for whoever lets a machine go.
@@ -34,6 +39,8 @@ impl Drop for Machine {
             stack: _,
             control: _,
             programs: _,
+            scripts: _,
+            formulas: _,
         } = self;
     }
 }
@@ -48,6 +55,8 @@ impl Machine {
             stack: _,
             control: _,
             programs: _,
+            scripts: _,
+            formulas: _,
         } = self;
         state
     }
@@ -224,6 +233,18 @@ impl Machine {
         Ok(Pace::Moved)
     }
 
+    /// The commands of a text. Unless it is long they are read once, as long as they are kept.
+    fn script(&mut self, alloc: Global, text: Bytes) -> Result<Script, AllocError>
+        ensures all { IfOk result (λ s. s ≡ commands_at text 0) }
+        ensures same { self.new ≡ self.old }
+    {
+        if text.len() > KEPT {
+            return Ok(Script::new(text));
+        }
+        let commands = self.scripts.reading(alloc, &text)?;
+        Ok(Script::kept(commands))
+    }
+
     /// The evaluation of a text begins, inside as many others as this leaves.
     pub(crate) fn enter(
         &mut self,
@@ -234,6 +255,7 @@ impl Machine {
         requires { self.old.control ≡ Control.Go }
         ensures { IfOk result (λ p. Goes (evaluate depth text self.old.state (all_back self.old.stack)) self.old.state.known (weight_of self.old + 4) self.new p) }
     {
-        Ok(self.begin(alloc, Script::new(text), depth)?)
+        let commands = self.script(alloc, text)?;
+        Ok(self.begin(alloc, commands, depth)?)
     }
 }

@@ -32,7 +32,7 @@ impl Machine {
         let test = repetition.test.copy(alloc)?;
         let depth = repetition.depth;
         self.stack.push(Frame::Repeating { repetition })?;
-        Ok(self.calculate(alloc, test.as_slice(), depth)?)
+        Ok(self.calculate(alloc, &test, depth)?)
     }
 
     /// The body of a loop begins, if its condition holds.

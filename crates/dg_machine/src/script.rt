@@ -1,18 +1,20 @@
 //! The commands of a text, read one after another, and texts whose commands are read once.
 ghost use Rattle.std.specs.Prelude.{◌≡◌, ◌++◌, ◌∷◌, [], ◌≤◌, drop, length, IfOk, MatchOption};
+ghost use Rattle.std.specs.Arc.{arc_value};
 ghost use Rattle.dg_language.specs.Language.{commands_at};
 ghost use Rattle.dg_machine.specs.Script.{Begins, Reads, Takes};
 
 use dg_bytes::{Bytes, Seq, TryCopy};
 use dg_forms::steps_of;
 use dg_language::{Command, Queue, Substitution};
+use dg_shelf::Reading;
 use dg_words::{Parsed, Word, WordFault, parse_command};
 use std::alloc::{AllocError, Global};
 use std::marker::Model;
 use std::sync::Arc;
 
 /// The most bytes of a text whose commands are kept: they take many times its room.
-const KEPT: usize = 4096;
+pub(crate) const KEPT: usize = 4096;
 
 /// A command that begins: the steps in which its words are made, or why it can't be read.
 #[derive(Drop)]
@@ -21,11 +23,35 @@ pub(crate) enum Begun {
     Unreadable(WordFault),
 }
 
+/// The commands of a text, all read. A contract sees them.
+#[derive(Drop)]
+pub(crate) struct Commands {
+    all: Seq<Command>,
+}
+
+impl Model for Commands {
+    ghost use Rattle.std.specs.Prelude.{List};
+    ghost use Rattle.dg_language.specs.declared.command.Command.{Command};
+
+    ghost Value = { List Command };
+
+    ghost view = { λ c. c.all };
+}
+
+impl Reading for Commands {
+    ghost read_of = { λ text. commands_at text 0 };
+
+    fn read(alloc: Global, text: &[u8]) -> Result<Commands, AllocError> {
+        let all = commands_of(alloc, text)?;
+        Ok(Commands { all })
+    }
+}
+
 /// Where commands come from: a text that is read as they are taken, or commands that were read.
 #[derive(Drop)]
 enum Source {
     Text(Bytes),
-    Kept(Arc<Seq<Command>>),
+    Kept(Arc<Commands>),
 }
 
 /// Commands, and the place up to which they were taken. A contract sees those that are left.
@@ -122,6 +148,16 @@ impl Script {
         }
     }
 
+    /// All commands that were read of a text.
+    pub fn kept(commands: Arc<Commands>) -> Script
+        ensures { result ≡ arc_value commands }
+    {
+        Script {
+            source: Source::Kept(commands),
+            at: 0,
+        }
+    }
+
     /// Takes the next command.
     pub fn next(&mut self, alloc: Global) -> Result<Option<Begun>, AllocError>
         ensures { IfOk result (Takes self.old self.new) }
@@ -136,7 +172,7 @@ impl Script {
                 Next::Nothing => Ok(None),
             },
             Source::Kept(commands) => {
-                let begun = begin_at(alloc, commands.as_slice(), self.at)?;
+                let begun = begin_at(alloc, commands.all.as_slice(), self.at)?;
                 if begun.is_some() {
                     self.at += 1;
                 }
@@ -151,7 +187,7 @@ impl Script {
 #[derive(Drop)]
 pub(crate) struct Body {
     text: Bytes,
-    commands: Option<Arc<Seq<Command>>>,
+    commands: Option<Arc<Commands>>,
 }
 
 impl Model for Body {
@@ -177,7 +213,7 @@ impl Body {
                 commands: None,
             });
         }
-        let commands = Arc::new(alloc, commands_of(alloc, text.as_slice())?)?;
+        let commands = Arc::new(alloc, Commands::read(alloc, text.as_slice())?)?;
         Ok(Body {
             text,
             commands: Some(commands),
@@ -189,10 +225,7 @@ impl Body {
         ensures { IfOk result (λ s. s ≡ commands_at self.now 0) }
     {
         match &self.commands {
-            Some(commands) => Ok(Script {
-                source: Source::Kept(Arc::try_clone(commands)?),
-                at: 0,
-            }),
+            Some(commands) => Ok(Script::kept(Arc::try_clone(commands)?)),
             None => Ok(Script::new(self.text.copy(alloc)?)),
         }
     }

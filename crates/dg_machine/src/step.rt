@@ -34,9 +34,9 @@ pub(crate) fn outside(alloc: Global, code: Code, value: Bytes) -> Result<(Code, 
 }
 
 impl Machine {
-    /// The inmost frame goes on.
+    /// The inmost frame goes on, whichever it is.
     #[tactic(auto, unfolding(crate::specs::Meaning::go, crate::specs::Meaning::rest, crate::specs::Meaning::weight))]
-    fn resume(&mut self, alloc: Global, frame: Frame) -> Result<Pace, AllocError>
+    fn resume_any(&mut self, alloc: Global, frame: Frame) -> Result<Pace, AllocError>
         requires { self.old.control ≡ Control.Go }
         ensures { IfOk result (λ p. Comes (go frame self.old.state (all_back self.old.stack)) self.old.state.known (weight_of self.old + frame_weight frame) self.new p) }
     {
@@ -69,6 +69,23 @@ impl Machine {
             Frame::Compiling { compiling } => Ok(self.compile(alloc, compiling)?),
             Frame::Awaiting { reach, wait } => Ok(self.await_output(alloc, reach, wait)?),
             Frame::Giving { names, values } => Ok(self.give_parts(alloc, names, values)?),
+        }
+    }
+
+    /// The inmost frame goes on. The frequent ones come first: a call makes room for all that it may do.
+    #[tactic(auto, unfolding(crate::specs::Meaning::go, crate::specs::Meaning::rest, crate::specs::Meaning::weight))]
+    fn resume(&mut self, alloc: Global, frame: Frame) -> Result<Pace, AllocError>
+        requires { self.old.control ≡ Control.Go }
+        ensures { IfOk result (λ p. Comes (go frame self.old.state (all_back self.old.stack)) self.old.state.known (weight_of self.old + frame_weight frame) self.new p) }
+    {
+        match frame {
+            Frame::Gathering { making, depth } => Ok(self.gather(alloc, making, depth)?),
+            Frame::Calculating { calculation } => Ok(self.compute(alloc, calculation)?),
+            Frame::Sequence { commands, depth } => {
+                Ok(self.sequence(alloc, commands, Bytes::new(alloc), depth)?)
+            }
+            Frame::Awaiting { reach, wait } => Ok(self.await_output(alloc, reach, wait)?),
+            frame => Ok(self.resume_any(alloc, frame)?),
         }
     }
 
@@ -164,9 +181,9 @@ impl Machine {
         }
     }
 
-    /// The inmost frame gets what ended inside of it.
+    /// The inmost frame, whichever it is, gets what ended inside of it.
     #[tactic(auto, unfolding(crate::specs::Meaning::back))]
-    fn give_back(
+    fn give_back_any(
         &mut self,
         alloc: Global,
         frame: Frame,
@@ -210,6 +227,33 @@ impl Machine {
                 values: _,
             } => Ok(self.go_up(code, value)),
             Frame::Awaiting { reach: _, wait } => Ok(self.after_action(alloc, wait, code, value)?),
+        }
+    }
+
+    /// The inmost frame gets what ended inside of it. The frequent ones come first: a call makes room for all that it may do.
+    #[tactic(auto, unfolding(crate::specs::Meaning::back))]
+    fn give_back(
+        &mut self,
+        alloc: Global,
+        frame: Frame,
+        code: Code,
+        value: Bytes,
+    ) -> Result<Pace, AllocError>
+        requires { self.old.control ≡ Control.Go }
+        ensures { IfOk result (λ p. Comes (back frame (all_back self.old.stack) code value self.old.state) self.old.state.known (weight_of self.old + frame_weight frame + 1) self.new p) }
+    {
+        match frame {
+            Frame::Sequence { commands, depth } => {
+                Ok(self.after_command(alloc, commands, depth, code, value)?)
+            }
+            Frame::Gathering { making, depth } => {
+                Ok(self.after_script(alloc, making, depth, code, value)?)
+            }
+            Frame::Calculating { calculation } => {
+                Ok(self.after_operand(calculation, code, value)?)
+            }
+            Frame::Repeating { repetition } => Ok(self.repeat(alloc, repetition, code, value)?),
+            frame => Ok(self.give_back_any(alloc, frame, code, value)?),
         }
     }
 

@@ -354,8 +354,8 @@ impl Machine {
         }
     }
 
-    /// A command on variables.
-    pub(crate) fn variable(
+    /// A command on variables, whichever it is.
+    fn variable_any(
         &mut self,
         alloc: Global,
         which: VariableCommand,
@@ -373,6 +373,23 @@ impl Machine {
             VariableCommand::Unset => Ok(self.unset(alloc, args)?),
             VariableCommand::Info => Ok(self.info(alloc, args)?),
             VariableCommand::Global => Ok(self.global(alloc, args)?),
+        }
+    }
+
+    /// A command on variables. The frequent ones come first.
+    pub(crate) fn variable(
+        &mut self,
+        alloc: Global,
+        which: VariableCommand,
+        args: &[Bytes],
+    ) -> Result<Pace, AllocError>
+        requires { self.old.control ≡ Control.Go }
+        ensures { IfOk result (RunsAs (do_variable which args.now) self.old self.new) }
+    {
+        match which {
+            VariableCommand::Set => Ok(self.set(alloc, args)?),
+            VariableCommand::Increase => Ok(self.incr(alloc, args)?),
+            which => Ok(self.variable_any(alloc, which, args)?),
         }
     }
 }

@@ -1,4 +1,4 @@
-use Rattle.std.proofs.Common.{refl, arith}
+use Rattle.std.proofs.Common.{◌∙◌, refl, arith}
 use Rattle.dg_machine.specs.Meaning.{go, rest}
 use Rattle.dg_machine.proofs.MachineLemmas.{Goes-along, weight-cons}
 use Rattle.dg_machine.proofs.ExpressionLemmas.{calculate-code, calculate-none}
@@ -6,13 +6,13 @@ use Rattle.dg_machine.proofs.machine.Machine.calculate.Goals as goal
 
 pub returns-in_default : goal.returns-in_default
 returns-in_default c =
-    let none = rw c.in_default.is at c.in_ok-left.ensures in
-    let went = rw c.in_ok-message.ensures at c.in_ok-fail.ensures in
+    let none = rw c.in_default.is at (c.of.ensures ∙ c.in_ok-formula.ensures) in
+    let went = rw (c.in_ok-message.ensures, c.as_slice.ensures) at c.in_ok-fail.ensures in
     Goes-along _ _ _ _ _ _ _ _ went (calculate-none _ _ _ _ none) refl (omega arith)
 
 pub returns : goal.returns
 unfolding rest go
 returns c =
-    let code = rw c.in-Some.is at c.in_ok-left.ensures in
+    let code = rw c.in-Some.is at (c.of.ensures ∙ c.in_ok-formula.ensures) in
     rw (c.in_ok-push.ensures, c.new.ensures, c.requires)
     (calculate-code _ _ _ _ _ code, refl, (rw weight-cons (rw (← c.len-count.ensures) (omega arith))))

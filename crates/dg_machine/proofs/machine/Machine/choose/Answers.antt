@@ -12,5 +12,5 @@ pub returns : goal.returns
 unfolding all_back back
 returns c =
     let longer = ap length c.in-Some.ensures in
-    let went = rw (c.in_ok-push.ensures, c.as_slice.ensures, c.requires) at c.in_ok-calculate.ensures in
+    let went = rw (c.in_ok-push.ensures, c.requires) at c.in_ok-calculate.ensures in
     rw c.requires (Goes-along _ _ _ _ _ _ _ _ went (choose-next _ _ _ _ _ _ _ c.in-Some.ensures) refl (rw weight-cons (omega arith)))

@@ -15,5 +15,5 @@ unfolding all_back back
 returns c =
     let text = rw c.as_slice.ensures at c.in_ok-text.ensures in
     let short = rw text at (subst (λ n. n ≤ 1048576) c.len.ensures c.if-len-gt-LONGEST_VALUE.false) in
-    let went = rw (c.in_ok-push.ensures, c.as_slice-2.ensures, text, c.requires) at c.in_ok-calculate.ensures in
+    let went = rw (c.in_ok-push.ensures, text, c.requires) at c.in_ok-calculate.ensures in
     rw c.requires (Goes-along _ _ _ _ _ _ _ _ went (expr-short _ _ _ _ c.in-Some.ensures _ _ short) refl (rw weight-cons (omega arith)))

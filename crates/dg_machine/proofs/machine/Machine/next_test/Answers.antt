@@ -18,5 +18,5 @@ pub returns : goal.returns
 unfolding all_back back
 returns c =
     let h = step-left c.args.self.now.state _ c.has_step.ensures c.if-not-has_step.false in
-    let went = rw (c.in_ok-push.ensures, c.take_step.ensures, c.as_slice.ensures, c.in_ok-test.ensures, c.requires) at c.in_ok-calculate.ensures in
+    let went = rw (c.in_ok-push.ensures, c.take_step.ensures, c.in_ok-test.ensures, c.requires) at c.in_ok-calculate.ensures in
     rw c.requires (Goes-along _ _ _ _ _ _ _ _ went (repeat-next _ _ _ _ _ _ _ c.if-repetition-eq0.false h) (known-stepped _) (weight-tested _ _ _ h (omega arith)))

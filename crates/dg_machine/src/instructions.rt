@@ -1,0 +1,125 @@
+//! The code of expressions, which is read once.
+ghost use Rattle.std.specs.Prelude.{◌≡◌, length, drop, IfOk, MatchOption};
+ghost use Rattle.std.specs.Arc.{arc_value};
+ghost use Rattle.dg_expr.specs.Reading.{tree_in};
+ghost use Rattle.dg_language.specs.Expressions.{code_in};
+ghost use Rattle.dg_machine.specs.Instructions.{Begins, Takes};
+
+use dg_bytes::Seq;
+use dg_expr::{Infix, Instruction, Prefix};
+use dg_forms::{code_of, operand_of};
+use dg_language::{Queue, Substitution};
+use dg_shelf::Reading;
+use std::alloc::{AllocError, Global};
+use std::marker::Model;
+use std::sync::Arc;
+
+/// The code of the expression that a text spells, if it spells one. A contract sees the code.
+#[derive(Drop)]
+pub(crate) struct Formula {
+    code: Option<Seq<Instruction>>,
+}
+
+impl Model for Formula {
+    ghost use Rattle.std.specs.Prelude.{List, Option};
+    ghost use Rattle.dg_expr.specs.declared.code.Instruction.{Instruction};
+
+    ghost Value = { Option (List Instruction) };
+
+    ghost view = { λ f. f.code };
+}
+
+impl Reading for Formula {
+    ghost read_of = { λ text. code_in (tree_in text) };
+
+    fn read(alloc: Global, text: &[u8]) -> Result<Formula, AllocError> {
+        let code = code_of(alloc, text)?;
+        Ok(Formula { code })
+    }
+}
+
+/// An instruction that is taken; where it puts an operand on the stack, the steps in which that is made.
+#[derive(Drop)]
+pub(crate) enum Taken {
+    Operand(Queue<Substitution>),
+    One(Prefix),
+    Two(Infix),
+    And(usize),
+    Or(usize),
+    Truth,
+    Unless(usize),
+    Skip(usize),
+}
+
+/// The instructions of an expression, and the place up to which they were taken. A contract sees those that are left.
+#[derive(Drop)]
+pub(crate) struct Instructions {
+    formula: Arc<Formula>,
+    at: usize,
+}
+
+impl Model for Instructions {
+    ghost use Rattle.std.specs.Prelude.{List};
+    ghost use Rattle.std.specs.Arc.{arc_value};
+    ghost use Rattle.dg_expr.specs.declared.code.Instruction.{Instruction};
+    ghost use Rattle.dg_machine.specs.Instructions.{left_of};
+
+    ghost Value = { List Instruction };
+
+    ghost view = { λ i. left_of (arc_value i.formula) i.at };
+}
+
+/// The instruction at a place, if there is one.
+fn take_at(alloc: Global, code: &[Instruction], at: usize) -> Result<Option<Taken>, AllocError>
+    ensures { IfOk result (Begins code.now at) }
+{
+    if at >= code.len() {
+        return Ok(None);
+    }
+    Ok(Some(match &code[at] {
+        Instruction::Push(parts) => Taken::Operand(operand_of(alloc, parts)?),
+        Instruction::ApplyOne(op) => Taken::One(*op),
+        Instruction::Apply(op) => Taken::Two(*op),
+        Instruction::And(passed) => Taken::And(*passed),
+        Instruction::Or(passed) => Taken::Or(*passed),
+        Instruction::Truth => Taken::Truth,
+        Instruction::Unless(passed) => Taken::Unless(*passed),
+        Instruction::Skip(passed) => Taken::Skip(*passed),
+    }))
+}
+
+impl Instructions {
+    /// All instructions of an expression, if its text spells one.
+    pub fn of(formula: Arc<Formula>) -> Option<Instructions>
+        ensures { result ≡ arc_value formula }
+    {
+        if formula.code.is_none() {
+            return None;
+        }
+        Some(Instructions { formula, at: 0 })
+    }
+
+    /// How many instructions are left.
+    pub fn len(&self) -> usize
+        ensures { result ≡ length self.now }
+    {
+        match &self.formula.code {
+            Some(code) => code.len().saturating_sub(self.at),
+            None => 0,
+        }
+    }
+
+    /// Takes the next instruction.
+    pub fn next(&mut self, alloc: Global) -> Result<Option<Taken>, AllocError>
+        ensures { IfOk result (Takes self.old self.new) }
+    {
+        let Some(code) = &self.formula.code else {
+            return Ok(None);
+        };
+        let taken = take_at(alloc, code.as_slice(), self.at)?;
+        if taken.is_some() {
+            self.at += 1;
+        }
+        Ok(taken)
+    }
+}
