@@ -4,18 +4,19 @@ PREFIX ?= /usr/local
 
 PROGRAM = crates/runtest/out/runtest
 
-.PHONY: all demo check times bench kills examples install clean
+.PHONY: all demo check times wrong-bodies bench kills examples install clean
 
-# Proves the program and all that it stands on, and builds it.
+# Proves the program and all that it stands on, several crates side by side, and builds it.
 all: $(PROGRAM)
 
 $(PROGRAM): crates.txt $(shell find crates -path '*/out' -prune -o -type f \( -name '*.rt' -o -name '*.antt' \) -print)
-	cd crates/runtest && $(RT) run -- --session < /dev/null
-	@test -x $(PROGRAM)
+	RT="$(RT)" python3 tests/gate/build.py runtest
+	@test -x $(PROGRAM) && touch $(PROGRAM)
 
-# Builds what it must and judges an example suite.
+# Builds what it must, judges a session, and then a suite with children and by what these did.
 demo: $(PROGRAM)
 	$(PROGRAM) --session < examples/first.session
+	sh examples/demo.sh
 
 # The merge gate: every proof from nothing, the edits that must fail, the tests and the program.
 check:
@@ -24,6 +25,10 @@ check:
 # The merge gate, and docs/TIMES.md: the processor seconds of each crate's proof, tests and wrong bodies.
 times:
 	RT_JOBS=$${RT_JOBS:-$$(sh tests/gate/lanes.sh)} python3 tests/gate/times.py
+
+# Tries the wrong bodies that the gate leaves out.
+wrong-bodies:
+	RT="$(RT)" sh tests/wrong-bodies/run.sh
 
 # Times this program and its crates beside tclsh and Expect; all of these have to be on the path.
 bench: $(PROGRAM)
@@ -34,8 +39,10 @@ kills: $(PROGRAM)
 	sh tests/kills/run.sh
 
 # Judges the example suites by their stored transcripts, and beside these with children: their reports are the stored ones.
+# Then compares and merges reports, as people do with them.
 examples: $(PROGRAM)
 	sh tests/examples/run.sh live
+	sh tests/sum/run.sh
 
 install: $(PROGRAM)
 	install -d $(DESTDIR)$(PREFIX)/bin
