@@ -22,6 +22,7 @@ use Rattle.dg_eval.specs.Advance.{started, Advances, Tells, Halts, Refuses}
 use Rattle.dg_eval.specs.declared.job.Turn.TheVariants.{Need, Done}
 use Rattle.dg_eval.specs.declared.job.JobFault.{JobFault}
 use Rattle.dg_eval.specs.declared.job.JobFault.TheVariants.{NotAsked, WrongKind, PatternLost, Memory, Failed}
+use Rattle.dg_index.specs.Kept.{KeptView, IsAskedOf}
 use Rattle.dg_core.specs.Core.{record_in, lines_or_none}
 use Rattle.dg_core.specs.Turns.{left_of, bound, over_answers, turns_left}
 use Rattle.dg_core.specs.Asking.{all_reads, IsTold, IsToldMore, Judges, Fails}
@@ -99,9 +100,9 @@ record-ended w t reads e r h g et er ev =
       ends = (e.verdict, lines);
     }
 
--- the job has come to its end
-pub told-done : (w : WorldView) (old new : JobView) (r : RecordView) → IsTold w old.test old → Advances old new (Done r) → Judges w old.test r
-told-done w old new r k a = record-ended w old.test old.reads _ r a.1.has_ended k.gives a.2 a.3 (sym a.1.lines)
+-- the job has come to its end, and its record read what the job was told
+pub told-done : (w : WorldView) (old new : JobView) (r : RecordView) → IsTold w old.test old → Advances old new (Done r) → Judges w old.test r × (r.reads ≡ old.reads)
+told-done w old new r k a = (record-ended w old.test old.reads _ r a.1.has_ended k.gives a.2 a.3 (sym a.1.lines), a.3)
 
 -- a job that goes on fails for want of memory, or where it was told that a pattern is read
 pub halts-fails : (w : WorldView) (old new : JobView) (f : JobFault) → IsTold w old.test old → Halts old new f → Fails w old.test f
@@ -141,9 +142,12 @@ fewer-turns v w t reads q a n asked =
     omega (arith, grown, told, ap (bound w) next, ap (bound v) here)
 
 -- the job has one answer more
-pub told-more : (v w : WorldView) (old mid new : JobView) (q : Ask) (a : Answer) → IsTold v old.test old → Advances old mid (Need q)
-    → IsAsked v w q.question a → Tells mid new a mid.asked → IsToldMore v w old new
-told-more v w old mid new q a k n e h =
+pub told-more : (before after : KeptView) (old mid new : JobView) (q : Ask) (a : Answer) → IsTold before.world old.test old → Advances old mid (Need q)
+    → IsAskedOf before after q.question a → Tells mid new a mid.asked → IsToldMore before after old new
+told-more before after old mid new q a k n asked h =
+    let v = before.world in
+    let w = after.world in
+    let e : IsAsked v w q.question a = asked.0 in
     let t = rw n.2 at h in
     let l = n.1.leads in
     rw t.1
@@ -160,4 +164,7 @@ told-more v w old mid new q a k n e h =
       };
       same = refl;
       fewer = fewer-turns v w old.test old.reads q a n.1 e;
+      read = record { question = q.question; answer = a };
+      asked = asked;
+      reads = refl;
     })

@@ -11,9 +11,17 @@ use Rattle.dg_records.specs.Shelf.{kept, with_record}
 use Rattle.dg_language.specs.Judge.{verdict_in}
 use Rattle.dg_sum.specs.declared.judged.Judged.{Judged}
 use Rattle.dg_sum.specs.Report.{report, status}
-use Rattle.dg_core.specs.Core.{CoreView, new_core, is_held, holds_if_kept, pending, with_world, with_live, edited_core}
+use Rattle.dg_world.specs.declared.question.Question.{Question}
+use Rattle.dg_world.specs.declared.question.Answer.{Answer}
+use Rattle.dg_index.specs.declared.topic.Topic.{Topic}
+use Rattle.dg_index.specs.declared.topic.Topic.TheVariants as topic
+use Rattle.dg_index.specs.Topic.{touched}
+use Rattle.dg_index.specs.Marks.{counted, reads_of}
+use Rattle.dg_index.specs.Kept.{KeptView, holds_if_kept, is_held, changed, then_committed, after_asking, committed}
+use Rattle.dg_core.specs.Core.{CoreView, new_core, kept_of, core_of, pending, with_kept}
 use Rattle.dg_core.specs.Scratch.{and_judged, all_judged, judged, scratch}
 use Rattle.dg_core.specs.Events.{Event, Edits, Asks, Commits, Lives, Reports, Happens, Runs, kept_verdicts, kept_report}
+use Rattle.dg_core.proofs.Turning.{shelf-asked}
 use Rattle.dg_core.proofs.Settling.{AllHeld, held-pending, verdict-held, kept-test}
 
 abbrev True : RecordView → Type 0
@@ -39,26 +47,27 @@ true-kept (x ∷ xs) t r all h = step (same_test t x.test) h (true-kept xs t r a
     step true g rest = let same : x ≡ r = cc in subst True same all.0
     step false g rest = rest g
 
-true-edited : (old new : CoreView) (r : Result WorldView Refusal) → AllTrue old.shelf → with_world old r ≡ Ok new → AllTrue new.shelf
-true-edited old new (Ok w) all h =
-    let same : record old { world = w } ≡ new = cc in
+true-edited : (old new : CoreView) (t : Topic) (r : Result WorldView Refusal) → AllTrue old.shelf → with_kept old.evaluations (changed (kept_of old) t r) ≡ Ok new → AllTrue new.shelf
+true-edited old new t (Ok w) all h =
+    let same : core_of (record (kept_of old) { world = w; compared = counted old.compared (reads_of t old.shelf) }) old.evaluations ≡ new = cc in
     subst (λ (c : CoreView). AllTrue c.shelf) same all
-true-edited old new (Err refusal) all h = cc
+true-edited old new t (Err refusal) all h = cc
 
-true-lived : (old new : CoreView) (r : RecordView) (w : Result WorldView Refusal) → AllTrue old.shelf → True r → with_live old r w ≡ Ok new → AllTrue new.shelf
-true-lived old new r (Ok w) all t h =
-    let same : record old { world = w; shelf = with_record old.shelf r } ≡ new = cc in
-    subst (λ (c : CoreView). AllTrue c.shelf) same (true-with_record old.shelf r all t)
-true-lived old new r (Err refusal) all t h = cc
+true-lived : (old new : CoreView) (r : RecordView) (t : Topic) (w : Result WorldView Refusal) → AllTrue old.shelf → True r
+    → with_kept old.evaluations (then_committed r (changed (kept_of old) t w)) ≡ Ok new → AllTrue new.shelf
+true-lived old new r t (Ok w) all y h =
+    let same : core_of (committed (record (kept_of old) { world = w; compared = counted old.compared (reads_of t old.shelf) }) r) old.evaluations ≡ new = cc in
+    subst (λ (c : CoreView). AllTrue c.shelf) same (true-with_record old.shelf r all y)
+true-lived old new r t (Err refusal) all y h = cc
 
 true-same : (old new : CoreView) → AllTrue old.shelf → new ≡ old → AllTrue new.shelf
 true-same old new all same = subst (λ (c : CoreView). AllTrue c.shelf) (sym same) all
 
 true-after : (old new : CoreView) (event : Event) → AllTrue old.shelf → Happens old event new → AllTrue new.shelf
 true-after old new (Edits e) all h =
-    elim h [ inl made ↦ true-edited old new (edited old.world e) all made | inr same ↦ true-same old new all same ]
+    elim h [ inl made ↦ true-edited old new (touched e) (edited old.world e) all made | inr same ↦ true-same old new all same ]
 true-after old new (Asks q) all h =
-    elim h [ inl asked ↦ subst AllTrue (sym (ap (λ (c : CoreView). c.shelf) asked.1.1)) all | inr same ↦ true-same old new all same ]
+    elim h [ inl asked ↦ subst AllTrue (sym (ap (λ (k : KeptView). k.shelf) asked.1.0.1 ∙ shelf-asked (kept_of old) q _ new.world)) all | inr same ↦ true-same old new all same ]
 true-after old new (Commits r) all h =
     elim h.1 [
       | inl kept_now ↦ subst (λ (c : CoreView). AllTrue c.shelf) (sym kept_now) (true-with_record old.shelf r all h.0)
@@ -66,7 +75,7 @@ true-after old new (Commits r) all h =
     ]
 true-after old new (Lives r sessions) all h =
     elim h.1 [
-      | inl made ↦ true-lived old new r (recorded old.world r.test sessions) all h.0 made
+      | inl made ↦ true-lived old new r (topic.Transcript r.test.board r.test.script) (recorded old.world r.test sessions) all h.0 made
       | inr same ↦ true-same old new all same
     ]
 true-after old new Reports all h = true-same old new all h

@@ -26,7 +26,8 @@ use Rattle.dg_language.proofs.Sources.{run_more}
 use Rattle.dg_records.specs.Truth.{RecordView, answers_of}
 use Rattle.dg_records.specs.Shelf.{kept}
 use Rattle.dg_records.proofs.HoldsLemmas.{heard-look, all_given, given-true, true-given}
-use Rattle.dg_core.specs.Core.{holds_if_kept, is_held, record_in, lines_or_none}
+use Rattle.dg_index.specs.Kept.{holds_if_kept, is_held}
+use Rattle.dg_core.specs.Core.{record_in, lines_or_none}
 use Rattle.dg_core.specs.Grown.{IsGrown}
 use Rattle.dg_core.specs.Asking.{HasVerdict}
 use Rattle.dg_core.specs.Turns.{bound, over_answers}

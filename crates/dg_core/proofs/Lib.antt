@@ -1,4 +1,5 @@
 pub mod Growing
+pub mod Turning
 pub mod Asking
 pub mod Settling
 pub mod Completing

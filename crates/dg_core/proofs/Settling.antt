@@ -15,7 +15,9 @@ use Rattle.dg_world.specs.declared.question.Answer.{Answer}
 use Rattle.dg_records.specs.Shelf.{kept, with_record}
 use Rattle.dg_records.proofs.HoldsLemmas.{heard-look, true-given, all_given, true-agree, agreeing-verdict}
 use Rattle.dg_records.proofs.ShelfLemmas.{same_test-true, same_test-refl}
-use Rattle.dg_core.specs.Core.{CoreView, holds_if_kept, is_held, pending, record_in, shelf_with, counted, settled, settled_up_to, with_judged, IsPartlySettled}
+use Rattle.dg_index.specs.Kept.{holds_if_kept, is_held}
+use Rattle.dg_index.specs.Marks.{counted}
+use Rattle.dg_core.specs.Core.{CoreView, pending, record_in, shelf_with, settled, settled_up_to, with_judged, IsPartlySettled}
 use Rattle.dg_core.specs.Asking.{HasVerdict, all_reads}
 use Rattle.dg_core.specs.Fault.{Blames, Tells}
 use Rattle.dg_core.specs.declared.judging_core.CoreFault.{CoreFault}
@@ -130,9 +132,9 @@ held-pending w s (t ∷ ts) h = step (is_held w s t) refl h (held-pending w s ts
     step false e g ih = cc
 
 -- nothing is pending in a core that was settled, in a world that has grown meanwhile
-pub pending-settled : (w : WorldView) (c : CoreView) → IsGrown c.world w → pending (settled w c) ≡ []
+pub pending-settled : (w : WorldView) (n : ℕ) (c : CoreView) → IsGrown c.world w → pending (settled w n c) ≡ []
 unfolding pending settled_up_to
-pending-settled w c g =
+pending-settled w n c g =
     let ts = filter (λ t. not (is_held c.world c.shelf t)) (selected c.world) in
     let last = shelf_with w c.shelf (take (length ts) ts) in
     let all : take (length ts) ts ≡ ts = take_all (length ts) ts (omega arith) in
@@ -144,9 +146,9 @@ pending-settled w c g =
     none-pending w last (selected w) held
 
 -- no test was judged yet
-pub settled-zero : (c : CoreView) → c.evaluations < 2 ^ 64 → c ≡ settled_up_to 0 0 c.world c
+pub settled-zero : (c : CoreView) → c.evaluations < 2 ^ 64 → c ≡ settled_up_to 0 0 c.world c.compared c
 unfolding settled_up_to shelf_with
-settled-zero c h = λ i. record { world = c.world; shelf = c.shelf; evaluations = sym (least c.evaluations h) i }
+settled-zero c h = λ i. record { world = c.world; shelf = c.shelf; compared = c.compared; evaluations = sym (least c.evaluations h) i }
   where
     least : (n : ℕ) → n < 2 ^ 64 → min (n + 0) (2 ^ 64 - 1) ≡ n
     least n h = omega arith
@@ -181,16 +183,16 @@ counted-more : (n i : ℕ) → counted (counted n i) 1 ≡ counted n (i + 1)
 counted-more n i = omega arith
 
 -- the next pending test was judged, in a world that has grown meanwhile
-pub settled-more : (c : CoreView) (v w : WorldView) (i : ℕ) (t : TestId) → IsGrown v w → AllEnd v (take i (pending c)) → i < length (pending c) → t ≡ get_or (pending c) i t
-    → with_judged w (settled_up_to i i v c) t ≡ settled_up_to (i + 1) (i + 1) w c
+pub settled-more : (c : CoreView) (v w : WorldView) (m n : ℕ) (i : ℕ) (t : TestId) → IsGrown v w → AllEnd v (take i (pending c)) → i < length (pending c) → t ≡ get_or (pending c) i t
+    → with_judged w n (settled_up_to i i v m c) t ≡ settled_up_to (i + 1) (i + 1) w n c
 unfolding settled_up_to
-settled-more c v w i t g ends l e =
+settled-more c v w m n i t g ends l e =
     let first = take i (pending c) in
     let shelf : shelf_with w c.shelf (take (i + 1) (pending c)) ≡ with_record (shelf_with v c.shelf first) (record_in w t) =
     ap (shelf_with w c.shelf) (take_more (pending c) i t l) ∙ shelf_with-append w c.shelf first (get_or (pending c) i t)
     ∙ ap (λ u. with_record (shelf_with w c.shelf first) (record_in w u)) (sym e)
     ∙ ap (λ s. with_record s (record_in w t)) (sym (shelf_with-grown v w g c.shelf first ends)) in
-    λ k. record { world = w; shelf = sym shelf k; evaluations = counted-more c.evaluations i k }
+    λ k. record { world = w; shelf = sym shelf k; compared = n; evaluations = counted-more c.evaluations i k }
 
 pub ends-more : (c : CoreView) (v w : WorldView) (i : ℕ) (t : TestId) → IsGrown v w → AllEnd v (take i (pending c)) → i < length (pending c) → t ≡ get_or (pending c) i t
     → HasVerdict w t → AllEnd w (take (i + 1) (pending c))
@@ -199,11 +201,11 @@ ends-more c v w i t g ends l e verdict =
     subst (AllEnd w) (ap (λ u. take i (pending c) ++ u ∷ []) e ∙ sym (take_more (pending c) i t l)) all
 
 -- and its evaluation was begun
-pub settled-begun : (c : CoreView) (v w : WorldView) (i : ℕ) → IsGrown v w → AllEnd v (take i (pending c))
-    → record (settled_up_to i i v c) { world = w; evaluations = counted (settled_up_to i i v c).evaluations 1 } ≡ settled_up_to i (i + 1) w c
+pub settled-begun : (c : CoreView) (v w : WorldView) (m n : ℕ) (i : ℕ) → IsGrown v w → AllEnd v (take i (pending c))
+    → record (settled_up_to i i v m c) { world = w; compared = n; evaluations = counted (settled_up_to i i v m c).evaluations 1 } ≡ settled_up_to i (i + 1) w n c
 unfolding settled_up_to
-settled-begun c v w i g ends =
-    λ k. record { world = w; shelf = shelf_with-grown v w g c.shelf (take i (pending c)) ends k; evaluations = counted-more c.evaluations i k }
+settled-begun c v w m n i g ends =
+    λ k. record { world = w; shelf = shelf_with-grown v w g c.shelf (take i (pending c)) ends k; compared = n; evaluations = counted-more c.evaluations i k }
 
 -- one judged test more
 pub all_judged-more : (source : Source) (ts : List TestId) (t : TestId) (v : List Line) (js : List Judged) → all_judged source ts ≡ Some js → verdict_in source t ≡ Some v
@@ -270,11 +272,11 @@ pub selected-held : (c : CoreView) (i : ℕ) (t : TestId) → pending c ≡ [] �
 unfolding pending
 selected-held c i t p l e = held-at c.world c.shelf (selected c.world) i t (held-pending c.world c.shelf (selected c.world) p) l e
 
-pub settled-all : (w : WorldView) (c : CoreView) (i : ℕ) → length (pending c) ≤ i → i ≤ length (pending c) → settled_up_to i i w c ≡ settled w c
-settled-all w c i h g = let e : i ≡ length (pending c) = omega arith in ap (λ n. settled_up_to n n w c) e
+pub settled-all : (w : WorldView) (m : ℕ) (c : CoreView) (i : ℕ) → length (pending c) ≤ i → i ≤ length (pending c) → settled_up_to i i w m c ≡ settled w m c
+settled-all w m c i h g = let e : i ≡ length (pending c) = omega arith in ap (λ n. settled_up_to n n w m c) e
 
 -- a core that was settled up to some test
-pub partly : (c new : CoreView) (kept_records begun : ℕ) → begun ≤ length (pending c) → kept_records ≤ begun → begun ≤ kept_records + 1 → new ≡ settled_up_to kept_records begun new.world c → IsPartlySettled c new
+pub partly : (c new : CoreView) (kept_records begun : ℕ) → begun ≤ length (pending c) → kept_records ≤ begun → begun ≤ kept_records + 1 → new ≡ settled_up_to kept_records begun new.world new.compared c → IsPartlySettled c new
 partly c new k b w a o e = record { kept_records = k; begun = b; within = w; all_kept = a; at_most_one = o; is_settled = e }
 
 pub on_err : {A E : Type 0} (r : Result A E) (P : Type 0) → P → OnErr r P

@@ -8,7 +8,8 @@ use Rattle.dg_world.specs.declared.question.Read.{Read}
 use Rattle.dg_world.specs.declared.test_id.TestId.{TestId}
 use Rattle.dg_records.specs.Truth.{RecordView, is_given}
 use Rattle.dg_records.specs.Shelf.{kept}
-use Rattle.dg_core.specs.Core.{CoreView, is_held, holds_if_kept, pending}
+use Rattle.dg_index.specs.Kept.{holds_if_kept, is_held}
+use Rattle.dg_core.specs.Core.{CoreView, pending}
 use Rattle.dg_core.specs.Unread.{IsUnread, IsUnreadBy}
 use Rattle.dg_records.proofs.HoldsLemmas.{all_given}
 

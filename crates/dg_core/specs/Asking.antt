@@ -1,5 +1,5 @@
 -- A job that is told what a world answers, whose book may grow meanwhile.
-use Rattle.std.specs.Prelude.{◌≡◌, ◌<◌, true, false, Option, Some, None, List}
+use Rattle.std.specs.Prelude.{◌≡◌, ◌<◌, ◌++◌, ◌∷◌, [], true, false, Option, Some, None, List}
 use Rattle.dg_world.specs.World.{WorldView}
 use Rattle.dg_world.specs.declared.question.Read.{Read}
 use Rattle.dg_world.specs.declared.test_id.TestId.{TestId}
@@ -12,6 +12,7 @@ use Rattle.dg_eval.specs.Lost.{HasReadPattern}
 use Rattle.dg_eval.specs.Truth.{JobView}
 use Rattle.dg_eval.specs.declared.job.JobFault.{JobFault}
 use Rattle.dg_eval.specs.declared.job.JobFault.TheVariants.{NotAsked, WrongKind, PatternLost, Memory, Failed}
+use Rattle.dg_index.specs.Kept.{KeptView, IsAskedOf}
 use Rattle.dg_core.specs.Core.{record_in}
 use Rattle.dg_core.specs.Turns.{turns_left}
 
@@ -33,21 +34,24 @@ pub record IsTold (w : WorldView) (t : TestId) (j : JobView) : Type 0 where
   pub rest : Play Ending
   pub leads : Leads (judge t) j.reads rest
 
--- it was told one answer more, of a world that may have grown, and fewer turns are left
-pub record IsToldMore (before after : WorldView) (old new : JobView) : Type 0 where
-  pub told : IsTold after old.test new
+-- one question more was asked, and its answer told; fewer turns are left
+pub record IsToldMore (before after : KeptView) (old new : JobView) : Type 0 where
+  pub told : IsTold after.world old.test new
   pub same : new.test ≡ old.test
-  pub fewer : turns_left after old.test new.reads < turns_left before old.test old.reads
+  pub fewer : turns_left after.world old.test new.reads < turns_left before.world old.test old.reads
+  pub read : Read
+  pub asked : IsAskedOf before after read.question read.answer
+  pub reads : new.reads ≡ old.reads ++ read ∷ []
 
 -- the record of a test in a world, where its judging comes to its end
 pub record Judges (w : WorldView) (t : TestId) (r : RecordView) : Type 0 where
   pub made : r ≡ record_in w t
   pub ends : HasVerdict w t
 
--- what a turn comes to: one answer more, or the record of the test in this world
-abbrev pub Takes : WorldView → WorldView → JobView → JobView → Option RecordView → Type 0
+-- what a turn comes to: one answer more, or the record of the test in this world, which read just what the job was told
+abbrev pub Takes : KeptView → KeptView → JobView → JobView → Option RecordView → Type 0
 Takes before after old new None = IsToldMore before after old new
-Takes before after old new (Some r) = Judges after old.test r
+Takes before after old new (Some r) = Judges after.world old.test r × (after ≡ before) × (r.reads ≡ old.reads)
 
 -- why a judging fails in a world: for want of memory, or where it reads a pattern that is answered as read
 abbrev pub Fails : WorldView → TestId → JobFault → Type 0

@@ -1,23 +1,27 @@
 //! A world with the records that are kept of it.
-ghost use Rattle.std.specs.Prelude.{◌≡◌, ◌⊎◌, ◌++◌, [], Ok, Err, Some, true, IfOk, IfErr, OnOk, OnErr, IsTrue};
-ghost use Rattle.dg_core.specs.Core.{committed, committed_live, IsAskedOf, new_core, pending, is_held, record_in, settled, counted, edited_core, unheld, with_judged, IsPartlySettled};
+ghost use Rattle.std.specs.Prelude.{◌≡◌, ◌⊎◌, ◌++◌, [], List, Ok, Err, Some, true, IfOk, IfErr, OnOk, OnErr, IsTrue};
+ghost use Rattle.dg_world.specs.declared.question.Read.{Read};
+ghost use Rattle.dg_index.specs.Kept.{is_held};
+ghost use Rattle.dg_index.specs.Marks.{counted};
+ghost use Rattle.dg_core.specs.Turning.{AsksInTurn, JudgesOne, JudgesAll, JudgesSome};
+ghost use Rattle.dg_core.specs.Core.{kept_of, committed, committed_live, IsAskedOf, core_of, new_core, pending, settled, edited_core, unheld, with_judged, IsPartlySettled};
 ghost use Rattle.dg_core.specs.Scratch.{scratch, all_judged, IsJudged};
 ghost use Rattle.dg_core.specs.Reply.{Replies};
 ghost use Rattle.dg_core.specs.Asking.{HasVerdict};
 ghost use Rattle.dg_core.specs.Fault.{Blames, Tells};
 ghost use Rattle.dg_core.specs.Grown.{IsGrown};
 ghost use Rattle.dg_records.specs.Truth.{answers_of};
-ghost use Rattle.dg_records.specs.Shelf.{with_record};
 ghost use Rattle.dg_world.specs.World.{look, selected, takes_memory};
 
 use crate::evaluate::evaluate;
 use crate::reply::Reply;
 use dg_bytes::{Bytes, Seq, TryCopy};
 use dg_eval::JobFault;
-use dg_records::{Record, Shelf};
+use dg_index::Kept;
+use dg_records::Record;
 use dg_sum::{Judged, exit_status, sum_text};
 use dg_transcript::Transcript;
-use dg_world::{Answer, Edit, Question, Refusal, TestId, World};
+use dg_world::{Answer, Edit, Question, Refusal, TestId};
 use std::alloc::{AllocError, Global};
 use std::marker::Model;
 use thiserror::Error;
@@ -33,10 +37,9 @@ pub enum CoreFault {
     Memory,
 }
 
-/// A world, one record for each test that had one, and the number of evaluations begun.
+/// A world, one record for each test that had one, the number of reads compared, and that of evaluations begun.
 pub struct Core {
-    world: World,
-    shelf: Shelf,
+    kept: Kept,
     evaluations: u64,
 }
 
@@ -44,19 +47,18 @@ pub struct Core {
 impl Drop for Core {
     fn drop(self) {
         let Core {
-            world: _,
-            shelf: _,
+            kept: _,
             evaluations: _,
         } = self;
     }
 }
 
 impl Model for Core {
-    ghost use Rattle.dg_core.specs.Core.{CoreView};
+    ghost use Rattle.dg_core.specs.Core.{CoreView, core_of};
 
     ghost Value = { CoreView };
 
-    ghost view = { λ c. record { world = c.world; shelf = c.shelf; evaluations = c.evaluations } };
+    ghost view = { λ c. core_of c.kept c.evaluations };
 }
 
 impl Core {
@@ -65,8 +67,7 @@ impl Core {
         ensures { IfOk result (λ c. c ≡ new_core) }
     {
         Ok(Core {
-            world: World::new(alloc)?,
-            shelf: Shelf::new(alloc),
+            kept: Kept::new(alloc)?,
             evaluations: 0,
         })
     }
@@ -79,15 +80,14 @@ impl Core {
         ensures memory { (result ≡ Err Refusal.Memory) → IsTrue (takes_memory self.old.world edit) }
         ensures err { OnErr result (self.new ≡ self.old) }
     {
-        self.world.edit(alloc, edit)?;
-        Ok(())
+        self.kept.edit(alloc, edit)
     }
 
     /// The selected tests: board by board in the selection's order, and on each the scripts in byte order of their names.
     pub fn selected(&self, alloc: Global) -> Result<Seq<TestId>, AllocError>
         ensures { IfOk result (λ l. l ≡ selected self.now.world) }
     {
-        self.world.selected(alloc)
+        self.kept.world().selected(alloc)
     }
 
     /// The answer to a question. A pattern that is asked for the first time is read, and its answer goes into the book for
@@ -96,7 +96,7 @@ impl Core {
         ensures ok { IfOk result (IsAskedOf self.old self.new question.now) }
         ensures err { OnErr result (self.new ≡ self.old) }
     {
-        self.world.ask(alloc, question)
+        self.kept.ask(alloc, question)
     }
 
     /// The answer to a question, if there is one: there is none only to a pattern that was never asked for. It changes
@@ -104,7 +104,7 @@ impl Core {
     pub fn answer(&self, alloc: Global, question: &Question) -> Result<Option<Answer>, AllocError>
         ensures { IfOk result (λ a. a ≡ look self.now.world question.now) }
     {
-        self.world.answer(alloc, question)
+        self.kept.world().answer(alloc, question)
     }
 
     /// Keeps a record in the place of the one that its test had, or gives it back and changes nothing where there is no
@@ -114,7 +114,7 @@ impl Core {
         ensures err { OnErr result (self.new ≡ self.old) }
         ensures back { IfErr result (λ r. r ≡ newest) }
     {
-        self.shelf.keep(alloc, newest)
+        self.kept.commit(alloc, newest)
     }
 
     /// Keeps the record of a live run, in the place of the one that its test had, and makes its transcript that of its
@@ -131,23 +131,7 @@ impl Core {
         ensures err { OnErr result (self.new ≡ self.old) }
         ensures back { IfErr result (λ r. (r.1 ≡ newest) × (r.2 ≡ transcript)) }
     {
-        let Ok(copy) = transcript.copy(alloc) else {
-            return Err((Refusal::Memory, newest, transcript));
-        };
-        let Ok(test) = newest.test().copy(alloc) else {
-            return Err((Refusal::Memory, newest, transcript));
-        };
-        let previous = match self.shelf.exchange(alloc, newest) {
-            Ok(previous) => previous,
-            Err(newest) => return Err((Refusal::Memory, newest, transcript)),
-        };
-        match self.world.put_transcript(alloc, &test, copy) {
-            Ok(()) => Ok(()),
-            Err(refusal) => {
-                let newest = self.shelf.put_back(&test, previous);
-                Err((refusal, newest, transcript))
-            }
-        }
+        self.kept.commit_live(alloc, newest, transcript)
     }
 
     /// How many evaluations were begun; the count stays at its last value.
@@ -157,14 +141,12 @@ impl Core {
         self.evaluations
     }
 
-    /// Whether a test has a kept record that holds in the world.
-    fn is_held(&self, test: &TestId) -> bool
-        ensures { result ≡ is_held self.now.world self.now.shelf test.now }
+    /// How many reads were compared with the world: those of a record as it is kept, and those that an edit, a live run or a
+    /// question may have given another answer. The count stays at its last value.
+    pub fn compared(&self) -> u64
+        ensures { result ≡ self.now.compared }
     {
-        match self.shelf.get(test) {
-            Some(record) => record.holds_in(&self.world),
-            None => false,
-        }
+        self.kept.compared()
     }
 
     /// Adds a test to others, unless it is held.
@@ -176,7 +158,7 @@ impl Core {
     ) -> Result<(), AllocError>
         ensures { OnOk result (pending.new ≡ pending.old ++ unheld self.now test.now) }
     {
-        if !self.is_held(test) {
+        if !self.kept.is_held(test) {
             pending.push(test.copy(alloc)?)?;
         }
         Ok(())
@@ -186,7 +168,7 @@ impl Core {
     fn pending(&self, alloc: Global) -> Result<Seq<TestId>, AllocError>
         ensures { IfOk result (λ l. l ≡ pending self.now) }
     {
-        let selected = self.world.selected(alloc)?;
+        let selected = self.kept.world().selected(alloc)?;
         let mut pending = Seq::new(alloc);
         for test in selected.as_slice() {
             self.add_unheld(alloc, &mut pending, test)?;
@@ -201,7 +183,7 @@ impl Core {
         requires { is_held self.now.world self.now.shelf test.now ≡ true }
         ensures { IfOk result (IsJudged self.now.world test.now) }
     {
-        let Some(record) = self.shelf.get(test) else {
+        let Some(record) = self.kept.record(test) else {
             unreachable!()
         };
         let verdict = record.verdict().copy(alloc)?;
@@ -216,7 +198,7 @@ impl Core {
         requires { pending self.now ≡ [] }
         ensures { IfOk result (λ l. all_judged (answers_of self.now.world) (selected self.now.world) ≡ Some l.items) }
     {
-        let selected = self.world.selected(alloc)?;
+        let selected = self.kept.world().selected(alloc)?;
         let mut judged = Vec::new(alloc);
         for test in selected.as_slice() {
             judged.push(self.judged_test(alloc, test)?)?;
@@ -231,7 +213,7 @@ impl Core {
         ensures { IfOk result (λ r. scratch self.now.world ≡ Some (r.0, r.1)) }
     {
         let judged = self.judged(alloc)?;
-        let text = sum_text(alloc, self.world.selection(), judged.as_slice())?;
+        let text = sum_text(alloc, self.kept.world().selection(), judged.as_slice())?;
         Ok((text, exit_status(judged.as_slice())))
     }
 
@@ -251,19 +233,21 @@ impl Core {
     /// Evaluates a test and keeps its record.
     fn judge(&mut self, alloc: Global, test: &TestId) -> Result<(), CoreFault>
         ensures grown { IsGrown self.old.world self.new.world }
-        ensures ok { OnOk result (self.new ≡ with_judged self.new.world self.old test.now) }
+        ensures ok { OnOk result (self.new ≡ with_judged self.new.world self.new.compared self.old test.now) }
         ensures ends { OnOk result (HasVerdict self.new.world test.now) }
-        ensures err { OnErr result (self.new ≡ record self.old { world = self.new.world; evaluations = counted self.old.evaluations 1 }) }
+        ensures err { OnErr result (self.new ≡ record self.old { world = self.new.world; compared = self.new.compared; evaluations = counted self.old.evaluations 1 }) }
         ensures why { IfErr result (Blames test.now self.new.world) }
+        ensures judges { OnOk result (JudgesOne (kept_of self.old) test.now (kept_of self.new)) }
+        ensures stopped { OnErr result ((reads : List Read) × AsksInTurn (kept_of self.old) reads (kept_of self.new)) }
     {
         self.evaluations = self.evaluations.saturating_add(1);
-        let judged = match evaluate(alloc, &mut self.world, test) {
+        let judged = match evaluate(alloc, &mut self.kept, test) {
             Ok(judged) => judged,
             Err(JobFault::PatternLost) => return Err(CoreFault::PatternLost(test.copy(alloc)?)),
             Err(JobFault::Memory) => return Err(CoreFault::Memory),
             Err(JobFault::NotAsked | JobFault::WrongKind | JobFault::Failed) => unreachable!(),
         };
-        match self.shelf.keep(alloc, judged) {
+        match self.kept.commit(alloc, judged) {
             Ok(()) => Ok(()),
             Err(_) => Err(CoreFault::Memory),
         }
@@ -279,9 +263,11 @@ impl Core {
     pub fn settle(&mut self, alloc: Global) -> Result<(Bytes, u8), CoreFault>
         ensures sum { IfOk result (λ r. scratch self.new.world ≡ Some (r.0, r.1)) }
         ensures grown { IsGrown self.old.world self.new.world }
-        ensures settles { OnOk result (self.new ≡ settled self.new.world self.old) }
+        ensures settles { OnOk result (self.new ≡ settled self.new.world self.new.compared self.old) }
         ensures kept { OnErr result (IsPartlySettled self.old self.new) }
         ensures why { IfErr result (Tells self.old self.new.world) }
+        ensures judges { OnOk result (JudgesAll (kept_of self.old) (pending self.old) (kept_of self.new)) }
+        ensures stopped { OnErr result (JudgesSome self.old self.new) }
     {
         let _begun = self.evaluations();
         let pending = self.pending(alloc)?;

@@ -5,8 +5,6 @@ mod evaluate;
 mod judging_core;
 mod law;
 mod reply;
-#[cfg(test)]
-mod tests;
 
 pub use crate::judging_core::{Core, CoreFault};
 pub use crate::law::{reports_after_events_are_from_scratch, unread_changes_leave_the_pending};

@@ -1,27 +1,20 @@
 //! The program `runtest`: runs a test suite, or answers the lines of a session.
 #![tactic(auto)]
 
-mod answer;
 mod fault;
 mod live;
 mod progress;
-mod reading;
-mod request;
 mod run;
-mod session;
 mod suite;
-#[cfg(test)]
-mod tests;
 mod transcripts;
-mod writing;
 
-use crate::fault::{ProgramFault, SessionFault};
+use crate::fault::ProgramFault;
 use crate::progress::Progress;
 use crate::run::{Outcome, run_plan};
-use crate::session::run_session;
 use dg_core::Core;
 use dg_folders::RunFault;
 use dg_line::{LineFault, Mode, Plan, plan_of};
+use dg_session::{SessionFault, run_session};
 use dg_world::Edit;
 use std::io::{BufReader, BufWriter, IsTerminal, Write};
 use std::process::ExitCode;

@@ -4,7 +4,6 @@ ghost use Rattle.once_cell.specs.Once.{cell_name};
 
 use crate::live::Runner;
 use crate::progress::{Counts, Progress};
-use crate::session::cause_number;
 use crate::suite::{Suite, pattern_lost, text_of};
 use crate::transcripts::{path_of, write_transcripts};
 use dg_bench::{Bench, Call, Opened, Pass, Room, Work, WorkFault, run_workers};
@@ -13,6 +12,7 @@ use dg_core::Reply;
 use dg_folders::{Intake, RunFault, read_suite, read_transcript, sum_path, write_in_place};
 use dg_line::{Mode, Plan};
 use dg_pipes::Fresh;
+use dg_session::cause_number;
 use dg_world::{Edit, Refusal, Selection, TestId};
 use std::alloc::Global;
 use std::marker::Brand;

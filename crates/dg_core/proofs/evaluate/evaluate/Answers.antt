@@ -1,12 +1,41 @@
-use Rattle.std.proofs.Common.{◌∙◌, ap}
+use Rattle.std.proofs.Common.{◌≡◌, ◌∙◌, ◌++◌, List, ap, refl, subst, sym}
+use Rattle.dg_world.specs.declared.question.Read.{Read}
+use Rattle.dg_eval.specs.Truth.{JobView}
+use Rattle.dg_core.specs.Asking.{IsTold, IsToldMore}
+use Rattle.dg_core.specs.Turning.{AsksInTurn}
+use Rattle.dg_core.proofs.Turning.{asks-append, asks-more}
 use Rattle.dg_eval.specs.Advance.{started}
 use Rattle.dg_core.proofs.Asking.{told-first}
-use Rattle.dg_core.proofs.Growing.{grown-refl}
+use Rattle.dg_core.proofs.Growing.{grown-refl, grown-trans}
+use Rattle.dg_core.proofs.Settling.{on_err}
 use Rattle.dg_core.proofs.evaluate.evaluate.Goals as goal
 
 pub turns-init : goal.turns-init
 turns-init c =
+    let begun = c.in_ok-job.ensures ∙ ap started c.in_ok-copy.ensures in
     record {
-      told = told-first _ _ _ (c.in_ok-job.ensures ∙ ap started c.in_ok-copy.ensures);
-      grown = grown-refl c.args.world.now;
+      told = told-first _ _ _ begun;
+      grown = grown-refl c.args.kept.now.world;
+      shelf = refl;
+      asked = subst (λ rs. AsksInTurn c.args.kept.now rs c.args.kept.now) (sym (ap (λ (j : JobView). j.reads) begun)) refl;
     }
+
+pub turns-preserved : goal.turns-preserved
+turns-preserved c =
+    let before = c.turns.kept in
+    let after = c.take_turn.new.kept in
+    let t : IsToldMore before after c.turns.job c.take_turn.new.job = rw c.in_default.is at c.in_ok-record.ensures.turn in
+    record {
+      told = subst (λ u. IsTold after.world u c.take_turn.new.job) c.turns.invariant.told.test t.told;
+      grown = grown-trans _ _ _ c.turns.invariant.grown c.in_ok-record.ensures.grown;
+      shelf = c.in_ok-record.ensures.shelf ∙ c.turns.invariant.shelf;
+      asked = subst (λ rs. AsksInTurn c.args.kept.now rs after) (sym t.reads)
+          (asks-more c.args.kept.now before after c.turns.job.reads t.read c.turns.invariant.asked t.asked);
+    }
+
+pub returns-in_err-record-clause-stopped : goal.returns-in_err-record-clause-stopped
+returns-in_err-record-clause-stopped c =
+    let more = c.in_err-record.ensures.stopped in
+    let all : (reads : List Read) × AsksInTurn c.args.kept.now reads c.take_turn.new.kept =
+    (c.turns.job.reads ++ more.0, asks-append c.args.kept.now c.turns.kept c.take_turn.new.kept c.turns.job.reads more.0 c.turns.invariant.asked more.1) in
+    on_err _ _ all

@@ -7,7 +7,7 @@ use Rattle.dg_core.proofs.judging_core.Core.judged.Goals as goal
 pub judged_test-requires : goal.judged_test-requires
 judged_test-requires c =
     let i = c.loop-test.test-index in
-    let items = c.as_slice-test-items.ensures ∙ c.in_ok-selected.ensures ∙ ap (λ v. selected v.world) c.self.view_is in
+    let items = c.as_slice-test-items.ensures ∙ c.in_ok-selected.ensures ∙ ap selected c.world.ensures ∙ ap (λ v. selected v.world) c.self.view_is in
     selected-held c.args.self.now i c.test-item.result c.requires (subst (λ l. i < length l) items c.loop-test-test.true)
     (c.test-item.is ∙ ap (λ l. get_or l i c.test-item.result) items)
 

@@ -1,7 +1,7 @@
 use Rattle.std.proofs.Common.{◌≡◌, take}
 use Rattle.std.specs.Prelude.{not}
 use Rattle.std.specs.List.{filter}
-use Rattle.dg_core.specs.Core.{is_held}
+use Rattle.dg_index.specs.Kept.{is_held}
 use Rattle.dg_core.proofs.judging_core.Core.pending.Given as goal
 
 abbrev pub invariant-loop-test : goal.invariant-loop-test

@@ -1,0 +1,6 @@
+pub mod Crosses
+pub mod IndexLemmas
+pub mod KeptLemmas
+pub mod LookingLemmas
+pub mod MarksLemmas
+pub mod TopicLemmas

@@ -1,0 +1,9 @@
+use Rattle.std.proofs.Common.{take}
+use Rattle.dg_index.specs.Index.{NamesMore, NamesReads}
+use Rattle.dg_index.proofs.index.Index.name_reads.Given as goal
+
+abbrev pub invariant-loop-read : goal.invariant-loop-read
+invariant-loop-read l = record {
+  named : NamesReads l.self l.place (take l.read-index l.reads);
+  stays : NamesMore l.fn.self l.self;
+}

@@ -1,0 +1,4 @@
+pub mod Topic
+pub mod Marks
+pub mod Index
+pub mod Kept

@@ -1,0 +1,152 @@
+//! The index: the places of the records that read a topic.
+ghost use Rattle.std.specs.Prelude.{◌≡◌, [], IsTrue, OnOk};
+ghost use Rattle.dg_index.specs.Index.{is_among, readers_of, Finds, NamesMore, NamesReads};
+ghost use Rattle.dg_index.specs.Topic.{topic_of, touched};
+
+use crate::topic::Topic;
+use dg_bytes::Bytes;
+use dg_world::{Edit, Question, Read};
+use indexmap::{IndexMap, IndexSet};
+use std::alloc::{AllocError, Global};
+use std::marker::Model;
+
+/// A topic of the index, with the places of the records that may read it.
+pub type Readers<'a> = (&'a Topic, &'a [usize]);
+
+/// For each topic the places of the records that may read it. A place may be named for longer than its record reads the
+/// topic, since whoever goes there sees what is read.
+pub struct Index {
+    readers: IndexMap<Topic, IndexSet<usize>>,
+}
+
+impl Drop for Index {
+    fn drop(self) {
+        let Index { readers: _ } = self;
+    }
+}
+
+impl Model for Index {
+    ghost use Rattle.std.specs.Prelude.{map};
+    ghost use Rattle.dg_index.specs.Index.{IndexView};
+
+    ghost Value = { IndexView };
+
+    ghost view = { λ i. map (λ e. (e.0, e.1.keys)) i.readers.entries };
+}
+
+impl Index {
+    /// An index that names nothing.
+    pub fn new(alloc: Global) -> Index
+        ensures { result ≡ [] }
+    {
+        Index {
+            readers: IndexMap::new(alloc),
+        }
+    }
+
+    /// Names a place for a topic. All that was named before is named in any case.
+    pub fn name(&mut self, alloc: Global, topic: &Topic, place: usize) -> Result<(), AllocError>
+        ensures named { OnOk result (IsTrue (is_among (readers_of self.new topic.now) place)) }
+        ensures stays { NamesMore self.old self.new }
+    {
+        match self.readers.get_mut(topic) {
+            Some(readers) => {
+                readers.insert(place)?;
+            }
+            None => {
+                let mut readers = IndexSet::new(alloc);
+                readers.insert(place)?;
+                if self.readers.insert(topic.copy(alloc)?, readers).is_err() {
+                    return Err(AllocError);
+                }
+            }
+        }
+        Ok(())
+    }
+
+    /// The places that are named for a topic, if any is.
+    pub fn find(&self, topic: &Topic) -> Option<Readers<'_>>
+        ensures { Finds self.now topic.now result }
+    {
+        let (topic, readers) = self.readers.get_key_value(topic)?;
+        Some((topic, readers.as_slice()))
+    }
+
+    /// Names a place for the topic of a question. All that was named before is named in any case.
+    fn name_question(
+        &mut self,
+        alloc: Global,
+        question: &Question,
+        place: usize,
+    ) -> Result<(), AllocError>
+        ensures named { OnOk result (IsTrue (is_among (readers_of self.new (topic_of question.now)) place)) }
+        ensures stays { NamesMore self.old self.new }
+    {
+        let topic = Topic::of(alloc, question)?;
+        self.name(alloc, &topic, place)
+    }
+
+    /// Names a place for the topic of each read. All that was named before is named in any case.
+    pub fn name_reads(
+        &mut self,
+        alloc: Global,
+        reads: &[Read],
+        place: usize,
+    ) -> Result<(), AllocError>
+        ensures named { OnOk result (NamesReads self.new place reads.now) }
+        ensures stays { NamesMore self.old self.new }
+    {
+        for read in reads {
+            self.name_question(alloc, &read.question, place)?;
+        }
+        Ok(())
+    }
+
+    /// The places that are named for a file, with its name back.
+    fn find_file(&self, name: Bytes) -> (Option<Readers<'_>>, Bytes)
+        ensures found { Finds self.now (Topic.File name) result.0 }
+        ensures back { result.1 ≡ name }
+    {
+        let topic = Topic::File(name);
+        let readers = self.find(&topic);
+        (readers, topic.into_name())
+    }
+
+    /// The places that are named for what an edit touches, with the edit back. It takes no memory.
+    pub fn find_touched(&self, edit: Edit) -> (Option<Readers<'_>>, Edit)
+        ensures found { Finds self.now (touched edit) result.0 }
+        ensures back { result.1 ≡ edit }
+    {
+        match edit {
+            Edit::PutFile(name, bytes) => {
+                let (readers, name) = self.find_file(name);
+                (readers, Edit::PutFile(name, bytes))
+            }
+            Edit::RemoveFile(name) => {
+                let (readers, name) = self.find_file(name);
+                (readers, Edit::RemoveFile(name))
+            }
+            Edit::Select(selection) => (self.find(&Topic::Selection), Edit::Select(selection)),
+            Edit::PutTranscript(board, script, text) => {
+                let (readers, board, script) = self.find_transcript(board, script);
+                (readers, Edit::PutTranscript(board, script, text))
+            }
+            Edit::DropTranscript(board, script) => {
+                let (readers, board, script) = self.find_transcript(board, script);
+                (readers, Edit::DropTranscript(board, script))
+            }
+        }
+    }
+
+    /// The places that are named for the transcript of a test, with its board and its script back.
+    fn find_transcript(&self, board: Bytes, script: Bytes) -> (Option<Readers<'_>>, Bytes, Bytes)
+        ensures found { Finds self.now (Topic.Transcript board script) result.0 }
+        ensures board { result.1 ≡ board }
+        ensures script { result.2 ≡ script }
+    {
+        let topic = Topic::Transcript(board, script);
+        let readers = self.find(&topic);
+        let (board, script) = topic.into_test();
+        (readers, board, script)
+    }
+}

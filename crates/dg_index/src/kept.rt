@@ -1,0 +1,185 @@
+//! A world with its kept records, of which an edit compares only the reads that it touches.
+ghost use Rattle.std.specs.Prelude.{◌≡◌, ◌⊎◌, Ok, Err, IfOk, IfErr, OnOk, OnErr, IsTrue};
+ghost use Rattle.std.specs.Option.{option_copied};
+ghost use Rattle.dg_index.specs.Kept.{committed, committed_live, edited_kept, is_held, new_kept, IsAskedOf};
+ghost use Rattle.dg_records.specs.Shelf.{kept};
+ghost use Rattle.dg_world.specs.World.{takes_memory};
+
+use crate::index::Index;
+use crate::looking::look_again;
+use crate::marked::Marked;
+use crate::placing::{make_room, place};
+use crate::topic::Topic;
+use dg_bytes::TryCopy;
+use dg_records::Record;
+use dg_transcript::Transcript;
+use dg_world::{Answer, Edit, Question, Refusal, TestId, World};
+use indexmap::IndexMap;
+use std::alloc::{AllocError, Global};
+use std::marker::Model;
+
+/// A world, one record for each test that had one, and the number of reads that were compared with the world.
+pub struct Kept {
+    world: World,
+    records: IndexMap<TestId, Marked>,
+    index: Index,
+    compared: u64,
+}
+
+/// Written by hand, and so one call for whoever lets it go.
+impl Drop for Kept {
+    fn drop(self) {
+        let Kept {
+            world: _,
+            records: _,
+            index: _,
+            compared: _,
+        } = self;
+    }
+}
+
+impl Model for Kept {
+    ghost use Rattle.dg_index.specs.Kept.{KeptView, IsKept};
+    ghost use Rattle.dg_index.specs.Marks.{shelf_of};
+
+    ghost Value = { KeptView };
+
+    ghost view = { λ k. record { world = k.world; shelf = shelf_of k.records.entries; compared = k.compared } };
+
+    ghost invariant = { λ k. IsKept k.world k.records.entries k.index };
+}
+
+impl Kept {
+    /// A new world, of which nothing is kept.
+    pub fn new(alloc: Global) -> Result<Kept, AllocError>
+        ensures { IfOk result (λ k. k ≡ new_kept) }
+    {
+        Ok(Kept {
+            world: World::new(alloc)?,
+            records: IndexMap::new(alloc),
+            index: Index::new(alloc),
+            compared: 0,
+        })
+    }
+
+    /// The world.
+    pub fn world(&self) -> &World
+        ensures { result.now ≡ self.now.world }
+    {
+        &self.world
+    }
+
+    /// How many reads were compared with the world; the count stays at its last value.
+    pub fn compared(&self) -> u64
+        ensures { result ≡ self.now.compared }
+    {
+        self.compared
+    }
+
+    /// The record of a test.
+    pub fn record(&self, test: &TestId) -> Option<&Record>
+        ensures { option_copied result ≡ kept self.now.shelf test.now }
+    {
+        match self.records.get(test) {
+            Some(marked) => Some(marked.kept()),
+            None => None,
+        }
+    }
+
+    /// Whether a test has a kept record that holds in the world. It compares nothing.
+    pub fn is_held(&self, test: &TestId) -> bool
+        ensures { result ≡ is_held self.now.world self.now.shelf test.now }
+    {
+        match self.records.get(test) {
+            Some(marked) => marked.is_clear(),
+            None => false,
+        }
+    }
+
+    /// Edits the world and compares each read of what the edit touches, or refuses the edit and changes nothing. `Memory`
+    /// only where a file is added that nothing else refuses.
+    pub fn edit(&mut self, alloc: Global, edit: Edit) -> Result<(), Refusal>
+        ensures ok { OnOk result (edited_kept self.old edit ≡ Ok self.new) }
+        ensures which { IfErr result (λ r. (r ≡ Refusal.Memory) ⊎ (edited_kept self.old edit ≡ Err r)) }
+        ensures memory { (result ≡ Err Refusal.Memory) → IsTrue (takes_memory self.old.world edit) }
+        ensures err { OnErr result (self.new ≡ self.old) }
+    {
+        let (found, edit) = self.index.find_touched(edit);
+        self.world.edit(alloc, edit)?;
+        let Some((topic, places)) = found else {
+            return Ok(());
+        };
+        self.compared = look_again(&mut self.records, places, topic, &self.world, self.compared);
+        Ok(())
+    }
+
+    /// The answer to a question. A pattern that is asked for the first time is read, its answer goes into the book for
+    /// good, and each read of it is compared; no other question changes anything, nor does want of memory.
+    pub fn ask(&mut self, alloc: Global, question: &Question) -> Result<Answer, AllocError>
+        ensures ok { IfOk result (IsAskedOf self.old self.new question.now) }
+        ensures err { OnErr result (self.new ≡ self.old) }
+    {
+        if let Some(answer) = self.world.answer(alloc, question)? {
+            return Ok(answer);
+        }
+        let topic = Topic::of(alloc, question)?;
+        let answer = self.world.ask(alloc, question)?;
+        let Some((topic, places)) = self.index.find(&topic) else {
+            return Ok(answer);
+        };
+        self.compared = look_again(&mut self.records, places, topic, &self.world, self.compared);
+        Ok(answer)
+    }
+
+    /// Keeps a record in the place of the one that its test had and compares its reads, or gives it back and changes
+    /// nothing where there is no room for it.
+    pub fn commit(&mut self, alloc: Global, newest: Record) -> Result<(), Record>
+        ensures ok { OnOk result (self.new ≡ committed self.old newest) }
+        ensures err { OnErr result (self.new ≡ self.old) }
+        ensures back { IfErr result (λ r. r ≡ newest) }
+    {
+        let (test, marked) = make_room(alloc, &mut self.records, &mut self.index, newest)?;
+        self.compared = place(&mut self.records, test, marked, &self.world, self.compared);
+        Ok(())
+    }
+
+    /// Keeps the record of a live run, in the place of the one that its test had, and makes its transcript that of its
+    /// test: both, or neither, and then both come back. `TooMany` only where it is a new test beside 65,536 transcripts,
+    /// and `Memory` where a growth was refused, which comes first.
+    pub fn commit_live(
+        &mut self,
+        alloc: Global,
+        newest: Record,
+        transcript: Transcript,
+    ) -> Result<(), (Refusal, Record, Transcript)>
+        ensures ok { OnOk result (committed_live self.old newest transcript ≡ Ok self.new) }
+        ensures which { IfErr result (λ r. (r.0 ≡ Refusal.Memory) ⊎ (committed_live self.old newest transcript ≡ Err r.0)) }
+        ensures err { OnErr result (self.new ≡ self.old) }
+        ensures back { IfErr result (λ r. (r.1 ≡ newest) × (r.2 ≡ transcript)) }
+    {
+        let Ok(topic) = Topic::of_test(alloc, newest.test()) else {
+            return Err((Refusal::Memory, newest, transcript));
+        };
+        let Ok(copy) = transcript.copy(alloc) else {
+            return Err((Refusal::Memory, newest, transcript));
+        };
+        let (test, marked) = match make_room(alloc, &mut self.records, &mut self.index, newest) {
+            Ok(room) => room,
+            Err(newest) => return Err((Refusal::Memory, newest, transcript)),
+        };
+        if let Err(refusal) = self.world.put_transcript(alloc, &test, copy) {
+            return Err((refusal, marked.into_kept(), transcript));
+        }
+        if let Some((topic, places)) = self.index.find(&topic) {
+            self.compared = look_again(
+                &mut self.records,
+                places,
+                topic,
+                &self.world,
+                self.compared,
+            );
+        }
+        self.compared = place(&mut self.records, test, marked, &self.world, self.compared);
+        Ok(())
+    }
+}

@@ -1,0 +1,13 @@
+//! Kept records, with an index from what an edit touches to the records that read it.
+#![tactic(auto)]
+
+mod index;
+mod kept;
+mod looking;
+mod marked;
+mod marks;
+mod placing;
+mod topic;
+
+pub use crate::kept::Kept;
+pub use crate::topic::Topic;

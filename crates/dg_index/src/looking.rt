@@ -1,0 +1,34 @@
+//! Looking again: the reads of a topic are compared with the world.
+ghost use Rattle.std.specs.Prelude.{◌≡◌, nat_eq};
+ghost use Rattle.std.specs.List.{IsDistinct};
+ghost use Rattle.indexmap.specs.IndexMap.{spare};
+ghost use Rattle.dg_index.specs.Index.{is_among, NoneElseReads};
+ghost use Rattle.dg_index.specs.Marks.{all_looked, counted, reads_of, shelf_of};
+
+use crate::marked::Marked;
+use crate::topic::Topic;
+use dg_world::{TestId, World};
+use indexmap::IndexMap;
+
+/// Compares each read of a topic with the world, where only the records at these places read it. It adds to a count how
+/// many reads those are.
+pub fn look_again(
+    records: &mut IndexMap<TestId, Marked>,
+    places: &[usize],
+    topic: &Topic,
+    world: &World,
+    mut compared: u64,
+) -> u64
+    requires once { IsDistinct nat_eq places.now }
+    requires only { NoneElseReads (is_among places.now) topic.now records.old.entries }
+    ensures entries { records.new.entries ≡ all_looked world.now topic.now records.old.entries }
+    ensures room { spare records.new ≡ spare records.old }
+    ensures count { result ≡ counted compared (reads_of topic.now (shelf_of records.old.entries)) }
+{
+    for place in places {
+        if let Some(marked) = records.get_index_mut(*place) {
+            compared = compared.saturating_add(marked.look_again(world, topic) as u64);
+        }
+    }
+    compared
+}

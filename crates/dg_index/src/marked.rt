@@ -1,0 +1,109 @@
+//! Records with their marks.
+ghost use Rattle.std.specs.Prelude.{◌≡◌, true, false, length, replicate, IfOk, IfErr};
+ghost use Rattle.dg_index.specs.Marks.{is_clear, looked_again, marks_in, reads_on};
+
+use crate::marks::Marks;
+use crate::topic::Topic;
+use dg_records::Record;
+use dg_world::{Read, World};
+use std::alloc::Global;
+use std::marker::Model;
+
+/// A record, and a mark for each of its reads, which is raised where the answer was another when it was last compared.
+pub struct Marked {
+    kept: Record,
+    marks: Marks,
+}
+
+impl Drop for Marked {
+    fn drop(self) {
+        let Marked { kept: _, marks: _ } = self;
+    }
+}
+
+impl Model for Marked {
+    ghost use Rattle.std.specs.Prelude.{◌≡◌, length};
+    ghost use Rattle.dg_index.specs.Marks.{MarkedView};
+
+    ghost Value = { MarkedView };
+
+    ghost view = { λ m. record { record_of = m.kept; marks = m.marks } };
+
+    ghost invariant = { λ m. length m.marks ≡ length m.kept.reads };
+}
+
+impl Marked {
+    /// A record with no mark raised, or the record back where there is no room for marks.
+    pub fn new(alloc: Global, kept: Record) -> Result<Marked, Record>
+        ensures ok { IfOk result (λ m. m ≡ record { record_of = kept; marks = replicate (length kept.reads) false }) }
+        ensures back { IfErr result (λ r. r ≡ kept) }
+    {
+        match Marks::new(alloc, kept.reads().len()) {
+            Ok(marks) => Ok(Marked { kept, marks }),
+            Err(_) => Err(kept),
+        }
+    }
+
+    /// The record.
+    pub fn kept(&self) -> &Record
+        ensures { result.now ≡ self.now.record_of }
+    {
+        &self.kept
+    }
+
+    /// The record alone.
+    pub fn into_kept(self) -> Record
+        ensures { result ≡ self.record_of }
+    {
+        let Marked { kept, marks: _ } = self;
+        kept
+    }
+
+    /// Whether no mark is raised.
+    pub fn is_clear(&self) -> bool
+        ensures { result ≡ is_clear self.now.marks }
+    {
+        self.marks.are_clear()
+    }
+
+    /// Compares each read with the world.
+    pub fn look(&mut self, world: &World)
+        ensures { self.new ≡ record self.old { marks = marks_in world.now self.old.record_of.reads } }
+    {
+        look(self.kept.reads(), &mut self.marks, world);
+    }
+
+    /// Compares each read of a topic with the world, and tells how many those are.
+    pub fn look_again(&mut self, world: &World, topic: &Topic) -> usize
+        ensures marks { self.new ≡ record self.old { marks = looked_again world.now topic.now self.old.record_of.reads self.old.marks } }
+        ensures compared { result ≡ reads_on topic.now self.old.record_of.reads }
+    {
+        look_again(self.kept.reads(), &mut self.marks, world, topic)
+    }
+}
+
+/// Marks each read as it compares with the world.
+fn look(reads: &[Read], marks: &mut Marks, world: &World)
+    requires { length marks.old ≡ length reads.now }
+    ensures { marks.new ≡ marks_in world.now reads.now }
+{
+    for (place, read) in reads.iter().enumerate() {
+        marks.put(place, !world.agrees(&read.question, &read.answer));
+    }
+}
+
+/// Marks each read of a topic as it compares with the world, and counts them.
+fn look_again(reads: &[Read], marks: &mut Marks, world: &World, topic: &Topic) -> usize
+    requires { length marks.old ≡ length reads.now }
+    ensures marks { marks.new ≡ looked_again world.now topic.now reads.now marks.old }
+    ensures compared { result ≡ reads_on topic.now reads.now }
+{
+    let mut compared = 0;
+    for (place, read) in reads.iter().enumerate() {
+        if topic.covers(&read.question) {
+            marks.put(place, !world.agrees(&read.question, &read.answer));
+            compared += 1;
+        }
+    }
+    compared
+}

@@ -1,0 +1,57 @@
+//! Growths that are refused, one after another.
+use super::{PASSED, core_with};
+use crate::memory::{ROOM, ROUNDS, Rounds, take_all};
+use dg_bytes::Bytes;
+use dg_core::{Core, CoreFault};
+use std::alloc::Global;
+use std::test::Fail;
+
+/// Whether a report is that of a passing script; nothing where it is another.
+fn is_passed(text: &Bytes, status: u8) -> Option<bool> {
+    if text.is(PASSED) && status == 0 {
+        return Some(true);
+    }
+    None
+}
+
+/// Whether a core with a passing script reports it, or not for want of memory; nothing where anything else comes of it.
+fn reports(alloc: Global, core: &mut Core) -> Option<bool> {
+    match core.settle(alloc) {
+        Ok((text, status)) => is_passed(&text, status),
+        Err(CoreFault::Memory) => Some(false),
+        Err(CoreFault::PatternLost(_)) => None,
+    }
+}
+
+/// A core is made, given a script and settled beside a block of so many bytes. Where memory ran out
+/// in settling, it settles once the block is gone.
+fn round(alloc: Global, pad: usize) -> Option<bool> {
+    let pad = Vec::<u8>::with_capacity(alloc, pad);
+    let Ok(mut core) = core_with(alloc, b"pass \"one\"\n") else {
+        return Some(false);
+    };
+    let first = reports(alloc, &mut core);
+    drop(pad);
+    let second = reports(alloc, &mut core);
+    let is_right = second == Some(true) && core.evaluations() <= 2;
+    if is_right { first } else { None }
+}
+
+#[test]
+fn a_refused_growth_is_told(rt: HostRuntime) -> Result<(), Fail> {
+    let alloc = rt.alloc();
+    let mut rounds = Rounds::new();
+    let mut blocks: Vec<Vec<u8>> = Vec::with_capacity(alloc, 400_001)?;
+    let room = Vec::<u8>::with_capacity(alloc, ROOM)?;
+    take_all(alloc, &mut blocks);
+    let is_full = Vec::<u8>::with_capacity(alloc, 16).is_err();
+    drop(room);
+    for step in 0..ROUNDS {
+        rounds.count(round(alloc, ROOM - 16 * step));
+    }
+    blocks.clear();
+    assert_eq!(rt; rounds.others, 0);
+    assert!(rt; rounds.whole > 0);
+    assert!(rt; !is_full || rounds.short > 0);
+    Ok(())
+}

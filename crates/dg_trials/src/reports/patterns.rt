@@ -1,0 +1,125 @@
+//! Patterns that are asked of a core, and reports beside them.
+use super::{PASSED, core_with, settled};
+use dg_bytes::Bytes;
+use dg_core::{Core, Reply};
+use dg_eval::{Job, Turn};
+use dg_match::Reading;
+use dg_records::Record;
+use dg_world::{Answer, Question, TestId};
+use std::alloc::{AllocError, Global};
+use std::test::Fail;
+
+/// A script whose verdict rests on a pattern.
+const SEARCHES: &[u8] = b"if {[regexp {o(.)e} one]} {pass \"one\"}\n";
+
+/// More turns than its evaluation takes.
+const TURNS: u8 = 20;
+
+/// Tells a job what a core answers to its question.
+fn tell(
+    alloc: Global,
+    core: &mut Core,
+    job: &mut Job,
+    question: &Question,
+) -> Result<(), AllocError> {
+    let Ok(told) = core.ask(alloc, question) else {
+        return Err(AllocError);
+    };
+    match job.answer(told) {
+        Ok(()) => Ok(()),
+        Err(_) => Err(AllocError),
+    }
+}
+
+/// The record of that script, as it is judged in a world of its own.
+fn judged_elsewhere(alloc: Global) -> Result<Record, AllocError> {
+    let mut core = core_with(alloc, SEARCHES)?;
+    let Ok(test) = TestId::new(alloc, b"unix", b"t/a.exp") else {
+        return Err(AllocError);
+    };
+    let mut job = Job::start(alloc, test)?;
+    for _ in 0..TURNS {
+        match job.advance(alloc) {
+            Ok(Turn::Done(record)) => return Ok(record),
+            Ok(Turn::Need(ask)) => tell(alloc, &mut core, &mut job, &ask.question)?,
+            Err(_) => return Err(AllocError),
+        }
+    }
+    Err(AllocError)
+}
+
+#[test]
+fn a_pattern_keeps_its_first_answer(rt: HostRuntime) -> Result<(), Fail> {
+    let alloc = rt.alloc();
+    let mut core = Core::new(alloc)?;
+    let read = Question::Pattern(Bytes::from_slice(alloc, b"b(.)")?);
+    let none = Question::Pattern(Bytes::from_slice(alloc, b"(")?);
+    assert!(rt; core.answer(alloc, &read)?.is_none());
+    assert!(rt; core.ask(alloc, &read)? == Answer::Reading(Reading::Read));
+    assert!(rt; core.ask(alloc, &none)? == Answer::Reading(Reading::Syntax));
+    assert!(rt; core.ask(alloc, &read)? == Answer::Reading(Reading::Read));
+    assert!(rt; core.ask(alloc, &none)? == Answer::Reading(Reading::Syntax));
+    assert!(rt; core.answer(alloc, &read)? == Some(Answer::Reading(Reading::Read)));
+    Ok(())
+}
+
+/// Whether a report names just the one script as pending.
+fn is_pending(reply: &Reply) -> bool {
+    match reply {
+        Reply::Sum(_, _) => false,
+        Reply::Pending(tests) => match tests.as_slice() {
+            [test] => {
+                test.board().as_slice() == b"unix".as_slice()
+                    && test.script().as_slice() == b"t/a.exp".as_slice()
+            }
+            _ => false,
+        },
+    }
+}
+
+/// Whether a report is that of a passing script.
+fn is_passed(reply: &Reply) -> bool {
+    match reply {
+        Reply::Sum(text, status) => text.is(PASSED) && *status == 0,
+        Reply::Pending(_) => false,
+    }
+}
+
+#[test]
+fn a_report_evaluates_nothing(rt: HostRuntime) -> Result<(), Fail> {
+    let alloc = rt.alloc();
+    let mut core = core_with(alloc, b"pass \"one\"\n")?;
+    assert!(rt; is_pending(&core.report(alloc)?));
+    assert_eq!(rt; core.evaluations(), 0);
+    let _sum = settled(alloc, &mut core)?;
+    assert_eq!(rt; core.evaluations(), 1);
+    assert!(rt; is_passed(&core.report(alloc)?));
+    assert_eq!(rt; core.evaluations(), 1);
+    Ok(())
+}
+
+#[test]
+fn a_new_pattern_leaves_what_is_held(rt: HostRuntime) -> Result<(), Fail> {
+    let alloc = rt.alloc();
+    let mut core = core_with(alloc, b"pass \"one\"\n")?;
+    let _sum = settled(alloc, &mut core)?;
+    let pattern = Question::Pattern(Bytes::from_slice(alloc, b"b(.)")?);
+    let _answer = core.ask(alloc, &pattern)?;
+    assert!(rt; is_passed(&core.report(alloc)?));
+    let _again = settled(alloc, &mut core)?;
+    assert_eq!(rt; core.evaluations(), 1);
+    Ok(())
+}
+
+#[test]
+fn a_record_of_another_book_waits_for_its_pattern(rt: HostRuntime) -> Result<(), Fail> {
+    let alloc = rt.alloc();
+    let mut core = core_with(alloc, SEARCHES)?;
+    assert!(rt; core.commit(alloc, judged_elsewhere(alloc)?).is_ok());
+    assert!(rt; is_pending(&core.report(alloc)?));
+    let pattern = Question::Pattern(Bytes::from_slice(alloc, b"o(.)e")?);
+    assert!(rt; core.ask(alloc, &pattern)? == Answer::Reading(Reading::Read));
+    assert!(rt; is_passed(&core.report(alloc)?));
+    assert_eq!(rt; core.evaluations(), 0);
+    Ok(())
+}

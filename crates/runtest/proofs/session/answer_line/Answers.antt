@@ -1,5 +1,0 @@
-use Rattle.runtest.proofs.SessionLemmas.{at_err, nothing_of}
-use Rattle.runtest.proofs.session.answer_line.Goals as goal
-
-pub returns-in_err-request-clause-fault : goal.returns-in_err-request-clause-fault
-returns-in_err-request-clause-fault g c = at_err _ _ (nothing_of c.args.core.now c.args.line.now (g.W.Write.contents c.args.writer.now))
