@@ -1,5 +1,5 @@
 -- What a selection is answered, by what its words select.
-use Rattle.std.proofs.Common.{◌≡◌, ℕ, List, Option, Some, None, inl, inr, ap, sym, subst}
+use Rattle.std.proofs.Common.{◌≡◌, ℕ, List, Some, None, inl, inr, ap, sym, subst}
 use Rattle.dg_core.specs.Core.{CoreView}
 use Rattle.dg_line.specs.Select.{selection_by}
 use Rattle.dg_world.specs.declared.edit.Edit.TheVariants.{Select}

@@ -1,5 +1,5 @@
 //! Growths that are refused in a live run, and where it is kept.
-use crate::memory::{ROOM, ROUNDS, Rounds, take_all};
+use crate::memory::{ROUNDS, Rounds, take_all};
 use dg_bytes::Bytes;
 use dg_core::{Core, Reply as Told};
 use dg_eval::JobFault;
@@ -23,6 +23,9 @@ const TRANSCRIPT: &[u8] =
 /// The report of it.
 const REPORT: &[u8] =
     b"\t\t=== t tests ===\n\nSchedule of variations:\n    unix\n\nRunning target unix\nRunning t/a.exp ...\nPASS: x\nNOTE: 0\n\n\t\t=== t Summary ===\n\n# of expected passes\t\t1\n";
+
+/// The bytes that are left to a run, and 64 more in each round.
+const ROOM: usize = 480_000;
 
 /// How many rounds with room enough show that there is.
 const ENOUGH: usize = 100;
@@ -192,7 +195,7 @@ fn runs(alloc: Global) -> Rounds {
         if rounds.whole == ENOUGH {
             break;
         }
-        rounds.count(round(alloc, ROOM - 16 * step));
+        rounds.count(round(alloc, ROOM - 64 * step));
     }
     rounds
 }
