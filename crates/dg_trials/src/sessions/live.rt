@@ -1,5 +1,5 @@
 //! Growths that are refused in a live run, and where it is kept.
-use crate::memory::{ROUNDS, Rounds, take_all};
+use crate::memory::{ROOM, ROUNDS, Rounds, take_all};
 use dg_bytes::Bytes;
 use dg_core::{Core, Reply as Told};
 use dg_eval::JobFault;
@@ -24,8 +24,8 @@ const TRANSCRIPT: &[u8] =
 const REPORT: &[u8] =
     b"\t\t=== t tests ===\n\nSchedule of variations:\n    unix\n\nRunning target unix\nRunning t/a.exp ...\nPASS: x\nNOTE: 0\n\n\t\t=== t Summary ===\n\n# of expected passes\t\t1\n";
 
-/// The bytes that are left to a run, and 64 more in each round.
-const ROOM: usize = 480_000;
+/// The bytes that are left to a run, and 64 more in each round: four blocks beside one another, each small enough to come from the heap.
+const ALL_ROOM: usize = 4 * ROOM;
 
 /// How many rounds with room enough show that there is.
 const ENOUGH: usize = 100;
@@ -195,7 +195,7 @@ fn runs(alloc: Global) -> Rounds {
         if rounds.whole == ENOUGH {
             break;
         }
-        rounds.count(round(alloc, ROOM - 64 * step));
+        rounds.count(round(alloc, ALL_ROOM - 64 * step));
     }
     rounds
 }
@@ -204,10 +204,16 @@ fn runs(alloc: Global) -> Rounds {
 fn a_refused_growth_of_a_run_is_told(rt: HostRuntime) -> Result<(), Fail> {
     let alloc = rt.alloc();
     let mut blocks: Vec<Vec<u8>> = Vec::with_capacity(alloc, 400_001)?;
-    let room = Vec::<u8>::with_capacity(alloc, ROOM)?;
+    let first = Vec::<u8>::with_capacity(alloc, ROOM)?;
+    let second = Vec::<u8>::with_capacity(alloc, ROOM)?;
+    let third = Vec::<u8>::with_capacity(alloc, ROOM)?;
+    let fourth = Vec::<u8>::with_capacity(alloc, ROOM)?;
     take_all(alloc, &mut blocks);
     let is_full = Vec::<u8>::with_capacity(alloc, 16).is_err();
-    drop(room);
+    drop(first);
+    drop(second);
+    drop(third);
+    drop(fourth);
     let rounds = runs(alloc);
     blocks.clear();
     assert_eq!(rt; rounds.others, 0);
