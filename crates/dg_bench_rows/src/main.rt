@@ -1,5 +1,5 @@
-//! Live runs over gates that answer from lists; and many callers of one bench, and workers. Of these each line that is written is a
-//! case, and whether it came out as it has to. No line depends on how the threads ran.
+//! Many callers of one bench, and workers. Each line that is written is a case, and whether it came out as it has to. No line
+//! depends on how the threads ran.
 #![tactic(auto)]
 
 ghost use Rattle.std.specs.Prelude.{◌≡◌, ◌<◌, ◌≤◌, map};
@@ -9,7 +9,6 @@ mod callers;
 mod edits;
 mod gates;
 mod limits;
-mod live;
 mod replies;
 mod turns;
 mod twins;
@@ -18,7 +17,6 @@ mod working;
 use anyhow::Result;
 use dg_bench::{Opened, Room};
 use std::alloc::Global;
-use std::env;
 use std::marker::Brand;
 use std::sync::Wait;
 use std::thread::Threads;
@@ -109,16 +107,7 @@ fn try_elsewhere<R: AllocGlobal + Wait>(rt: &R) -> Result<Option<bool>> {
     Ok(limits::is_shorter::<Brand, Brand, _>(rt, rt.alloc(), one, other))
 }
 
-/// Tries the live runs of the folder that the command line names, or of the one where the program runs.
-fn try_live(rt: &HostRuntime) -> Result<()> {
-    match env::args(rt)?.nth(1) {
-        Some(folder) => live::try_files(rt, folder.as_str()),
-        None => live::try_files(rt, "."),
-    }
-}
-
 fn main(rt: HostRuntime) -> Result<()> {
-    try_live(&rt)?;
     for (name, case) in CASES {
         let came_out = try_on_bench(&rt, case)?;
         println!(rt; "{name}: {}", came_out.unwrap_or(false))?;

@@ -3,5 +3,7 @@
 
 mod job;
 mod stage;
+#[cfg(test)]
+mod tests;
 
 pub use crate::job::{Job, JobFault, Turn};

@@ -3,8 +3,6 @@
 #![tactic(auto)]
 
 #[cfg(test)]
-mod jobs;
-#[cfg(test)]
 mod memory;
 #[cfg(test)]
 mod reports;

@@ -1,5 +1,5 @@
 //! The steps of an evaluation that waits again at each piece of its child's output.
-use crate::live::desk::{Desk, test};
+use crate::desk::{Desk, test};
 use anyhow::Result;
 use dg_bytes::Bytes;
 use dg_eval::{Job, Turn};

@@ -3,7 +3,7 @@ use denote.Param.Send.{sendable}
 use Rattle.std.proofs.alloc.Global.TheSendSync as heap
 use Rattle.dg_bytes.proofs.bytes.Bytes.TheSendSync as bytes
 use Rattle.dg_eval.proofs.Crosses.{Job-send}
-use Rattle.dg_trials.proofs.jobs.a_job_goes_to_another_thread.Goals as goal
+use Rattle.dg_eval.proofs.tests.a_job_goes_to_another_thread.Goals as goal
 
 pub spawn-requires-send-F : goal.spawn-requires-send-F
 spawn-requires-send-F g c κs = search (sendable, heap.the_field_send, Job-send) depth 20

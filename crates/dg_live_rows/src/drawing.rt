@@ -1,9 +1,9 @@
 //! Scripts that are drawn from pieces. A line of pieces has a part of a script, and behind a tab what a gate may answer it: entries with
 //! `;` between them, and `|` between one choice and the next. Each script begins with the first piece.
-use crate::live::chance::Chance;
-use crate::live::desk::lines_in;
-use crate::live::entries::{code, pieces, reply};
-use crate::live::runs::{Run, run_script};
+use crate::chance::Chance;
+use crate::desk::lines_in;
+use crate::entries::{code, pieces, reply};
+use crate::runs::{Run, run_script};
 use anyhow::Result;
 use dg_gate::Reply;
 use std::alloc::{AllocError, Global};

@@ -1,5 +1,6 @@
-//! Live runs over gates that answer from lists: rows of scripts, with what their gates answer and what comes of it, and scripts that are
-//! drawn from pieces. Both stand in data/, where a person can read them and add to them.
+//! The program that tries live runs over gates that answer from lists: rows of scripts, with what their gates answer and what comes of
+//! it, and scripts that are drawn from pieces. Both stand in data/, where a person can read them and add to them.
+#![tactic(auto)]
 
 mod chance;
 mod desk;
@@ -9,12 +10,12 @@ mod rows;
 mod runs;
 mod steps;
 
-use crate::live::drawing::try_drawn;
-use crate::live::rows::try_rows;
-use crate::live::steps::try_steps;
+use crate::drawing::try_drawn;
+use crate::rows::try_rows;
+use crate::steps::try_steps;
 use anyhow::Result;
 use std::io::{BufWriter, Write};
-use std::{fs, io};
+use std::{env, fs, io};
 
 /// The rows of runs.
 const ROWS: &str = "live.rows";
@@ -29,7 +30,7 @@ fn bytes_of(rt: &HostRuntime, folder: &str, file: &str) -> Result<Vec<u8>> {
 }
 
 /// Tries the files of this folder. For each it tells how many runs there are, and before that each one that gives something else.
-pub(crate) fn try_files(rt: &HostRuntime, folder: &str) -> Result<()> {
+fn try_files(rt: &HostRuntime, folder: &str) -> Result<()> {
     let alloc = rt.alloc();
     let mut out = BufWriter::new(alloc, io::writer(rt))?;
     let rows = bytes_of(rt, folder, ROWS)?;
@@ -38,4 +39,12 @@ pub(crate) fn try_files(rt: &HostRuntime, folder: &str) -> Result<()> {
     try_drawn(alloc, &mut out, PIECES, pieces.as_slice())?;
     try_steps(alloc, &mut out)?;
     Ok(out.flush()?)
+}
+
+/// Tries the files of the folder that the command line names, or of the one where the program runs.
+fn main(rt: HostRuntime) -> Result<()> {
+    match env::args(&rt)?.nth(1) {
+        Some(folder) => try_files(&rt, folder.as_str()),
+        None => try_files(&rt, "."),
+    }
 }

@@ -1,5 +1,5 @@
 //! Live runs over a gate that answers from a list, and their replays.
-use crate::live::desk::{Desk, test};
+use crate::desk::{Desk, test};
 use anyhow::Result;
 use dg_bytes::Bytes;
 use dg_gate::{Gate, Reply, ScriptGate};

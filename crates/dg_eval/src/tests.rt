@@ -1,8 +1,8 @@
 //! Jobs, turn by turn: answers and lines written out by hand.
-use crate::memory::take_all;
+
+use crate::job::{Job, JobFault, Turn};
 use dg_boards::Triplet;
 use dg_bytes::Bytes;
-use dg_eval::{Job, JobFault, Turn};
 use dg_language::Ask;
 use dg_match::Reading;
 use dg_records::Record;
@@ -169,6 +169,24 @@ fn a_pattern_that_cannot_be_built_is_lost(rt: HostRuntime) -> Result<(), Fail> {
     assert!(rt; matches!(job.advance(alloc), Err(JobFault::PatternLost)));
     assert!(rt; matches!(job.advance(alloc), Err(JobFault::Failed)));
     Ok(())
+}
+
+/// Takes all memory that there is, without writing to it.
+fn take_all(alloc: Global, blocks: &mut Vec<Vec<u8>>) {
+    let mut size = 1usize << 46;
+    for _ in 0..400_000u32 {
+        if size < 16 {
+            break;
+        }
+        match Vec::<u8>::with_capacity(alloc, size) {
+            Ok(block) => {
+                if blocks.push(block).is_err() {
+                    break;
+                }
+            }
+            Err(_) => size /= 2,
+        }
+    }
 }
 
 #[test]

@@ -1,9 +1,9 @@
 //! Rows of runs. A line `script` and the lines behind it that begin with a tab are a script. Each row behind it is a run, with tabs
 //! between its name, its entries in the order of the gate's calls, and the lines of the report. The gate answers what makes these
 //! entries, and nothing else. Where a row has a `?`, it is four runs, with each code in its place.
-use crate::live::desk::lines_in;
-use crate::live::entries::{entries, replies, transcript};
-use crate::live::runs::run_script;
+use crate::desk::lines_in;
+use crate::entries::{entries, replies, transcript};
+use crate::runs::run_script;
 use anyhow::Result;
 use dg_bytes::Bytes;
 use std::alloc::{AllocError, Global};
