@@ -1,6 +1,7 @@
 -- What comes before the use of a variable.
-use Rattle.std.proofs.Common.{◌≡◌, ℕ, ◌<◌, ◌≤◌, Bool, true, false, List, length, ap, sym, ◌∙◌, arith}
-use Rattle.std.specs.Prelude.{Some, None, codes, nat_lt}
+use Rattle.std.proofs.Common.{◌≡◌, ℕ, ◌<◌, ◌≤◌, Bool, true, false, List, length, ap, sym, ◌∙◌, refl, arith}
+use Rattle.std.specs.Prelude.{Option, Some, None, codes, nat_lt}
+use Rattle.dg_scope.specs.Scopes.{value_of}
 use Rattle.dg_scope.specs.Names.{global_name}
 use Rattle.dg_world.specs.declared.question.Question.{Question}
 use Rattle.dg_world.specs.declared.question.Question.TheVariants.{Variable}
@@ -8,6 +9,7 @@ use Rattle.dg_world.specs.declared.question.Answer.{Answer}
 use Rattle.dg_language.specs.Play.{Play, Asks, plain, lookup}
 use Rattle.dg_language.specs.State.{State, learn, began, began_with}
 use Rattle.dg_language.specs.Evaluation.{Ending, ask, cut, within}
+use Rattle.dg_language.specs.Touch.{value_in_use}
 use Rattle.dg_language.specs.Variables.{touch, is_to_begin, begin, first_value}
 use Rattle.dg_language.proofs.Asking.{ask-known, ask-asks}
 use Rattle.std.proofs.lemmas.Bool.{lt-ltb}
@@ -74,3 +76,13 @@ module _ (n m : List ℕ) (s : State) (e : m ≡ global_name n) where
       → (v : List ℕ) → first_value g a ≡ Some v → 1048576 < length v → (k : State → Play Ending) → touch n s k ≡ cut (codes "value too long") s
   touch-too-long b h f a some g ge v is long k =
       touch-known b h f a some k ∙ ap (λ o. begin m o s k) (rw ge at is) ∙ within-long (length v) s (k (began_with m v s)) long
+
+-- a variable whose value is in use is ready as it stands
+pub in-use : (n : List ℕ) (s : State) (v : List ℕ) → value_in_use n s ≡ Some v
+    → ((k : State → Play Ending) → touch n s k ≡ k s) × (value_of s.variables n ≡ Some v)
+in-use n s v e = step (is_to_begin n s) refl e
+  where
+    step : (b : Bool) → b ≡ is_to_begin n s → elim b as (λ _. Option (List ℕ)) [ true ↦ None | false ↦ value_of s.variables n ] ≡ Some v
+        → ((k : State → Play Ending) → touch n s k ≡ k s) × (value_of s.variables n ≡ Some v)
+    step true b h = cc
+    step false b h = (touch-free n (global_name n) s refl false b refl, h)

@@ -8,7 +8,7 @@ ghost use Rattle.dg_words.specs.Elements.{elements_of};
 ghost use Rattle.dg_language.specs.Growing.{Gets};
 ghost use Rattle.dg_language.specs.Variables.{is_to_begin, first_value, all_linked, or_empty};
 ghost use Rattle.dg_language.specs.Procedures.{longest};
-ghost use Rattle.dg_language.specs.Touch.{Touches};
+ghost use Rattle.dg_language.specs.Touch.{Touches, value_in_use};
 ghost use Rattle.dg_language.specs.Calls.{call_of};
 ghost use Rattle.dg_results.specs.Standing.{after_calls};
 
@@ -311,6 +311,16 @@ impl State {
         ensures { option_copied result ≡ value_of self.now.variables name.now }
     {
         self.variables.value(name).ok()
+    }
+
+    /// The value of a variable that can be used as it stands: none where it is not set, or is a global that has not begun.
+    pub fn value_in_use(&self, name: &[u8]) -> Option<&Bytes>
+        ensures { option_copied result ≡ value_in_use name.now self.now }
+    {
+        if self.is_to_begin(name) {
+            return None;
+        }
+        self.value_of(name)
     }
 
     /// Whether a variable is set.

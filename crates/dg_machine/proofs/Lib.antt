@@ -7,6 +7,7 @@ pub mod ReadyLemmas
 pub mod StepLemmas
 pub mod VariableLemmas
 pub mod ExpressionLemmas
+pub mod ComputingLemmas
 pub mod ChoiceLemmas
 pub mod OpeningLemmas
 pub mod BoardLemmas

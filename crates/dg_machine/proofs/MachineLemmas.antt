@@ -1,5 +1,5 @@
 -- Ends, errors and limits.
-use Rattle.std.proofs.Common.{◌≡◌, ◌≢◌, Bool, ℕ, suc, zero, ◌+◌, ◌-◌, ◌^◌, ◌<◌, ◌≤◌, true, false, List, [], ◌∷◌, ◌++◌, length, ap, sym, ◌∙◌, refl, subst, arith}
+use Rattle.std.proofs.Common.{◌≡◌, ◌≢◌, Bool, ℕ, suc, zero, ◌+◌, ◌-◌, ◌*◌, ◌^◌, ◌<◌, ◌≤◌, true, false, List, [], ◌∷◌, ◌++◌, length, ap, sym, ◌∙◌, refl, subst, arith}
 use Rattle.std.proofs.lemmas.Bool.{lt-ltb}
 use Rattle.std.specs.Prelude.{nat_lt, codes}
 use Rattle.dg_results.specs.declared.verdict.Line.{Line}
@@ -91,17 +91,19 @@ unfolding sequence
 sequence-cut d ws cs more v s k e h =
     rw e (tick-none s (λ s'. gather (evaluate d) (command (evaluate d)) [] [] [] (substitutions ws) s' (if_done (λ v' s''. sequence (evaluate d) more v' s'' k) k)) h)
 
--- a step that is taken pays for the frames of a command
-pub weight-begun : (s : State) (m : Making) (more : List Command) (d : ℕ) (fs : List Frame) → s.steps < 100000 → m.purpose ≡ Run → length m.left < 2 ^ 64
-    → weight Go (stepped s) (Gathering m d ∷ Sequence more d ∷ fs) < weight Go s fs + 3
+-- a step that is taken pays for a command, whose words are made in so many steps
+pub weight-stepped : (s : State) (more : List Command) (d n : ℕ) (fs : List Frame) → s.steps < 100000 → n < 2 ^ 64
+    → weight Go (stepped s) (Sequence more d ∷ fs) + budget Run + 4 + 4 * n ≤ weight Go s fs + 3
 unfolding weight stack_weight stepped budget
-weight-begun s m more d fs h e g =
-    let paid : budget m.purpose ≡ 2 ^ 250 = rw e refl in
-    omega arith
+weight-stepped s more d n fs h g = omega arith
 
 pub weight-cons : (s : State) (f : Frame) (fs : List Frame) → weight Go s (f ∷ fs) ≡ weight Go s fs + frame_weight f
 unfolding weight stack_weight
 weight-cons s f fs = omega arith
+
+-- the reads under another name
+pub Comes-known : (p : Pace) (play : Play Ending) (known known' : List Read) (w : ℕ) (m : Machine) → Comes play known w m p → known ≡ known' → Comes play known' w m p
+Comes-known p play known known' w m h e = subst (λ (r : List Read). Comes play r w m p) e h
 
 pub known-stepped : (s : State) → (stepped s).known ≡ s.known
 unfolding stepped

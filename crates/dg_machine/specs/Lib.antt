@@ -8,6 +8,7 @@ pub mod Patterns
 pub mod Giving
 pub mod Acting
 pub mod Meaning
+pub mod Computing
 pub mod Performing
 pub mod Seeking
 pub mod Evaluating

@@ -254,17 +254,6 @@ Readies n old new (Some (Over c)) =
     ((k : State → Play Ending) → touch n old.state k ≡ ends_with c new.state) × (new ≡ old)
 Readies n old new (Some Lost) = ⊥
 
--- a command whose words are made in these steps has begun, in front of the commands that are left
-abbrev pub Begins : List Command → List Substitution → ℕ → Machine → Machine → Type 0
-Begins commands left depth old new =
-    (new
-    ≡ record old {
-      stack =
-          Gathering (record { purpose = Run; made = []; outer = []; text = []; left = left }) depth
-          ∷ Sequence commands depth ∷ old.stack;
-    })
-    × (length left < 2 ^ 64)
-
 -- where a machine comes to by itself: to a question that has no answer yet, or to the end
 abbrev pub ComesTo : Machine → Machine → Stop → Type 0
 ComesTo old new (AtQuestion ask) =

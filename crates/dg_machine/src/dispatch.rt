@@ -15,7 +15,7 @@ use dg_language::{Builtin, Code, Purpose};
 use std::alloc::{AllocError, Global};
 
 /// The first value, or the empty text where there is none.
-fn first_or_empty(alloc: Global, values: &[Bytes]) -> Result<Bytes, AllocError>
+pub(crate) fn first_or_empty(alloc: Global, values: &[Bytes]) -> Result<Bytes, AllocError>
     ensures { IfOk result (λ b. b ≡ head_or_empty values.now) }
 {
     match values {

@@ -1,5 +1,5 @@
 //! What stands round an evaluation.
-ghost use Rattle.std.specs.Prelude.{◌≡◌, [], ◌∷◌, OnOk, MatchOption};
+ghost use Rattle.std.specs.Prelude.{◌≡◌, ◌<◌, ◌^◌, [], ◌∷◌, length, OnOk, MatchOption};
 
 use crate::instructions::Instructions;
 use crate::patterns::Prepared;
@@ -25,6 +25,23 @@ pub(crate) struct Making {
     pub text: Bytes,
     /// The steps that are left.
     pub left: Queue<Substitution>,
+}
+
+impl Making {
+    /// No word is made. That the steps are counted by a `usize` bounds what they weigh.
+    pub fn begun(alloc: Global, purpose: Purpose, left: Queue<Substitution>) -> Making
+        ensures begun { result ≡ record { purpose = purpose; made = []; outer = []; text = []; left = left } }
+        ensures counted { length left < 2 ^ 64 }
+    {
+        let _count = left.len();
+        Making {
+            purpose,
+            made: Seq::new(alloc),
+            outer: Stack::new(alloc),
+            text: Bytes::new(alloc),
+            left,
+        }
+    }
 }
 
 /// The rounds of a loop over values.

@@ -1,7 +1,8 @@
 //! How the words of a command are made, a step at a time.
-ghost use Rattle.std.specs.Prelude.{◌≡◌, ◌+◌, ◌*◌, ◌^◌, ◌<◌, ◌≤◌, ◌∷◌, ◌++◌, [], ℕ, IfOk, OnOk, length, codes};
+ghost use Rattle.std.specs.Prelude.{◌≡◌, ◌+◌, ◌*◌, ◌^◌, ◌<◌, ◌≤◌, ◌∷◌, ◌++◌, [], ℕ, IfOk, OnOk, IfSome, Some, length, codes};
+ghost use Rattle.std.specs.Bool.{OnTrue, OnFalse};
 ghost use Rattle.dg_language.specs.Evaluation.{Then, if_done, list_in};
-ghost use Rattle.dg_language.specs.State.{State};
+ghost use Rattle.dg_language.specs.Touch.{value_in_use};
 ghost use Rattle.dg_language.specs.Variables.{touch};
 ghost use Rattle.dg_language.specs.Language.{used, evaluate};
 ghost use Rattle.dg_language.specs.Words.{gather, element, with_elements};
@@ -13,7 +14,7 @@ use crate::machine::Machine;
 use crate::variables::push_all;
 use dg_bytes::{Bytes, TryCopy};
 use dg_forms::{cannot_read, elements_in};
-use dg_language::Substitution;
+use dg_language::{State, Substitution};
 use dg_scope::LONGEST_VALUE;
 use std::alloc::{AllocError, Global};
 use std::mem;
@@ -29,22 +30,60 @@ fn add_text(text: &mut Bytes, value: Bytes) -> Result<(), AllocError>
     text.extend(value.as_slice())
 }
 
-/// Takes the steps that only add a text or end a word, up to any other, or to a text that would make
-/// the word too long.
-fn make_texts(alloc: Global, making: &mut Making) -> Result<(), AllocError>
-    ensures same { OnOk result ((depth : ℕ) (s : State) (k : Then) → making_on making.new depth s k ≡ making_on making.old depth s k) }
+/// Whether a text is no longer than a value may be, once this is added.
+fn has_room(text: &Bytes, added: &Bytes) -> bool
+    ensures short { OnTrue result (length text.now + length added.now ≤ 1048576) }
+    ensures long { OnFalse result (1048576 < length text.now + length added.now) }
+{
+    let length = added.len();
+    length <= LONGEST_VALUE && text.len() <= LONGEST_VALUE - length
+}
+
+/// The value of a variable that is in use, if a text has room for it.
+fn value_with_room(
+    alloc: Global,
+    state: &State,
+    name: &Bytes,
+    text: &Bytes,
+) -> Result<Option<Bytes>, AllocError>
+    ensures value { IfOk result (λ o. IfSome o (λ v. value_in_use name.now state.now ≡ Some v)) }
+    ensures room { IfOk result (λ o. IfSome o (λ v. length text.now + length v ≤ 1048576)) }
+{
+    let Some(value) = state.value_in_use(name.as_slice()) else {
+        return Ok(None);
+    };
+    if !has_room(text, value) {
+        return Ok(None);
+    }
+    Ok(Some(value.copy(alloc)?))
+}
+
+/// Takes the steps that only add a text or the value of a variable that is in use, or end a word, up to any other, or to a
+/// text that would make the word too long.
+pub(crate) fn make_texts(
+    alloc: Global,
+    state: &State,
+    making: &mut Making,
+) -> Result<(), AllocError>
+    ensures same { OnOk result ((depth : ℕ) (k : Then) → making_on making.new depth state.now k ≡ making_on making.old depth state.now k) }
     ensures fewer { OnOk result (length making.new.left ≤ length making.old.left) }
     ensures purpose { OnOk result (making.new.purpose ≡ making.old.purpose) }
 {
     'steps: while let Some(step) = making.left.next() {
         match step {
             Substitution::Literal(text) => {
-                let length = text.len();
-                if length > LONGEST_VALUE || making.text.len() > LONGEST_VALUE - length {
+                if !has_room(&making.text, &text) {
                     making.left.push_front(Substitution::Literal(text))?;
                     return Ok(());
                 }
                 add_text(&mut making.text, text)?;
+            }
+            Substitution::Variable(name) => {
+                let Some(value) = value_with_room(alloc, state, &name, &making.text)? else {
+                    making.left.push_front(Substitution::Variable(name))?;
+                    return Ok(());
+                };
+                add_text(&mut making.text, value)?;
             }
             Substitution::WordEnds => {
                 let word = mem::replace(&mut making.text, Bytes::new(alloc));
@@ -293,7 +332,7 @@ impl Machine {
         requires { self.old.control ≡ Control.Go }
         ensures { IfOk result (λ p. Comes (making_on making depth self.old.state (all_back self.old.stack)) self.old.state.known (weight_of self.old + budget making.purpose + 4 + 4 * length making.left) self.new p) }
     {
-        make_texts(alloc, &mut making)?;
+        make_texts(alloc, &self.state, &mut making)?;
         match making.left.next() {
             None => Ok(self.use_words(alloc, making, depth)?),
             Some(Substitution::Variable(name)) => {

@@ -4,6 +4,7 @@
 mod acting;
 mod boards;
 mod choices;
+mod computing;
 mod control;
 mod dispatch;
 mod evaluation;

@@ -4,13 +4,17 @@ ghost use Rattle.std.specs.Option.{option_copied};
 ghost use Rattle.dg_language.specs.Evaluation.{cut, out_of_steps, fail, wrong_count};
 ghost use Rattle.dg_language.specs.Play.{Ends};
 ghost use Rattle.dg_language.specs.Variables.{store};
-ghost use Rattle.dg_language.specs.Language.{commands_at, sequence, evaluate};
-ghost use Rattle.dg_machine.specs.Meaning.{all_back, weight_of, ends_with, Begins, Goes, Readies};
+ghost use Rattle.dg_language.specs.Language.{command, commands_at, sequence, evaluate};
+ghost use Rattle.dg_language.specs.Words.{gather};
+ghost use Rattle.dg_language.specs.declared.substitution.Purpose.{Purpose};
+ghost use Rattle.dg_machine.specs.declared.frame.Control.{Control};
+ghost use Rattle.dg_machine.specs.declared.frame.Frame.{Frame};
+ghost use Rattle.dg_machine.specs.Meaning.{all_back, budget, weight, weight_of, ends_with, Comes, Goes, Readies};
 
 use crate::frame::{Closing, Control, Frame, Making, Pace, Stack};
 use crate::instructions::Formula;
 use crate::script::{Begun, Commands, KEPT, Script};
-use dg_bytes::{Bytes, Seq, TryCopy};
+use dg_bytes::{Bytes, TryCopy};
 use dg_forms::wrong_count;
 use dg_language::{Ask, Close, Code, Purpose, Queue, State, Substitution, Touch};
 use dg_match::Programs;
@@ -156,30 +160,26 @@ impl Machine {
         Ok(Pace::Moved)
     }
 
-    /// The words of a command begin to be made, in front of the commands that are left.
+    /// The words of a command are made, in front of the commands that are left.
+    #[tactic(auto, unfolding(crate::specs::Meaning::all_back, crate::specs::Meaning::back))]
     fn begin_command(
         &mut self,
         alloc: Global,
         commands: Script,
         left: Queue<Substitution>,
         depth: u32,
-    ) -> Result<(), AllocError>
-        ensures { OnOk result (Begins commands left depth self.old self.new) }
+    ) -> Result<Pace, AllocError>
+        requires { self.old.control ≡ Control.Go }
+        ensures comes { IfOk result (λ p. Comes (gather (evaluate depth) (command (evaluate depth)) [] [] [] left self.old.state (all_back (Frame.Sequence commands depth ∷ self.old.stack))) self.old.state.known (weight Control.Go self.old.state (Frame.Sequence commands depth ∷ self.old.stack) + budget Purpose.Run + 4 + 4 * length left) self.new p) }
+        ensures counted { OnOk result (length left < 2 ^ 64) }
     {
-        let making = Making {
-            purpose: Purpose::Run,
-            made: Seq::new(alloc),
-            outer: Stack::new(alloc),
-            text: Bytes::new(alloc),
-            left,
-        };
-        let _count = making.left.len();
         self.stack.push(Frame::Sequence { commands, depth })?;
-        self.stack.push(Frame::Gathering { making, depth })?;
-        Ok(())
+        let making = Making::begun(alloc, Purpose::Run, left);
+        let pace = self.gather(alloc, making, depth)?;
+        Ok(pace)
     }
 
-    /// The commands that are left go on: the next one runs, or the value of the last is theirs.
+    /// The commands that are left go on: the words of the next one are made, or the value of the last is theirs.
     pub(crate) fn sequence(
         &mut self,
         alloc: Global,
@@ -188,7 +188,7 @@ impl Machine {
         depth: u32,
     ) -> Result<Pace, AllocError>
         requires { self.old.control ≡ Control.Go }
-        ensures { IfOk result (λ p. Goes (sequence (evaluate depth) commands value self.old.state (all_back self.old.stack)) self.old.state.known (weight_of self.old + 3) self.new p) }
+        ensures { IfOk result (λ p. Comes (sequence (evaluate depth) commands value self.old.state (all_back self.old.stack)) self.old.state.known (weight_of self.old + 3) self.new p) }
     {
         match commands.next(alloc)? {
             None => {
@@ -206,8 +206,8 @@ impl Machine {
                     return Ok(Pace::Over(closing));
                 }
                 self.state.take_step();
-                self.begin_command(alloc, commands, left, depth)?;
-                Ok(Pace::Moved)
+                let pace = self.begin_command(alloc, commands, left, depth)?;
+                Ok(pace)
             }
         }
     }

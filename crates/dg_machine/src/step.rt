@@ -120,7 +120,7 @@ impl Machine {
         value: Bytes,
     ) -> Result<Pace, AllocError>
         requires { self.old.control ≡ Control.Go }
-        ensures { IfOk result (λ p. Goes (if_done (λ v s. sequence (evaluate depth) commands v s (all_back self.old.stack)) (all_back self.old.stack) code value self.old.state) self.old.state.known (weight_of self.old + 3) self.new p) }
+        ensures { IfOk result (λ p. Comes (if_done (λ v s. sequence (evaluate depth) commands v s (all_back self.old.stack)) (all_back self.old.stack) code value self.old.state) self.old.state.known (weight_of self.old + 3) self.new p) }
     {
         match code {
             Code::Done => Ok(self.sequence(alloc, commands, value, depth)?),
@@ -212,7 +212,7 @@ impl Machine {
                 names: _,
             } => Ok(self.go_up(code, value)),
             Frame::Calculating { calculation } => {
-                Ok(self.after_operand(calculation, code, value)?)
+                Ok(self.after_operand(alloc, calculation, code, value)?)
             }
             Frame::Writing => Ok(self.write_value(alloc, code, value)?),
             Frame::Choosing { choice } => Ok(self.after_condition(alloc, choice, code, value)?),
@@ -250,7 +250,7 @@ impl Machine {
                 Ok(self.after_script(alloc, making, depth, code, value)?)
             }
             Frame::Calculating { calculation } => {
-                Ok(self.after_operand(calculation, code, value)?)
+                Ok(self.after_operand(alloc, calculation, code, value)?)
             }
             Frame::Repeating { repetition } => Ok(self.repeat(alloc, repetition, code, value)?),
             frame => Ok(self.give_back_any(alloc, frame, code, value)?),

@@ -1,12 +1,11 @@
 use Rattle.std.proofs.Common.{◌≡◌, ℕ, ◌≤◌, length}
-use Rattle.dg_language.specs.State.{State}
 use Rattle.dg_language.specs.Evaluation.{Then}
 use Rattle.dg_machine.specs.Meaning.{making_on}
 use Rattle.dg_machine.proofs.gather.make_texts.Given as goal
 
 abbrev pub invariant-steps : goal.invariant-steps
 invariant-steps l =
-    ((depth : ℕ) (s : State) (k : Then) → making_on l.making depth s k ≡ making_on l.fn.making depth s k)
+    ((depth : ℕ) (k : Then) → making_on l.making depth l.fn.state k ≡ making_on l.fn.making depth l.fn.state k)
     × (length l.making.left ≤ length l.fn.making.left) × (l.making.purpose ≡ l.fn.making.purpose)
 
 abbrev pub decreases-steps : goal.decreases-steps

@@ -1,6 +1,5 @@
-use Rattle.std.proofs.Common.{◌∙◌, refl, arith}
-use Rattle.dg_machine.specs.Meaning.{go, rest}
-use Rattle.dg_machine.proofs.MachineLemmas.{Goes-along, weight-cons}
+use Rattle.std.proofs.Common.{◌∙◌, refl, sym, arith}
+use Rattle.dg_machine.proofs.MachineLemmas.{Goes-along}
 use Rattle.dg_machine.proofs.ExpressionLemmas.{calculate-code, calculate-none}
 use Rattle.dg_machine.proofs.machine.Machine.calculate.Goals as goal
 
@@ -11,8 +10,7 @@ returns-in_default c =
     Goes-along _ _ _ _ _ _ _ _ went (calculate-none _ _ _ _ none) refl (omega arith)
 
 pub returns : goal.returns
-unfolding rest go
 returns c =
     let code = rw c.in-Some.is at (c.of.ensures ∙ c.in_ok-formula.ensures) in
-    rw (c.in_ok-push.ensures, c.new.ensures, c.requires)
-    (calculate-code _ _ _ _ _ code, refl, (rw weight-cons (rw (← c.len-count.ensures) (omega arith))))
+    let went = rw c.new.ensures at c.in_ok-compute.ensures in
+    Goes-along _ _ _ _ _ _ _ _ went (sym (calculate-code _ _ _ _ _ code)) refl (rw (← c.len-count.ensures) (omega arith))

@@ -5,14 +5,14 @@ use Rattle.dg_machine.proofs.machine.Machine.gather.Goals as goal
 
 pub returns-in_ok-use_words-in-None : goal.returns-in_ok-use_words-in-None
 returns-in_ok-use_words-in-None c =
-    let same = c.in_ok-make_texts.ensures.same c.args.depth c.args.self.now.state (all_back c.args.self.now.stack) in
+    let same = c.in_ok-make_texts.ensures.same c.args.depth (all_back c.args.self.now.stack) in
     let fewer = c.in_ok-make_texts.ensures.fewer in
     let paid = ap budget c.in_ok-make_texts.ensures.purpose in
     Comes-along _ _ _ _ _ _ _ c.in_ok-use_words-in-None.ensures (sym same ∙ gather-none _ _ _ _ _ _ _ _ c.in-None.ensures.0) (omega (arith, fewer, paid))
 
 pub returns-in_ok-gather_variable-in-Some-Variable : goal.returns-in_ok-gather_variable-in-Some-Variable
 returns-in_ok-gather_variable-in-Some-Variable c =
-    let same = c.in_ok-make_texts.ensures.same c.args.depth c.args.self.now.state (all_back c.args.self.now.stack) in
+    let same = c.in_ok-make_texts.ensures.same c.args.depth (all_back c.args.self.now.stack) in
     let fewer = c.in_ok-make_texts.ensures.fewer in
     let paid = ap budget c.in_ok-make_texts.ensures.purpose in
     let left = rw c.in-Some-Variable.field-0-is at c.in-Some-Variable.ensures in
@@ -22,7 +22,7 @@ returns-in_ok-gather_variable-in-Some-Variable c =
 
 pub returns-in_ok-gather_step-in-Some : goal.returns-in_ok-gather_step-in-Some
 returns-in_ok-gather_step-in-Some c =
-    let same = c.in_ok-make_texts.ensures.same c.args.depth c.args.self.now.state (all_back c.args.self.now.stack) in
+    let same = c.in_ok-make_texts.ensures.same c.args.depth (all_back c.args.self.now.stack) in
     let fewer = c.in_ok-make_texts.ensures.fewer in
     let paid = ap budget c.in_ok-make_texts.ensures.purpose in
     let count = ap length c.in-Some.ensures in

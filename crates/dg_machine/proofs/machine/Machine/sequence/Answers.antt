@@ -1,6 +1,7 @@
 use Rattle.std.proofs.Common.{◌∙◌, refl, sym, arith}
 use Rattle.dg_machine.specs.Meaning.{go, rest, weight}
-use Rattle.dg_machine.proofs.MachineLemmas.{sequence-done, sequence-unreadable, sequence-next, sequence-cut, weight-begun, known-stepped, no-step, step-left, Goes-along}
+use Rattle.dg_machine.proofs.MachineLemmas.{sequence-done, sequence-unreadable, sequence-next, sequence-cut, weight-stepped, known-stepped, no-step, step-left, Goes-comes, Comes-known}
+use Rattle.dg_machine.proofs.GatherLemmas.{Comes-along}
 use Rattle.dg_machine.proofs.machine.Machine.sequence.Goals as goal
 
 pub returns-in-None : goal.returns-in-None
@@ -14,7 +15,7 @@ returns-in_ok-pace-in-Some-Unreadable c =
     let taken = rw c.in-Some-Unreadable.field-0-is at (rw c.in-Some-Unreadable.is at c.in_ok-next.ensures) in
     let message = c.in_ok-message-in-Some-Unreadable.ensures ∙ c.fault_text.ensures in
     let went = rw message at c.in_ok-pace-in-Some-Unreadable.ensures in
-    Goes-along _ _ _ _ _ _ _ _ went (sequence-unreadable _ _ _ _ _ _ _ taken.1) refl (omega arith)
+    Goes-comes _ _ _ _ _ _ _ went (sequence-unreadable _ _ _ _ _ _ _ taken.1) (omega arith)
 
 pub returns-then-not-has_step : goal.returns-then-not-has_step
 returns-then-not-has_step c =
@@ -22,11 +23,10 @@ returns-then-not-has_step c =
     let h = no-step c.args.self.now.state _ c.has_step.ensures c.if-not-has_step.true in
     rw c.out_of_steps.ensures.same (sequence-cut _ _ _ _ _ _ _ taken.1.0 h ∙ c.in_ok-closing-in-Some-Steps.ensures.ends, refl)
 
-pub returns-in_ok-begin_command-in-Some-Steps : goal.returns-in_ok-begin_command-in-Some-Steps
-unfolding rest go
-returns-in_ok-begin_command-in-Some-Steps c =
+pub returns-in_ok-pace-in-Some-Steps : goal.returns-in_ok-pace-in-Some-Steps
+returns-in_ok-pace-in-Some-Steps c =
     let taken = rw c.in-Some-Steps.field-0-is at (rw c.in-Some-Steps.is at c.in_ok-next.ensures) in
     let h = step-left c.args.self.now.state _ c.has_step.ensures c.if-not-has_step.false in
-    let begun = c.in_ok-begin_command-in-Some-Steps.ensures in
-    rw (begun.0, c.take_step.ensures, taken.1.1, c.requires)
-    (sym (sequence-next _ _ _ _ _ _ _ taken.1.0 h), known-stepped _, weight-begun _ _ _ _ _ h refl (rw taken.1.1 at begun.1))
+    let went = rw (c.take_step.ensures, taken.1.1) at c.in_ok-pace-in-Some-Steps.ensures.comes in
+    Comes-along _ _ _ _ _ _ _ (Comes-known _ _ _ _ _ _ went (known-stepped _)) (sequence-next _ _ _ _ _ _ _ taken.1.0 h)
+    (rw c.requires (weight-stepped _ _ _ _ _ h (rw taken.1.1 at c.in_ok-pace-in-Some-Steps.ensures.counted)))
