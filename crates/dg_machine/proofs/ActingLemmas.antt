@@ -1,5 +1,5 @@
 -- Actions on sessions, an entry at a time.
-use Rattle.std.proofs.Common.{◌≡◌, ℕ, suc, zero, ◌+◌, ◌-◌, ◌^◌, ◌<◌, ◌≤◌, Bool, true, false, cond, List, [], ◌∷◌, ◌++◌, length, length-append, refl, ap, sym, ◌∙◌, subst, arith}
+use Rattle.std.proofs.Common.{◌≡◌, ℕ, suc, ◌+◌, ◌-◌, ◌^◌, ◌<◌, ◌≤◌, Bool, true, false, cond, List, ◌++◌, length, length-append, refl, ap, sym, ◌∙◌, subst, arith}
 use Rattle.std.specs.Prelude.{Option, Some, None, nat_lt, nat_le, ◌==◌, unwrap_or, codes, decimal}
 use Rattle.dg_transcript.specs.declared.entry.Entry.{Entry}
 use Rattle.dg_transcript.specs.declared.entry.Entry.TheVariants as entry
@@ -24,7 +24,7 @@ use Rattle.dg_results.specs.declared.verdict.Line.{Line}
 use Rattle.dg_results.specs.Lines.{lines_of, depart_lines}
 use Rattle.dg_language.specs.declared.close.Close.TheVariants.{Departed}
 use Rattle.dg_machine.specs.Meaning.{ends_with}
-use Rattle.dg_machine.specs.Acting.{UsesOne, Acts, SameKind, limit_in}
+use Rattle.dg_machine.specs.Acting.{UsesOne, Acts, SameKind}
 
 -- ---- how a step goes on in its record
 

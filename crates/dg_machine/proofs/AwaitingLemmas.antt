@@ -1,5 +1,5 @@
 -- Matches, and the rounds of `expect`.
-use Rattle.std.proofs.Common.{◌≡◌, ◌≢◌, ℕ, suc, zero, ◌+◌, ◌-◌, ◌*◌, ◌^◌, ◌<◌, ◌≤◌, ◌⊎◌, inl, inr, Bool, true, false, List, [], ◌∷◌, ◌++◌, length, take, drop, refl, ap, sym, ◌∙◌, subst, arith}
+use Rattle.std.proofs.Common.{◌≡◌, ◌≢◌, ℕ, suc, zero, ◌+◌, ◌-◌, ◌^◌, ◌≤◌, ◌⊎◌, inl, inr, Bool, true, false, List, [], ◌∷◌, ◌++◌, length, take, drop, refl, ap, sym, ◌∙◌, arith}
 use Rattle.std.proofs.lemmas.List.{drop-take, take-take, length-take-le}
 use Rattle.std.proofs.lemmas.List.Elements.{recursion_from_All, All-weaker}
 use Rattle.std.specs.Prelude.{Option, Some, None, IfSome, is_some, slice_range, codes, decimal}
@@ -21,7 +21,7 @@ use Rattle.dg_language.specs.State.{State, assigned, with_sessions, in_action, o
 use Rattle.dg_language.specs.Evaluation.{Ending, Then, Nested, fail, out_of_steps}
 use Rattle.dg_language.specs.Sessions.{Told, Late, if_fit, is_session_open, not_open, perform}
 use Rattle.dg_language.specs.ExpectWords.{is_for_end, is_for_timeout, patterns_in}
-use Rattle.dg_language.specs.Expecting.{Waiting, act, action_at, after_action, after_limit, after_read, bytes_of, first_action, group_text, if_open, one_round, out_name, reading, rounds, taking, tries, with_end, with_groups, with_match, with_removed}
+use Rattle.dg_language.specs.Expecting.{Waiting, act, action_at, after_action, after_limit, after_read, bytes_of, first_action, group_text, one_round, out_name, reading, rounds, taking, tries, with_end, with_groups, with_match, with_removed}
 use Rattle.dg_machine.specs.declared.frame.Control.{Control}
 use Rattle.dg_language.specs.Language.{evaluate}
 use Rattle.dg_machine.specs.declared.frame.Came.TheVariants.{Passed, Answered, Late as TooLate}

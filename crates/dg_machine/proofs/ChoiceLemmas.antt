@@ -1,6 +1,6 @@
 -- The clauses of `if`, and the tests of loops.
 use Rattle.std.proofs.Common.{◌≡◌, ◌≢◌, ℕ, suc, zero, ◌+◌, ◌-◌, ◌^◌, ◌<◌, ◌≤◌, ◌⊎◌, inl, inr, true, false, List, [], ◌∷◌, refl, arith}
-use Rattle.std.specs.Prelude.{Option, codes}
+use Rattle.std.specs.Prelude.{Option}
 use Rattle.dg_language.specs.declared.clause.Clause.{Clause}
 use Rattle.dg_language.specs.Play.{Ends}
 use Rattle.dg_language.specs.State.{State, stepped}

@@ -1,11 +1,10 @@
 -- Operands, and instructions that may fail.
-use Rattle.std.proofs.Common.{◌≡◌, ℕ, zero, suc, ◌<◌, ◌≤◌, List, [], ◌∷◌, length, ap, sym, ◌∙◌, refl, arith}
+use Rattle.std.proofs.Common.{◌≡◌, ℕ, ◌≤◌, List, [], ◌∷◌, length, ap, sym, ◌∙◌, refl, arith}
 use Rattle.std.specs.Prelude.{Option, Some, None, MatchOption}
 use Rattle.dg_words.specs.Piece.{Piece}
 use Rattle.dg_expr.specs.Code.{run}
 use Rattle.dg_expr.specs.declared.code.Instruction.{Instruction}
 use Rattle.dg_expr.specs.declared.code.Instruction.TheVariants as code
-use Rattle.dg_language.specs.declared.code.Code.TheVariants.{Done}
 use Rattle.dg_language.specs.declared.substitution.Purpose.{Purpose}
 use Rattle.dg_language.specs.declared.substitution.Purpose.TheVariants.{Load}
 use Rattle.dg_language.specs.Language.{used, evaluate}

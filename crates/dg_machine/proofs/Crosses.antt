@@ -4,7 +4,6 @@ use denote.Param.Send.{EachSend, IsSend, IsSync, enum_send, recorded_send, senda
 use Rattle.std.proofs.Crossing.{Arc-send}
 use Rattle.dg_bytes.proofs.bytes.Bytes.TheSendSync as bytes
 use Rattle.dg_bytes.proofs.seq.Seq.TheSendSync as seq
-use Rattle.dg_bytes.specs.contracts.seq.Seq as Seq
 use Rattle.dg_language.proofs.Crosses.{Commands-send, Commands-sync, Instruction-send, Instruction-sync}
 use Rattle.dg_language.proofs.queue.Queue.TheSendSync as queue
 use Rattle.dg_language.proofs.state.State.TheSendSync as state

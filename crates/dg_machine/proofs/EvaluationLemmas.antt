@@ -1,5 +1,5 @@
 -- What an evaluation keeps, from question to question.
-use Rattle.std.proofs.Common.{◌≡◌, ◌∷◌, [], true, List, refl, sym, subst}
+use Rattle.std.proofs.Common.{◌≡◌, ◌∷◌, [], true, refl, sym, subst}
 use Rattle.std.specs.Prelude.{None}
 use Rattle.dg_language.specs.declared.ask.Ask.{Ask}
 use Rattle.dg_world.specs.declared.question.Answer.{Answer}

@@ -29,7 +29,7 @@ use Rattle.dg_machine.specs.declared.frame.Making.{Making}
 use Rattle.dg_machine.specs.declared.frame.Closing.{Closing}
 use Rattle.dg_machine.specs.declared.frame.Fit.TheVariants.{Open}
 use Rattle.dg_machine.specs.declared.frame.Pace.{Pace}
-use Rattle.dg_machine.specs.declared.frame.Pace.TheVariants.{Moved, Stands, Over, Lost}
+use Rattle.dg_machine.specs.declared.frame.Pace.TheVariants.{Moved, Stands, Over}
 use Rattle.dg_machine.specs.declared.frame.Sought.TheVariants.{Session, Instead}
 use Rattle.dg_machine.specs.Seeking.{Seeks}
 use Rattle.dg_machine.specs.declared.machine.Machine.{Machine}

@@ -19,8 +19,7 @@ use Rattle.dg_language.specs.Evaluation.{Ending, Then, cut, aborted, out_of_step
 use Rattle.dg_language.specs.Language.{command, sequence, evaluate, commands_at}
 use Rattle.dg_language.specs.Words.{gather, substitutions}
 use Rattle.dg_machine.specs.declared.frame.Frame.{Frame}
-use Rattle.dg_machine.specs.declared.frame.Frame.TheVariants.{Sequence, Gathering}
-use Rattle.dg_machine.specs.declared.frame.Making.{Making}
+use Rattle.dg_machine.specs.declared.frame.Frame.TheVariants.{Sequence}
 use Rattle.dg_machine.specs.declared.frame.Control.TheVariants.{Go}
 use Rattle.dg_machine.specs.declared.frame.Pace.{Pace}
 use Rattle.dg_machine.specs.declared.frame.Pace.TheVariants.{Moved, Stands, Over, Lost}

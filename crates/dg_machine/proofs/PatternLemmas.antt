@@ -1,6 +1,6 @@
 -- `-re` patterns that are asked for one after another, and what `regexp` writes.
-use Rattle.std.proofs.Common.{◌≡◌, ◌≢◌, ◌≤◌, ◌+◌, ◌^◌, ℕ, List, [], ◌∷◌, ◌++◌, append_assoc, Bool, true, false, ap, refl, subst, sym, ◌∙◌}
-use Rattle.std.specs.Prelude.{Option, Some, None, Ok, Err, Result, length, codes}
+use Rattle.std.proofs.Common.{◌≡◌, ◌≢◌, ◌≤◌, ◌+◌, ◌^◌, ℕ, List, [], ◌∷◌, ◌++◌, append_assoc, true, false, ap, refl, subst, sym, ◌∙◌}
+use Rattle.std.specs.Prelude.{Option, Some, None, Ok, Err, length, codes}
 use Rattle.dg_match.specs.Groups.{regex_match}
 use Rattle.dg_match.specs.declared.reading.Reading.TheVariants.{Read as IsRead, Syntax, TooLarge}
 use Rattle.dg_match.specs.declared.pattern.Pattern.TheVariants.{Glob as GlobOf, Exact as ExactOf, Regex as RegexOf}
@@ -11,7 +11,6 @@ use Rattle.dg_world.specs.declared.question.Answer.TheVariants as answer
 use Rattle.dg_world.specs.declared.question.Read.{Read}
 use Rattle.dg_language.specs.declared.ask.Ask.{Ask}
 use Rattle.dg_language.specs.declared.code.Code.TheVariants.{Done}
-use Rattle.dg_language.specs.declared.expect.Awaited.{Awaited}
 use Rattle.dg_language.specs.declared.expect.Awaited.TheVariants.{Regex}
 use Rattle.dg_language.specs.declared.expect.Pair.{Pair}
 use Rattle.dg_language.specs.declared.search.Search.{Search}
@@ -26,7 +25,6 @@ use Rattle.dg_language.specs.Matching.{regexp_words, match_text, write_found, do
 use Rattle.dg_language.specs.Sessions.{on_words}
 use Rattle.dg_language.proofs.Asking.{ask-asks, ask-known, lookup-more}
 use Rattle.dg_machine.specs.declared.patterns.Known.TheVariants.{AllRead, OneUnread, Unasked}
-use Rattle.dg_machine.specs.declared.patterns.Known.{Known}
 use Rattle.dg_machine.specs.Giving.{giving}
 use Rattle.dg_machine.specs.Lost.{HasReadPattern}
 use Rattle.dg_machine.specs.Patterns.{AreRead, Knows}

@@ -1,6 +1,6 @@
 -- The commands on sessions, and what their actions weigh.
-use Rattle.std.proofs.Common.{◌≡◌, ℕ, ℤ, pos, negsuc, ◌&&◌, suc, ◌+◌, ◌-◌, ◌*◌, ◌^◌, ◌<◌, ◌≤◌, Bool, true, false, List, [], ◌∷◌, ◌++◌, length, refl, ap, sym, ◌∙◌, subst, arith}
-use Rattle.std.specs.Prelude.{Option, Some, None, Result, Ok, Err, is_some, nat_lt, nat_le, codes, decimal}
+use Rattle.std.proofs.Common.{◌≡◌, ℕ, ℤ, pos, negsuc, ◌&&◌, suc, ◌+◌, ◌^◌, ◌<◌, ◌≤◌, Bool, true, false, List, [], ◌∷◌, length, refl, ap, sym, ◌∙◌, subst, arith}
+use Rattle.std.specs.Prelude.{Option, Some, None, Result, Ok, Err, nat_lt, nat_le, codes}
 use Rattle.dg_scope.specs.Scopes.{value_of}
 use Rattle.dg_transcript.specs.declared.entry.Entry.{Entry}
 use Rattle.dg_transcript.specs.declared.cursor.Action.{Action}
@@ -8,19 +8,18 @@ use Rattle.dg_transcript.specs.declared.cursor.Action.TheVariants as action
 use Rattle.dg_world.specs.declared.question.Question.{Question}
 use Rattle.dg_world.specs.declared.question.Answer.{Answer}
 use Rattle.dg_world.specs.declared.question.Answer.TheVariants as answer
-use Rattle.dg_world.specs.declared.question.Read.{Read}
 use Rattle.std.proofs.lemmas.Bool.{lt-ltb}
 use Rattle.std.proofs.lemmas.Bool.Decides.{nat_tests}
 use Rattle.dg_expr.specs.Number.{number_of}
-use Rattle.dg_sessions.specs.Views.{SessionView, SessionsView, id_of, session_at, named, most_sessions}
+use Rattle.dg_sessions.specs.Views.{SessionView, SessionsView, id_of, session_at, most_sessions}
 use Rattle.dg_sessions.specs.Steps.{changed, changed_at, limited, with_session}
 use Rattle.dg_language.specs.declared.ask.Ask.{Ask}
 use Rattle.dg_language.specs.declared.code.Code.TheVariants.{Done}
-use Rattle.dg_language.specs.Play.{Play, Asks, lookup}
+use Rattle.dg_language.specs.Play.{Play, Asks}
 use Rattle.dg_language.specs.State.{State, learn, assigned, with_begun, with_sessions}
 use Rattle.dg_language.specs.Evaluation.{Ending, Then, fail, on}
 use Rattle.dg_language.specs.Variables.{touch, cannot_read}
-use Rattle.dg_language.specs.Sessions.{by_id, by_spawn_id, fit_session, not_open, on_session, on_words, seek, sought, start, spawned, perform, depart, entry_in, close_and_wait, do_close, do_match_max, do_send, do_wait, kept_limit, limit_in_range, limit_of_number, match_limit, send_to, later_limit, session_limit, set_limit}
+use Rattle.dg_language.specs.Sessions.{by_id, by_spawn_id, fit_session, not_open, on_session, on_words, seek, sought, start, spawned, perform, depart, entry_in, close_and_wait, do_close, do_match_max, do_send, do_wait, kept_limit, limit_of_number, match_limit, send_to, later_limit, session_limit, set_limit}
 use Rattle.dg_language.specs.SessionWords.{id_words, match_words, send_words}
 use Rattle.dg_sessions.specs.Phases.{is_open, has_started, can_wait}
 use Rattle.dg_machine.specs.declared.frame.Control.{Control}
@@ -40,7 +39,7 @@ use Rattle.dg_machine.specs.declared.frame.Pace.TheVariants.{Moved, Stands, Over
 use Rattle.dg_machine.specs.declared.machine.Machine.{Machine}
 use Rattle.dg_machine.specs.Acting.{UsesOne, Acts, acting, naming, told_after, after_weight}
 use Rattle.dg_machine.specs.Lost.{HasReadPattern}
-use Rattle.dg_machine.specs.Meaning.{all_back, ends_with, go, rest, weight_of, weight, stack_weight, frame_weight, Comes, Goes, Opens, Readies, Tries, RunsAs}
+use Rattle.dg_machine.specs.Meaning.{all_back, ends_with, go, rest, weight_of, weight, Comes, Goes, Opens, Readies, Tries, RunsAs}
 use Rattle.dg_machine.specs.Performing.{Performs}
 use Rattle.dg_machine.specs.Seeking.{fit_of, Seeks, SeeksNamed}
 use Rattle.dg_machine.proofs.GatherLemmas.{weight-same}

@@ -1,19 +1,16 @@
 -- Actions on sessions and the waits of `expect`, as frames.
-use Rattle.std.specs.Prelude.{◌≡◌, ℕ, ◌+◌, ◌*◌, ◌^◌, ◌<◌, ◌≤◌, Bool, Option, Some, None, List, [], length, codes}
-use Rattle.dg_transcript.specs.declared.entry.Entry.{Entry}
+use Rattle.std.specs.Prelude.{◌≡◌, ℕ, ◌+◌, ◌<◌, ◌≤◌, [], codes}
 use Rattle.dg_transcript.specs.declared.cursor.Action.{Action}
 use Rattle.dg_transcript.specs.declared.cursor.Action.TheVariants as action
 use Rattle.dg_transcript.specs.Output.{output_of}
-use Rattle.dg_sessions.specs.Views.{id_of, session_at}
-use Rattle.dg_sessions.specs.Phases.{is_open, has_started, can_wait}
-use Rattle.dg_sessions.specs.declared.phase.Phase.{Phase}
+use Rattle.dg_sessions.specs.Views.{id_of}
 use Rattle.dg_language.specs.declared.code.Code.TheVariants.{Done}
-use Rattle.dg_language.specs.Play.{Play, Ends, Asks, lookup}
-use Rattle.dg_language.specs.State.{State, learn, assigned, with_sessions}
-use Rattle.dg_language.specs.Evaluation.{Ending, Then, Nested}
+use Rattle.dg_language.specs.Play.{Play}
+use Rattle.dg_language.specs.State.{State, assigned, with_sessions}
+use Rattle.dg_language.specs.Evaluation.{Ending, Then}
 use Rattle.dg_language.specs.Variables.{touch}
-use Rattle.dg_language.specs.Sessions.{Told, Late, perform, depart, spawned, unless_failed, wait_for, wait_value}
-use Rattle.dg_language.specs.Expecting.{Waiting, after_action, after_limit, after_read, rounds, with_limit}
+use Rattle.dg_language.specs.Sessions.{Told, perform, depart, spawned, unless_failed, wait_for, wait_value}
+use Rattle.dg_language.specs.Expecting.{Waiting, after_limit, after_read, rounds, with_limit}
 use Rattle.dg_language.specs.ExpectWords.{regexes_in}
 use Rattle.dg_language.specs.Patterns.{with_patterns}
 use Rattle.dg_language.specs.Language.{evaluate}

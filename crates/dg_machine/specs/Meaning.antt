@@ -5,8 +5,7 @@ use Rattle.dg_world.specs.declared.question.Answer.{Answer}
 use Rattle.dg_world.specs.declared.question.Read.{Read}
 use Rattle.dg_language.specs.declared.code.Code.{Code}
 use Rattle.dg_language.specs.declared.code.Code.TheVariants.{Done, Failed, Returned, Broken, Continued, ExpContinued}
-use Rattle.dg_language.specs.declared.ask.Ask.{Ask}
-use Rattle.dg_language.specs.Play.{Play, Ends, Asks, plain, lookup}
+use Rattle.dg_language.specs.Play.{Play, Ends, Asks, lookup}
 use Rattle.dg_language.specs.State.{State, learn, departed, with_begun}
 use Rattle.dg_language.specs.Evaluation.{Ending, Then, closed, if_done, loop_after, outside, outside_of_a_loop, outside_of_expect}
 use Rattle.dg_language.specs.Variables.{touch, given, unset_all}
@@ -14,10 +13,8 @@ use Rattle.dg_scope.specs.Scopes.{value_of}
 use Rattle.dg_language.specs.Control.{caught, each, give_each}
 use Rattle.dg_language.specs.Language.{command, used, sequence, evaluate}
 use Rattle.dg_language.specs.Words.{longer, gather}
-use Rattle.dg_language.specs.declared.command.Command.{Command}
 use Rattle.dg_language.specs.declared.substitution.Purpose.{Purpose}
 use Rattle.dg_language.specs.declared.substitution.Purpose.TheVariants.{Run, Load, Expect}
-use Rattle.dg_language.specs.declared.substitution.Substitution.{Substitution}
 use Rattle.dg_language.specs.Boards.{after_library}
 use Rattle.dg_language.specs.Judge.{after_file, finish}
 use Rattle.dg_language.specs.Expressions.{written}

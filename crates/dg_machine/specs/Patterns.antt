@@ -1,8 +1,6 @@
 -- How far the `-re` patterns of a command are known.
 use Rattle.std.specs.Prelude.{◌≡◌, ℕ, List, [], ◌∷◌, Some, None}
 use Rattle.dg_match.specs.declared.reading.Reading.TheVariants.{Read as IsRead}
-use Rattle.dg_match.specs.declared.pattern.Pattern.{Pattern as BuiltPattern}
-use Rattle.dg_world.specs.declared.question.Question.{Question}
 use Rattle.dg_world.specs.declared.question.Question.TheVariants.{Pattern}
 use Rattle.dg_world.specs.declared.question.Answer.TheVariants.{Reading}
 use Rattle.dg_world.specs.declared.question.Read.{Read}

@@ -1,7 +1,7 @@
 -- What an action on a session comes to at its next entry.
 use Rattle.std.specs.Prelude.{◌≡◌, ℕ, None}
 use Rattle.dg_transcript.specs.declared.cursor.Action.{Action}
-use Rattle.dg_language.specs.Play.{Play, Asks, lookup}
+use Rattle.dg_language.specs.Play.{Asks, lookup}
 use Rattle.dg_language.specs.State.{learn}
 use Rattle.dg_language.specs.Sessions.{Told, Late, perform}
 use Rattle.dg_machine.specs.declared.machine.Machine.{Machine}

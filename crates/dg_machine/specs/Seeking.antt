@@ -1,5 +1,5 @@
 -- The session of a command.
-use Rattle.std.specs.Prelude.{◌≡◌, ℕ, ◌+◌, ◌^◌, Bool, Option, Some, None, List}
+use Rattle.std.specs.Prelude.{◌≡◌, ℕ, ◌+◌, Bool, Option, Some, None, List}
 use Rattle.dg_sessions.specs.Phases.{is_open, has_started, can_wait}
 use Rattle.dg_sessions.specs.declared.phase.Phase.{Phase}
 use Rattle.dg_language.specs.Play.{Play}

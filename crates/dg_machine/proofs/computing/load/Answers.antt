@@ -1,4 +1,4 @@
-use Rattle.std.proofs.Common.{◌≡◌, ℕ, ◌<◌, ◌≤◌, ◌^◌, [], length, refl, sym, ap, ◌∙◌, arith}
+use Rattle.std.proofs.Common.{refl, ap, ◌∙◌, arith}
 use Rattle.dg_machine.proofs.ComputingLemmas.{operand-begins, operand-made}
 use Rattle.dg_machine.proofs.computing.load.Goals as goal
 

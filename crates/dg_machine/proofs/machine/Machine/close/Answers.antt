@@ -1,5 +1,4 @@
 use Rattle.std.proofs.Common.{sym, arith}
-use Rattle.dg_language.specs.Sessions.{do_close}
 use Rattle.dg_transcript.specs.declared.cursor.Action.TheVariants as action
 use Rattle.dg_machine.specs.declared.frame.After.TheVariants.{Reported}
 use Rattle.dg_machine.specs.declared.frame.Fit.TheVariants.{Open}

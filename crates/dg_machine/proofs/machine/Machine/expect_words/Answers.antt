@@ -1,4 +1,4 @@
-use Rattle.std.proofs.Common.{◌∙◌, ap, refl, sym, arith}
+use Rattle.std.proofs.Common.{◌∙◌, ap, sym, arith}
 use Rattle.dg_machine.specs.declared.machine.Machine.{Machine}
 use Rattle.dg_machine.specs.Meaning.{go, rest}
 use Rattle.dg_machine.proofs.MachineLemmas.{Goes-comes, weight-cons}

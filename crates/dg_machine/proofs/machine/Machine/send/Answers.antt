@@ -1,10 +1,8 @@
 use Rattle.std.proofs.Common.{sym, arith}
 use Rattle.dg_language.specs.Sessions.{send_to}
-use Rattle.dg_transcript.specs.declared.cursor.Action.TheVariants as action
-use Rattle.dg_machine.specs.declared.frame.After.TheVariants.{Reported}
 use Rattle.dg_machine.specs.declared.frame.Fit.TheVariants.{Open}
 use Rattle.dg_machine.proofs.VariableLemmas.{runs-as}
-use Rattle.dg_machine.proofs.SessionLemmas.{doing, sought-runs, instead-runs, fault-runs, send-of, send-fault}
+use Rattle.dg_machine.proofs.SessionLemmas.{sought-runs, instead-runs, fault-runs, send-of, send-fault}
 use Rattle.dg_machine.proofs.machine.Machine.send.Goals as goal
 
 pub returns-in_ok-send_to-in-Session : goal.returns-in_ok-send_to-in-Session

@@ -1,5 +1,5 @@
 use Rattle.std.proofs.Common.{◌∙◌, refl, sym, arith}
-use Rattle.dg_machine.specs.Meaning.{go, rest, weight}
+use Rattle.dg_machine.specs.Meaning.{rest, weight}
 use Rattle.dg_machine.proofs.MachineLemmas.{sequence-done, sequence-unreadable, sequence-next, sequence-cut, weight-stepped, known-stepped, no-step, step-left, Goes-comes, Comes-known}
 use Rattle.dg_machine.proofs.GatherLemmas.{Comes-along}
 use Rattle.dg_machine.proofs.machine.Machine.sequence.Goals as goal
