@@ -322,7 +322,7 @@ impl Machine {
         }
     }
 
-    /// The words go on being made, by one step, or are used. A variable, the most frequent step, comes first.
+    /// The words go on being made, as far as nothing is asked or evaluated and by one step more, or are used.
     pub(crate) fn gather(
         &mut self,
         alloc: Global,
