@@ -5,6 +5,8 @@ use Rattle.std.proofs.Crossing.{Arc-send}
 use Rattle.dg_bytes.proofs.bytes.Bytes.TheSendSync as bytes
 use Rattle.dg_bytes.proofs.seq.Seq.TheSendSync as seq
 use Rattle.dg_language.proofs.Crosses.{Commands-send, Commands-sync, Instruction-send, Instruction-sync}
+use Rattle.dg_bytes.specs.contracts.seq.Seq as Seq
+use Rattle.dg_language.specs.contracts.substitution.Substitution as Substitution
 use Rattle.dg_language.proofs.queue.Queue.TheSendSync as queue
 use Rattle.dg_language.proofs.state.State.TheSendSync as state
 use Rattle.dg_expr.specs.contracts.code.Instruction as Instruction
@@ -39,17 +41,29 @@ use Rattle.dg_machine.specs.contracts.script.Commands as Commands
 use Rattle.dg_machine.specs.contracts.script.Script as Script
 use Rattle.dg_machine.specs.contracts.script.Source as Source
 
+Substitution-send : IsSend Substitution.the_row
+Substitution-send = search (sendable, bytes.the_send) depth 20
+
+Substitution-sync : IsSync Substitution.the_row
+Substitution-sync = search (sendable, bytes.the_sync) depth 20
+
+Steps-send : IsSend (Seq.the_row (Seq.the_row Substitution.the_row))
+Steps-send = seq.the_send (Seq.the_row Substitution.the_row) (seq.the_send Substitution.the_row Substitution-send)
+
+Steps-sync : IsSync (Seq.the_row (Seq.the_row Substitution.the_row))
+Steps-sync = seq.the_sync (Seq.the_row Substitution.the_row) (seq.the_sync Substitution.the_row Substitution-sync)
+
 Read-send : IsSend Commands.the_row
-Read-send = search (sendable, Commands-send) depth 20
+Read-send = search (sendable, Commands-send, Steps-send) depth 20
 
 Read-sync : IsSync Commands.the_row
-Read-sync = search (sendable, Commands-sync) depth 20
+Read-sync = search (sendable, Commands-sync, Steps-sync) depth 20
 
 Formula-send : IsSend Formula.the_row
-Formula-send = let code = seq.the_send Instruction.the_row Instruction-send in search sendable depth 20
+Formula-send = let code = seq.the_send Instruction.the_row Instruction-send in search (sendable, Steps-send) depth 20
 
 Formula-sync : IsSync Formula.the_row
-Formula-sync = let code = seq.the_sync Instruction.the_row Instruction-sync in search sendable depth 20
+Formula-sync = let code = seq.the_sync Instruction.the_row Instruction-sync in search (sendable, Steps-sync) depth 20
 
 Instructions-send : IsSend Instructions.the_row
 Instructions-send = let kept = Arc-send Formula.the_row Formula-send Formula-sync in search sendable depth 20

@@ -1,5 +1,6 @@
 pub mod Script
 pub mod Source
+pub mod Steps
 pub mod Instructions
 pub mod Choosing
 pub mod Opening

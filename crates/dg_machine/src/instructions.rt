@@ -1,10 +1,12 @@
 //! The code of expressions, which is read once.
-ghost use Rattle.std.specs.Prelude.{◌≡◌, length, drop, IfOk, MatchOption};
+ghost use Rattle.std.specs.Prelude.{◌≡◌, length, drop, map, IfOk, MatchOption};
 ghost use Rattle.std.specs.Arc.{arc_value};
 ghost use Rattle.dg_expr.specs.Reading.{tree_in};
 ghost use Rattle.dg_language.specs.Expressions.{code_in};
 ghost use Rattle.dg_machine.specs.Instructions.{Begins, Takes};
+ghost use Rattle.dg_machine.specs.Steps.{operand_in};
 
+use crate::steps::{kept_steps, queued};
 use dg_bytes::Seq;
 use dg_expr::{Infix, Instruction, Prefix};
 use dg_forms::{code_of, operand_of};
@@ -14,19 +16,45 @@ use std::alloc::{AllocError, Global};
 use std::marker::Model;
 use std::sync::Arc;
 
-/// The code of the expression that a text spells, if it spells one. A contract sees the code.
+/// The code of the expression that a text spells, if it spells one, and for each instruction the steps in which its operand
+/// is made. A contract sees the code.
 #[derive(Drop)]
 pub(crate) struct Formula {
     code: Option<Seq<Instruction>>,
+    steps: Seq<Seq<Substitution>>,
 }
 
 impl Model for Formula {
-    ghost use Rattle.std.specs.Prelude.{List, Option};
+    ghost use Rattle.std.specs.Prelude.{◌≡◌, List, Option};
     ghost use Rattle.dg_expr.specs.declared.code.Instruction.{Instruction};
+    ghost use Rattle.dg_machine.specs.Steps.{operands_in};
 
     ghost Value = { Option (List Instruction) };
 
     ghost view = { λ f. f.code };
+
+    ghost invariant = { λ f. f.steps ≡ operands_in f.code };
+}
+
+/// The steps in which the operand of an instruction is made, if it has one.
+fn operand_in(alloc: Global, instruction: &Instruction) -> Result<Seq<Substitution>, AllocError>
+    ensures { IfOk result (λ steps. steps ≡ operand_in instruction.now) }
+{
+    match instruction {
+        Instruction::Push(parts) => kept_steps(alloc, operand_of(alloc, parts)?),
+        _ => Ok(Seq::new(alloc)),
+    }
+}
+
+/// The steps of each of these instructions.
+fn operands_of(alloc: Global, code: &[Instruction]) -> Result<Seq<Seq<Substitution>>, AllocError>
+    ensures { IfOk result (λ all. all ≡ map operand_in code.now) }
+{
+    let mut all = Seq::new(alloc);
+    for instruction in code {
+        all.push(operand_in(alloc, instruction)?)?;
+    }
+    Ok(all)
 }
 
 impl Reading for Formula {
@@ -34,7 +62,11 @@ impl Reading for Formula {
 
     fn read(alloc: Global, text: &[u8]) -> Result<Formula, AllocError> {
         let code = code_of(alloc, text)?;
-        Ok(Formula { code })
+        let steps = match &code {
+            Some(code) => operands_of(alloc, code.as_slice())?,
+            None => Seq::new(alloc),
+        };
+        Ok(Formula { code, steps })
     }
 }
 
@@ -70,14 +102,20 @@ impl Model for Instructions {
 }
 
 /// The instruction at a place, if there is one.
-fn take_at(alloc: Global, code: &[Instruction], at: usize) -> Result<Option<Taken>, AllocError>
+fn take_at(
+    alloc: Global,
+    code: &[Instruction],
+    steps: &[Seq<Substitution>],
+    at: usize,
+) -> Result<Option<Taken>, AllocError>
+    requires { steps.now ≡ map operand_in code.now }
     ensures { IfOk result (Begins code.now at) }
 {
     if at >= code.len() {
         return Ok(None);
     }
     Ok(Some(match &code[at] {
-        Instruction::Push(parts) => Taken::Operand(operand_of(alloc, parts)?),
+        Instruction::Push(_) => Taken::Operand(queued(alloc, steps[at].as_slice())?),
         Instruction::ApplyOne(op) => Taken::One(*op),
         Instruction::Apply(op) => Taken::Two(*op),
         Instruction::And(passed) => Taken::And(*passed),
@@ -116,7 +154,12 @@ impl Instructions {
         let Some(code) = &self.formula.code else {
             return Ok(None);
         };
-        let taken = take_at(alloc, code.as_slice(), self.at)?;
+        let taken = take_at(
+            alloc,
+            code.as_slice(),
+            self.formula.steps.as_slice(),
+            self.at,
+        )?;
         if taken.is_some() {
             self.at += 1;
         }

@@ -26,6 +26,7 @@ mod rounds;
 mod script;
 mod sessions;
 mod step;
+mod steps;
 mod targets;
 mod variables;
 

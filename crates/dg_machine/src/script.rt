@@ -1,9 +1,11 @@
 //! The commands of a text, read one after another, and texts whose commands are read once.
-ghost use Rattle.std.specs.Prelude.{◌≡◌, ◌++◌, ◌∷◌, [], ◌≤◌, drop, length, IfOk, MatchOption};
+ghost use Rattle.std.specs.Prelude.{◌≡◌, ◌++◌, ◌∷◌, [], ◌≤◌, drop, length, map, IfOk, MatchOption};
 ghost use Rattle.std.specs.Arc.{arc_value};
 ghost use Rattle.dg_language.specs.Language.{commands_at};
 ghost use Rattle.dg_machine.specs.Script.{Begins, Reads, Takes};
+ghost use Rattle.dg_machine.specs.Steps.{steps_in};
 
+use crate::steps::{kept_steps, queued};
 use dg_bytes::{Bytes, Seq, TryCopy};
 use dg_forms::steps_of;
 use dg_language::{Command, Queue, Substitution};
@@ -23,19 +25,23 @@ pub(crate) enum Begun {
     Unreadable(WordFault),
 }
 
-/// The commands of a text, all read. A contract sees them.
+/// The commands of a text, all read, and for each the steps in which its words are made. A contract sees the commands.
 #[derive(Drop)]
 pub(crate) struct Commands {
     all: Seq<Command>,
+    steps: Seq<Seq<Substitution>>,
 }
 
 impl Model for Commands {
-    ghost use Rattle.std.specs.Prelude.{List};
+    ghost use Rattle.std.specs.Prelude.{◌≡◌, List, map};
     ghost use Rattle.dg_language.specs.declared.command.Command.{Command};
+    ghost use Rattle.dg_machine.specs.Steps.{steps_in};
 
     ghost Value = { List Command };
 
     ghost view = { λ c. c.all };
+
+    ghost invariant = { λ c. c.steps ≡ map steps_in c.all };
 }
 
 impl Reading for Commands {
@@ -43,8 +49,30 @@ impl Reading for Commands {
 
     fn read(alloc: Global, text: &[u8]) -> Result<Commands, AllocError> {
         let all = commands_of(alloc, text)?;
-        Ok(Commands { all })
+        let steps = steps_of_all(alloc, all.as_slice())?;
+        Ok(Commands { all, steps })
     }
+}
+
+/// The steps in which the words of a command are made, if it can be read.
+fn steps_in(alloc: Global, command: &Command) -> Result<Seq<Substitution>, AllocError>
+    ensures { IfOk result (λ steps. steps ≡ steps_in command.now) }
+{
+    match command {
+        Command::Words(words) => kept_steps(alloc, steps_of(alloc, words.as_slice())?),
+        Command::Unreadable(_) => Ok(Seq::new(alloc)),
+    }
+}
+
+/// The steps of each of these commands.
+fn steps_of_all(alloc: Global, commands: &[Command]) -> Result<Seq<Seq<Substitution>>, AllocError>
+    ensures { IfOk result (λ all. all ≡ map steps_in commands.now) }
+{
+    let mut all = Seq::new(alloc);
+    for command in commands {
+        all.push(steps_in(alloc, command)?)?;
+    }
+    Ok(all)
 }
 
 /// Where commands come from: a text that is read as they are taken, or commands that were read.
@@ -125,14 +153,20 @@ fn commands_of(alloc: Global, text: &[u8]) -> Result<Seq<Command>, AllocError>
 }
 
 /// How the command at a place begins, where there is one.
-fn begin_at(alloc: Global, commands: &[Command], at: usize) -> Result<Option<Begun>, AllocError>
+fn begin_at(
+    alloc: Global,
+    commands: &[Command],
+    steps: &[Seq<Substitution>],
+    at: usize,
+) -> Result<Option<Begun>, AllocError>
+    requires { steps.now ≡ map steps_in commands.now }
     ensures { IfOk result (Begins commands.now at) }
 {
     if at >= commands.len() {
         return Ok(None);
     }
     match &commands[at] {
-        Command::Words(words) => Ok(Some(Begun::Steps(steps_of(alloc, words.as_slice())?))),
+        Command::Words(_) => Ok(Some(Begun::Steps(queued(alloc, steps[at].as_slice())?))),
         Command::Unreadable(fault) => Ok(Some(Begun::Unreadable(*fault))),
     }
 }
@@ -172,7 +206,8 @@ impl Script {
                 Next::Nothing => Ok(None),
             },
             Source::Kept(commands) => {
-                let begun = begin_at(alloc, commands.all.as_slice(), self.at)?;
+                let steps = commands.steps.as_slice();
+                let begun = begin_at(alloc, commands.all.as_slice(), steps, self.at)?;
                 if begun.is_some() {
                     self.at += 1;
                 }
