@@ -17,7 +17,7 @@ use Rattle.dg_language.specs.Evaluation.{Ending}
 use Rattle.dg_language.specs.Judge.{judge, verdict_of}
 use Rattle.dg_records.specs.Truth.{answers_of}
 use Rattle.dg_records.proofs.HoldsLemmas.{heard-look}
-use Rattle.dg_sum.specs.declared.judged.Judged.{Judged}
+use Rattle.dg_sum.specs.Judged.{Judged}
 use Rattle.dg_sum.specs.Report.{report, status}
 use Rattle.dg_core.specs.Grown.{IsGrown}
 use Rattle.dg_core.specs.Scratch.{judged, and_judged, all_judged, scratch}

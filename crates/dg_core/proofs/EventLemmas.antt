@@ -1,23 +1,20 @@
 -- What events keep: each kept record is true.
-use Rattle.std.proofs.Common.{◌≡◌, ◌⊎◌, inl, inr, ◌∙◌, ℕ, Bool, true, false, cond, List, [], ◌∷◌, refl, ap, sym, subst}
+use Rattle.std.proofs.Common.{◌≡◌, inl, inr, ◌∙◌, ℕ, Bool, true, false, cond, List, [], ◌∷◌, refl, ap, sym, subst}
 use Rattle.std.specs.Prelude.{Option, Some, None, Result, Ok, Err, option_map}
 use Rattle.dg_world.specs.Test.{same_test}
 use Rattle.dg_world.specs.World.{WorldView, edited, recorded, selected}
 use Rattle.dg_world.specs.declared.refusal.Refusal.{Refusal}
 use Rattle.dg_world.specs.declared.test_id.TestId.{TestId}
-use Rattle.dg_results.specs.declared.verdict.Line.{Line}
 use Rattle.dg_records.specs.Truth.{RecordView, IsTrueRecord, answers_of}
 use Rattle.dg_records.specs.Shelf.{kept, with_record}
 use Rattle.dg_language.specs.Judge.{verdict_in}
-use Rattle.dg_sum.specs.declared.judged.Judged.{Judged}
+use Rattle.dg_sum.specs.Judged.{Judged}
 use Rattle.dg_sum.specs.Report.{report, status}
-use Rattle.dg_world.specs.declared.question.Question.{Question}
-use Rattle.dg_world.specs.declared.question.Answer.{Answer}
 use Rattle.dg_index.specs.declared.topic.Topic.{Topic}
 use Rattle.dg_index.specs.declared.topic.Topic.TheVariants as topic
 use Rattle.dg_index.specs.Topic.{touched}
 use Rattle.dg_index.specs.Marks.{counted, reads_of}
-use Rattle.dg_index.specs.Kept.{KeptView, holds_if_kept, is_held, changed, then_committed, after_asking, committed}
+use Rattle.dg_index.specs.Kept.{KeptView, holds_if_kept, changed, then_committed, committed}
 use Rattle.dg_core.specs.Core.{CoreView, new_core, kept_of, core_of, pending, with_kept}
 use Rattle.dg_core.specs.Scratch.{and_judged, all_judged, judged, scratch}
 use Rattle.dg_core.specs.Events.{Event, Edits, Asks, Commits, Lives, Reports, Happens, Runs, kept_verdicts, kept_report}

@@ -6,7 +6,7 @@ use Rattle.std.specs.List.{filter}
 use Rattle.dg_world.specs.World.{WorldView, look, selected}
 use Rattle.dg_world.specs.declared.test_id.TestId.{TestId}
 use Rattle.dg_results.specs.declared.verdict.Line.{Line}
-use Rattle.dg_sum.specs.declared.judged.Judged.{Judged}
+use Rattle.dg_sum.specs.Judged.{Judged}
 use Rattle.dg_language.specs.Play.{Play, Ends, Asks, Source, reads_in, read_on}
 use Rattle.dg_language.specs.Judge.{judge, verdict_in}
 use Rattle.dg_records.specs.Truth.{RecordView, IsTrueRecord, answers_of, is_given, holds}

@@ -1,5 +1,5 @@
 -- Questions that are asked in turn, and tests that are judged one after another.
-use Rattle.std.proofs.Common.{◌≡◌, List, [], ◌∷◌, ◌++◌, refl, ap, sym, ◌∙◌, subst}
+use Rattle.std.proofs.Common.{◌≡◌, List, [], ◌∷◌, ◌++◌, refl, subst}
 use Rattle.std.specs.Prelude.{Option, Some, None}
 use Rattle.dg_world.specs.World.{WorldView}
 use Rattle.dg_world.specs.declared.question.Answer.{Answer}

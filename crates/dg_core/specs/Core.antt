@@ -1,5 +1,5 @@
 -- A world, and the records that are kept of it.
-use Rattle.std.specs.Prelude.{◌≡◌, ◌≤◌, ℕ, ◌+◌, ◌-◌, Bool, cond, not, Option, Some, None, Result, Ok, Err, List, [], ◌∷◌, length, take}
+use Rattle.std.specs.Prelude.{◌≡◌, ◌≤◌, ℕ, ◌+◌, ◌-◌, cond, not, Option, Some, None, Result, Ok, Err, List, [], ◌∷◌, length, take}
 use Rattle.std.specs.List.{filter}
 use Rattle.dg_transcript.specs.declared.entry.Entry.{Entry}
 use Rattle.dg_world.specs.World.{WorldView, new_world, selected}

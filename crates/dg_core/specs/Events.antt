@@ -8,7 +8,7 @@ use Rattle.dg_world.specs.declared.question.Answer.{Answer}
 use Rattle.dg_world.specs.declared.test_id.TestId.{TestId}
 use Rattle.dg_records.specs.Truth.{RecordView, IsTrueRecord}
 use Rattle.dg_records.specs.Shelf.{kept}
-use Rattle.dg_sum.specs.declared.judged.Judged.{Judged}
+use Rattle.dg_sum.specs.Judged.{Judged}
 use Rattle.dg_sum.specs.Report.{report, status}
 use Rattle.dg_core.specs.Core.{CoreView, new_core, pending, edited_core, committed, committed_live, IsAskedOf}
 use Rattle.dg_core.specs.Scratch.{and_judged, scratch}

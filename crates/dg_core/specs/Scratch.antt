@@ -6,7 +6,7 @@ use Rattle.dg_results.specs.declared.verdict.Line.{Line}
 use Rattle.dg_language.specs.Play.{Source}
 use Rattle.dg_language.specs.Judge.{verdict_in}
 use Rattle.dg_records.specs.Truth.{answers_of}
-use Rattle.dg_sum.specs.declared.judged.Judged.{Judged}
+use Rattle.dg_sum.specs.Judged.{Judged}
 use Rattle.dg_sum.specs.Report.{report, status}
 
 -- a test with its lines

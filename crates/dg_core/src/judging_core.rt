@@ -164,13 +164,13 @@ impl Core {
         Ok(())
     }
 
-    /// The selected tests that are not held, in order.
-    fn pending(&self, alloc: Global) -> Result<Seq<TestId>, AllocError>
+    /// Those of the selected tests that are not held, in order.
+    fn pending(&self, alloc: Global, tests: &[TestId]) -> Result<Seq<TestId>, AllocError>
+        requires { tests.now ≡ selected self.now.world }
         ensures { IfOk result (λ l. l ≡ pending self.now) }
     {
-        let selected = self.kept.world().selected(alloc)?;
         let mut pending = Seq::new(alloc);
-        for test in selected.as_slice() {
+        for test in tests {
             self.add_unheld(alloc, &mut pending, test)?;
         }
         Ok(pending)
@@ -179,40 +179,42 @@ impl Core {
 
 impl Core {
     /// A test that is held, with the verdict of its record.
-    fn judged_test(&self, alloc: Global, test: &TestId) -> Result<Judged, AllocError>
+    fn judged_test<'a>(&'a self, test: &'a TestId) -> Judged<'a>
         requires { is_held self.now.world self.now.shelf test.now ≡ true }
-        ensures { IfOk result (IsJudged self.now.world test.now) }
+        ensures { IsJudged self.now.world test.now result }
     {
         let Some(record) = self.kept.record(test) else {
             unreachable!()
         };
-        let verdict = record.verdict().copy(alloc)?;
-        Ok(Judged {
-            test: test.copy(alloc)?,
-            verdict,
-        })
+        let verdict = record.verdict();
+        Judged { test, verdict }
     }
 
     /// Each selected test with the verdict of its record, where every one is held.
-    fn judged(&self, alloc: Global) -> Result<Vec<Judged>, AllocError>
-        requires { pending self.now ≡ [] }
+    fn judged<'a>(
+        &'a self,
+        alloc: Global,
+        tests: &'a [TestId],
+    ) -> Result<Vec<Judged<'a>>, AllocError>
+        requires held { pending self.now ≡ [] }
+        requires tests { tests.now ≡ selected self.now.world }
         ensures { IfOk result (λ l. all_judged (answers_of self.now.world) (selected self.now.world) ≡ Some l.items) }
     {
-        let selected = self.kept.world().selected(alloc)?;
         let mut judged = Vec::new(alloc);
-        for test in selected.as_slice() {
-            judged.push(self.judged_test(alloc, test)?)?;
+        for test in tests {
+            judged.push(self.judged_test(test))?;
         }
         Ok(judged)
     }
 
     /// The report and the status, where every selected test is held.
     #[tactic(auto, unfolding(crate::specs::Scratch::scratch))]
-    fn sum(&self, alloc: Global) -> Result<(Bytes, u8), AllocError>
-        requires { pending self.now ≡ [] }
+    fn sum(&self, alloc: Global, tests: &[TestId]) -> Result<(Bytes, u8), AllocError>
+        requires held { pending self.now ≡ [] }
+        requires tests { tests.now ≡ selected self.now.world }
         ensures { IfOk result (λ r. scratch self.now.world ≡ Some (r.0, r.1)) }
     {
-        let judged = self.judged(alloc)?;
+        let judged = self.judged(alloc, tests)?;
         let text = sum_text(alloc, self.kept.world().selection(), judged.as_slice())?;
         Ok((text, exit_status(judged.as_slice())))
     }
@@ -222,11 +224,12 @@ impl Core {
     pub fn report(&self, alloc: Global) -> Result<Reply, AllocError>
         ensures { IfOk result (Replies self.now) }
     {
-        let pending = self.pending(alloc)?;
+        let tests = self.selected(alloc)?;
+        let pending = self.pending(alloc, tests.as_slice())?;
         if !pending.is_empty() {
             return Ok(Reply::Pending(pending));
         }
-        let (text, status) = self.sum(alloc)?;
+        let (text, status) = self.sum(alloc, tests.as_slice())?;
         Ok(Reply::Sum(text, status))
     }
 
@@ -270,11 +273,12 @@ impl Core {
         ensures stopped { OnErr result (JudgesSome self.old self.new) }
     {
         let _begun = self.evaluations();
-        let pending = self.pending(alloc)?;
+        let tests = self.selected(alloc)?;
+        let pending = self.pending(alloc, tests.as_slice())?;
         for test in pending.as_slice() {
             self.judge(alloc, test)?;
         }
-        let sum = self.sum(alloc)?;
+        let sum = self.sum(alloc, tests.as_slice())?;
         Ok(sum)
     }
 }

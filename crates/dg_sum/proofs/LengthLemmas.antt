@@ -6,7 +6,7 @@ use Rattle.dg_world.specs.declared.selection.Selection.{Selection}
 use Rattle.dg_results.specs.Classes.{class_name}
 use Rattle.dg_results.specs.declared.verdict.Line.{Line}
 use Rattle.dg_sum.specs.Report.{line_text, script_text, lines_on, lines_of_board, own_summary, board_text}
-use Rattle.dg_sum.specs.declared.judged.Judged.{Judged}
+use Rattle.dg_sum.specs.Judged.{Judged}
 
 -- what is longer for each item is longer for all
 longer : {X A B : Type 0} (f : X → List A) (g : X → List B) → ((x : X) → length (f x) ≤ length (g x)) → (xs : List X) → length (flat_map f xs) ≤ length (flat_map g xs)

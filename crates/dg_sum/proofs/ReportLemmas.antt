@@ -5,7 +5,7 @@ use Rattle.dg_world.specs.declared.selection.Selection.{Selection}
 use Rattle.dg_results.specs.Tally.{tally_of}
 use Rattle.dg_results.specs.declared.verdict.Tally.{Tally}
 use Rattle.dg_sum.specs.Report.{lines_of_board, board_text, scheduled, summary, report}
-use Rattle.dg_sum.specs.declared.judged.Judged.{Judged}
+use Rattle.dg_sum.specs.Judged.{Judged}
 use Rattle.dg_sum.proofs.TextLemmas.{then}
 
 pub whole_report : (s : Selection) (judged : List Judged) (tool : List ℕ) (boards : List (List ℕ)) (total : Tally) (o0 o1 o2 o3 o4 : List ℕ) → tool ≡ s.tool → boards ≡ s.boards → total ≡ tally_of (flat_map (lines_of_board judged) boards) → o0 ≡ [] → o1 ≡ o0 ++ (codes "\t\t=== " ++ tool ++ codes " tests ===\n\nSchedule of variations:\n") → o2 ≡ o1 ++ flat_map scheduled boards → o3 ≡ o2 ++ flat_map (board_text s judged) s.boards → o4 ≡ o3 ++ summary tool total → o4 ≡ report s judged

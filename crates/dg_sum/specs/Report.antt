@@ -8,7 +8,7 @@ use Rattle.dg_results.specs.Classes.{class_name, is_unexpected}
 use Rattle.dg_results.specs.Tally.{tally_of}
 use Rattle.dg_results.specs.declared.verdict.Line.{Line}
 use Rattle.dg_results.specs.declared.verdict.Tally.{Tally}
-use Rattle.dg_sum.specs.declared.judged.Judged.{Judged}
+use Rattle.dg_sum.specs.Judged.{Judged}
 
 -- a line of a test
 abbrev pub line_text : Line → List ℕ

@@ -19,7 +19,7 @@ use std::alloc::{AllocError, Global};
 pub fn sum_text(
     alloc: Global,
     selection: &Selection,
-    judged: &[Judged],
+    judged: &[Judged<'_>],
 ) -> Result<Bytes, AllocError>
     ensures { IfOk result (λ text. text ≡ report selection.now judged.now) }
 {
@@ -42,17 +42,17 @@ pub fn sum_text(
 
 /// 0 if no line is of an unexpected class (FAIL, XPASS, KPASS, UNRESOLVED), else 1.
 #[tactic(auto, unfolding(crate::specs::Report::status))]
-pub fn exit_status(judged: &[Judged]) -> u8
+pub fn exit_status(judged: &[Judged<'_>]) -> u8
     ensures { result ≡ status judged.now }
 {
     if is_some_unexpected(judged) { 1 } else { 0 }
 }
 
 /// Whether some line of some test is of an unexpected class.
-fn is_some_unexpected(judged: &[Judged]) -> bool
+fn is_some_unexpected(judged: &[Judged<'_>]) -> bool
     ensures { result ≡ list_any (λ j. list_any (λ l. is_unexpected l.class) j.verdict) judged.now }
 {
-    judged.iter().any(|one| has_unexpected(&one.verdict))
+    judged.iter().any(|one| has_unexpected(one.verdict))
 }
 
 /// Whether some line is of an unexpected class.
@@ -76,7 +76,11 @@ fn write_schedule(out: &mut Bytes, boards: &[Bytes]) -> Result<(), AllocError>
 }
 
 /// Writes each board's block.
-fn write_boards(out: &mut Bytes, selection: &Selection, judged: &[Judged]) -> Result<(), AllocError>
+fn write_boards(
+    out: &mut Bytes,
+    selection: &Selection,
+    judged: &[Judged<'_>],
+) -> Result<(), AllocError>
     ensures { OnOk result (out.new ≡ out.old ++ flat_map (board_text selection.now judged.now) selection.now.boards) }
 {
     for board in selection.boards.as_slice() {
@@ -91,7 +95,7 @@ fn write_board(
     out: &mut Bytes,
     selection: &Selection,
     board: &Bytes,
-    judged: &[Judged],
+    judged: &[Judged<'_>],
 ) -> Result<(), AllocError>
     ensures { OnOk result (out.new ≡ out.old ++ board_text selection.now judged.now board.now) }
 {
@@ -107,7 +111,7 @@ fn write_own_summary(
     out: &mut Bytes,
     selection: &Selection,
     board: &Bytes,
-    judged: &[Judged],
+    judged: &[Judged<'_>],
 ) -> Result<(), AllocError>
     requires { length (lines_of_board judged.now board.now) < 2 ^ 64 }
     ensures { OnOk result (out.new ≡ out.old ++ own_summary selection.now judged.now board.now) }
@@ -120,7 +124,7 @@ fn write_own_summary(
 }
 
 /// Writes the tests of a board.
-fn write_scripts(out: &mut Bytes, board: &Bytes, judged: &[Judged]) -> Result<(), AllocError>
+fn write_scripts(out: &mut Bytes, board: &Bytes, judged: &[Judged<'_>]) -> Result<(), AllocError>
     ensures { OnOk result (out.new ≡ out.old ++ flat_map (script_text board.now) judged.now) }
 {
     for one in judged {
@@ -131,7 +135,7 @@ fn write_scripts(out: &mut Bytes, board: &Bytes, judged: &[Judged]) -> Result<()
 
 /// Writes a test, if it is of the board.
 #[tactic(auto, using(crate::proofs::TextLemmas::then))]
-fn write_script(out: &mut Bytes, board: &Bytes, judged: &Judged) -> Result<(), AllocError>
+fn write_script(out: &mut Bytes, board: &Bytes, judged: &Judged<'_>) -> Result<(), AllocError>
     ensures { OnOk result (out.new ≡ out.old ++ script_text board.now judged.now) }
 {
     if judged.test.board().as_slice() != board.as_slice() {

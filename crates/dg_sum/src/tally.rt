@@ -27,7 +27,7 @@ fn no_lines() -> Tally
 }
 
 /// The counts of a test, if it is of the board.
-fn tally_of_test(board: &Bytes, judged: &Judged) -> Tally
+fn tally_of_test(board: &Bytes, judged: &Judged<'_>) -> Tally
     ensures { result ≡ tally_of (lines_on board.now judged.now) }
 {
     if judged.test.board().as_slice() == board.as_slice() {
@@ -38,7 +38,7 @@ fn tally_of_test(board: &Bytes, judged: &Judged) -> Tally
 }
 
 /// The counts of a board.
-pub(crate) fn tally_of_board(board: &Bytes, judged: &[Judged]) -> Tally
+pub(crate) fn tally_of_board(board: &Bytes, judged: &[Judged<'_>]) -> Tally
     requires { length (lines_of_board judged.now board.now) < 2 ^ 64 }
     ensures { result ≡ tally_of (lines_of_board judged.now board.now) }
 {
@@ -51,7 +51,7 @@ pub(crate) fn tally_of_board(board: &Bytes, judged: &[Judged]) -> Tally
 }
 
 /// The counts of all boards.
-pub(crate) fn tally_of_all(boards: &[Bytes], judged: &[Judged]) -> Tally
+pub(crate) fn tally_of_all(boards: &[Bytes], judged: &[Judged<'_>]) -> Tally
     requires { length (flat_map (lines_of_board judged.now) boards.now) < 2 ^ 64 }
     ensures { result ≡ tally_of (flat_map (lines_of_board judged.now) boards.now) }
 {

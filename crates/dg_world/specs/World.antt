@@ -18,7 +18,7 @@ use Rattle.dg_world.specs.Transcripts.{transcript_in, for_test, for_sessions, en
 use Rattle.dg_transcript.specs.declared.entry.Entry.{Entry as EntryOfSession}
 use Rattle.dg_transcript.specs.Sessions.{entry_at}
 use Rattle.dg_match.specs.declared.reading.Reading.{Reading as ReadingOfText}
-use Rattle.dg_match.specs.Book.{reading_of}
+use Rattle.dg_match.specs.Book.{reading_of, Fits}
 use Rattle.dg_world.specs.declared.question.EntryPlace.{EntryPlace}
 use Rattle.dg_world.specs.declared.selection.Selection.{Selection}
 use Rattle.dg_world.specs.declared.test_id.TestId.{TestId}
@@ -135,9 +135,15 @@ takes_memory w (Select selection) = false
 takes_memory w (PutTranscript board script text) = is_read w (test_of board script)
 takes_memory w (DropTranscript board script) = false
 
--- An asked question has an answer then. Where it had one before, nothing has changed; else its pattern stands last in the book, with that answer.
+-- the reading of a pattern fits its text: `Read` only of what `regex` reads, `Syntax` only of what it doesn't read or that nests too deeply
+abbrev pub FitsQuestion : Question → Answer → Type 0
+FitsQuestion (Pattern text) (answer.Reading r) = Fits text r
+FitsQuestion q a = Unit {0}
+
+-- An asked question has an answer then, which fits it. Where it had one before, nothing has changed; else its pattern stands last in the book, with that answer.
 pub record IsAsked (old new : WorldView) (q : Question) (a : Answer) : Type 0 where
   pub answered : look new q ≡ Some a
+  pub fits : FitsQuestion q a
   pub grown : MatchOption (look old q) ((text : List ℕ) × (r : ReadingOfText) × (q ≡ Pattern text) × (new ≡ record old { book = old.book ++ (text, r) ∷ [] })) (λ _. new ≡ old)
 
 -- the scripts that are run on each board, in byte order

@@ -1,5 +1,5 @@
 //! The world: files by name, what is run, transcripts by test, and the book of patterns.
-ghost use Rattle.std.specs.Prelude.{◌≡◌, ◌≢◌, ◌++◌, Some, Ok, option_copied, false, Err, IfOk, IfErr, OnOk, OnErr, IsTrue, ◌↔◌, ◌⊎◌, length};
+ghost use Rattle.std.specs.Prelude.{◌≡◌, ◌≢◌, ◌++◌, Some, Ok, option_copied, false, Err, IfOk, IfErr, IfSome, OnOk, OnErr, IsTrue, ◌↔◌, ◌⊎◌, length};
 ghost use Rattle.std.specs.List.Sorted.{IsStrictlySortedBy};
 ghost use Rattle.std.specs.Ordering.{nat_cmp};
 ghost use Rattle.std.specs.Cmp.Lexicographic.{slice_cmp};
@@ -59,7 +59,7 @@ impl Model for World {
 }
 
 impl World {
-    ghost use Rattle.dg_world.specs.World.{new_world, edited, takes_memory, look, selected, scripts, is_world, entry_of, lacks_room, recorded, with_transcript, IsAsked};
+    ghost use Rattle.dg_world.specs.World.{new_world, edited, takes_memory, look, selected, scripts, is_world, entry_of, lacks_room, recorded, with_transcript, FitsQuestion, IsAsked};
 
     /// A world with no files and no transcripts, the first selection, and an empty book.
     pub fn new(alloc: Global) -> Result<World, AllocError>
@@ -82,7 +82,7 @@ impl World {
         ensures err { OnErr result (self.new ≡ self.old) }
     {
         match edit {
-            Edit::PutFile(name, bytes) => self.put_file(name, bytes),
+            Edit::PutFile(name, bytes) => self.put_file(shared(alloc, name), shared(alloc, bytes)),
             Edit::RemoveFile(name) => self.remove_file(name),
             Edit::Select(selection) => self.select(selection),
             Edit::PutTranscript(board, script, text) => {
@@ -237,7 +237,8 @@ impl World {
 
     /// What it answers to a question, if it has an answer: it has none only to a pattern that it was never asked for.
     pub fn answer(&self, alloc: Global, question: &Question) -> Result<Option<Answer>, AllocError>
-        ensures { IfOk result (λ a. a ≡ look self.now question.now) }
+        ensures looked { IfOk result (λ a. a ≡ look self.now question.now) }
+        ensures fits { IfOk result (λ a. IfSome a (FitsQuestion question.now)) }
     {
         match question {
             Question::File(name) => match self.files.get(name) {
@@ -367,6 +368,17 @@ impl World {
     }
 }
 
+/// The same bytes, which are shared from then on if there is room for that: names by the tests that are listed, contents
+/// by the records that have read them.
+fn shared(alloc: Global, bytes: Bytes) -> Bytes
+    ensures { result ≡ bytes }
+{
+    match bytes.to_text(alloc) {
+        Ok(text) => Bytes::from_text(text),
+        Err(_) => bytes,
+    }
+}
+
 /// The transcript that a text spells, or its first bad line.
 fn read_transcript(alloc: Global, text: &[u8]) -> Result<Transcript, Refusal>
     ensures ok { IfOk result (λ t. transcript_in text.now ≡ Ok t) }
@@ -399,8 +411,9 @@ fn push_tests(
     requires { IsTrue (is_single_part board.now) }
     ensures { OnOk result (tests.new.items ≡ tests.old.items ++ tests_on scripts.now board.now) }
 {
+    let board = board.to_text(alloc)?;
     for script in scripts {
-        let board = Name::from_valid(board.copy(alloc)?);
+        let board = Name::from_valid(Bytes::from_text(board.share()?));
         tests.push(TestId::of(board, script.copy(alloc)?))?;
     }
     Ok(())

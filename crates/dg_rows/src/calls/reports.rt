@@ -2,6 +2,7 @@
 use crate::calls::results::judged;
 use crate::calls::text::text;
 use dg_bytes::{Bytes, Seq};
+use dg_results::Verdict;
 use dg_sum::{Judged, exit_status, sum_text};
 use dg_world::{Refusal, Selection, TestId};
 use std::alloc::{AllocError, Global};
@@ -15,15 +16,22 @@ fn parts(alloc: Global, text: &[u8], between: u8) -> Result<Vec<Bytes>, AllocErr
     Ok(parts)
 }
 
+/// A test, and the lines that it wrote.
+#[derive(Drop)]
+struct Told {
+    test: TestId,
+    verdict: Verdict,
+}
+
 /// The test that a field tells of, if it is one.
-fn test(alloc: Global, field: &[u8]) -> Result<Option<Judged>, AllocError> {
+fn test(alloc: Global, field: &[u8]) -> Result<Option<Told>, AllocError> {
     let words = parts(alloc, field, b' ')?;
     let [board, script, calls] = words.as_slice() else {
         return Ok(None);
     };
     let calls = parts(alloc, calls.as_slice(), b',')?;
     match TestId::new(alloc, board.as_slice(), script.as_slice()) {
-        Ok(test) => Ok(Some(Judged {
+        Ok(test) => Ok(Some(Told {
             test,
             verdict: judged(alloc, calls.as_slice())?,
         })),
@@ -39,6 +47,15 @@ fn selection(alloc: Global, boards: &[u8]) -> Result<Selection, AllocError> {
     Ok(selection)
 }
 
+/// The tests and their lines, lent.
+fn lent<'a>(alloc: Global, all: &'a [Told]) -> Result<Vec<Judged<'a>>, AllocError> {
+    let mut lent = Vec::new(alloc);
+    for Told { test, verdict } in all {
+        lent.push(Judged { test, verdict })?;
+    }
+    Ok(lent)
+}
+
 /// The status and the bytes of a report.
 pub fn answer(alloc: Global, args: &[Bytes]) -> Result<Bytes, AllocError> {
     let [boards, tests @ ..] = args else {
@@ -52,11 +69,12 @@ pub fn answer(alloc: Global, args: &[Bytes]) -> Result<Bytes, AllocError> {
             None => return text(alloc, b"no test"),
         }
     }
+    let judged = lent(alloc, all.as_slice())?;
     let mut given = text(
         alloc,
-        exit_status(all.as_slice()).to_string(alloc)?.as_bytes(),
+        exit_status(judged.as_slice()).to_string(alloc)?.as_bytes(),
     )?;
     given.push(b' ')?;
-    given.extend(sum_text(alloc, &selection, all.as_slice())?.as_slice())?;
+    given.extend(sum_text(alloc, &selection, judged.as_slice())?.as_slice())?;
     Ok(given)
 }

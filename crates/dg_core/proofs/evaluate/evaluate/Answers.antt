@@ -1,4 +1,4 @@
-use Rattle.std.proofs.Common.{◌≡◌, ◌∙◌, ◌++◌, List, ap, refl, subst, sym}
+use Rattle.std.proofs.Common.{◌∙◌, ◌++◌, List, ap, refl, subst, sym}
 use Rattle.dg_world.specs.declared.question.Read.{Read}
 use Rattle.dg_eval.specs.Truth.{JobView}
 use Rattle.dg_core.specs.Asking.{IsTold, IsToldMore}

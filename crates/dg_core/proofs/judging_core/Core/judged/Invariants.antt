@@ -5,4 +5,4 @@ use Rattle.dg_core.specs.Scratch.{all_judged}
 use Rattle.dg_core.proofs.judging_core.Core.judged.Given as goal
 
 abbrev pub invariant-loop-test : goal.invariant-loop-test
-invariant-loop-test l = all_judged (answers_of l.self.world) (take l.test-index l.test-items) ≡ Some l.judged.items
+invariant-loop-test l = all_judged (answers_of l.self.world) (take l.test-index l.tests) ≡ Some l.judged.items

@@ -2,7 +2,6 @@ use Rattle.std.proofs.Common.{◌∙◌, ap}
 use Rattle.std.specs.Prelude.{not}
 use Rattle.std.specs.List.{filter}
 use Rattle.std.proofs.lemmas.List.{take_all}
-use Rattle.dg_world.specs.World.{selected}
 use Rattle.dg_index.specs.Kept.{is_held}
 use Rattle.dg_core.specs.Core.{pending}
 use Rattle.dg_core.proofs.Settling.{unheld-more}
@@ -15,6 +14,5 @@ loop-test-preserved c =
 pub returns : goal.returns
 unfolding pending
 returns c =
-    let items = c.as_slice-test-items.ensures ∙ c.in_ok-selected.ensures ∙ ap selected c.world.ensures ∙ ap (λ v. selected v.world) c.self.view_is in
     c.loop-test.invariant
-    ∙ ap (λ l. filter (λ t. not (is_held c.args.self.now.world c.args.self.now.shelf t)) l) (take_all _ _ c.loop-test-test.false ∙ items)
+    ∙ ap (λ l. filter (λ t. not (is_held c.args.self.now.world c.args.self.now.shelf t)) l) (take_all _ _ c.loop-test-test.false ∙ c.requires)

@@ -5,4 +5,4 @@ use Rattle.dg_index.specs.Kept.{is_held}
 use Rattle.dg_core.proofs.judging_core.Core.pending.Given as goal
 
 abbrev pub invariant-loop-test : goal.invariant-loop-test
-invariant-loop-test l = l.pending ≡ filter (λ t. not (is_held l.self.world l.self.shelf t)) (take l.test-index l.test-items)
+invariant-loop-test l = l.pending ≡ filter (λ t. not (is_held l.self.world l.self.shelf t)) (take l.test-index l.tests)

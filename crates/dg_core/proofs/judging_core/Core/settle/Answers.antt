@@ -5,7 +5,7 @@ use Rattle.dg_core.specs.Core.{CoreView, kept_of, pending, with_judged}
 use Rattle.dg_core.specs.Turning.{JudgesAll, JudgesSome}
 use Rattle.dg_core.proofs.Turning.{judges-more}
 use Rattle.std.proofs.lemmas.Result.{err_from_is_err_and}
-use Rattle.dg_core.proofs.Growing.{grown-refl, grown-trans}
+use Rattle.dg_core.proofs.Growing.{grown-refl, grown-trans, selected-grown}
 use Rattle.dg_core.proofs.Settling.{settled-zero, settled-more, settled-begun, settled-all, ends-more, pending-settled, partly, on_err, blames-tells}
 use Rattle.dg_core.proofs.judging_core.Core.settle.Goals as goal
 
@@ -16,6 +16,15 @@ pub returns-in_err-pending-clause-kept : goal.returns-in_err-pending-clause-kept
 returns-in_err-pending-clause-kept c =
     let few = subst (λ n. n < 2 ^ 64) c.evaluations-begun.ensures c.evaluations-begun.type_inv in
     on_err _ _ (partly _ _ 0 0 (omega arith) (omega arith) (omega arith) (settled-zero _ few))
+
+pub returns-in_err-tests-clause-kept : goal.returns-in_err-tests-clause-kept
+returns-in_err-tests-clause-kept c =
+    let few = subst (λ n. n < 2 ^ 64) c.evaluations-begun.ensures c.evaluations-begun.type_inv in
+    on_err _ _ (partly _ _ 0 0 (omega arith) (omega arith) (omega arith) (settled-zero _ few))
+
+pub sum-requires-clause-tests : goal.sum-requires-clause-tests
+sum-requires-clause-tests c =
+    c.as_slice-2.ensures ∙ c.in_ok-tests.ensures ∙ sym (selected-grown c.args.self.now.world c.loop-test.self.world c.loop-test.invariant.grown)
 
 pub loop-test-init : goal.loop-test-init
 loop-test-init c =
@@ -62,8 +71,8 @@ loop-test-preserved c =
       ended = ends-more c.args.self.now old world i t c.in_ok-judge.ensures.grown c.loop-test.invariant.ended within at c.in_ok-judge.ensures.ends;
     }
 
-pub sum-requires : goal.sum-requires
-sum-requires c =
+pub sum-requires-clause-held : goal.sum-requires-clause-held
+sum-requires-clause-held c =
     let i = c.loop-test.test-index in
     let world = c.loop-test.self.world in
     let items = c.as_slice-test-items.ensures ∙ c.in_ok-pending.ensures in

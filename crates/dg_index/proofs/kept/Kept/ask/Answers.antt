@@ -23,7 +23,7 @@ returns-in_default-find-clause-ok c =
     let nothing = ap (readers_of k.index) (sym c.in_ok-topic.ensures) ∙ found-nothing k.index c.in_ok-topic.topic _ c.find.ensures c.in_default-find.is in (
       subst (λ w. IsAsked w c.ask.new.self q c.in_ok-answer-2.answer) (ap (λ x. x.world) c.self.view_is) c.in_ok-answer-2.ensures.ok,
       looks-asked k.world c.ask.new.self q k.records.entries k.records.entries k.compared k.compared (look k.world q)
-          (looks-nothing c.ask.new.self (topic_of q) k.records.entries k.index k.compared c.self.invariant.named nothing c.self.ranges.1.1.1.0.1) (sym c.in_ok-answer.ensures ∙ c.in_default.is)
+          (looks-nothing c.ask.new.self (topic_of q) k.records.entries k.index k.compared c.self.invariant.named nothing c.self.ranges.1.1.1.0.1) (sym c.in_ok-answer.ensures.looked ∙ c.in_default.is)
           ∙ ap (λ x. after_asking x q (look x.world q) c.ask.new.self) c.self.view_is,
     )
 
@@ -53,6 +53,6 @@ returns-clause-ok c =
       subst (λ w. IsAsked w c.ask.new.self q c.in_ok-answer-2.answer) (ap (λ x. x.world) c.self.view_is) c.in_ok-answer-2.ensures.ok,
       looks-asked k.world c.ask.new.self q k.records.entries l.new.records.entries k.compared l.result (look k.world q)
           (looks-found c.ask.new.self (topic_of q) c.in-Some-find.topic.now k.records.entries l.new.records.entries k.compared l.result (r.0 ∙ c.in_ok-topic.ensures) l.ensures.entries l.ensures.count)
-          (sym c.in_ok-answer.ensures ∙ c.in_default.is)
+          (sym c.in_ok-answer.ensures.looked ∙ c.in_default.is)
           ∙ ap (λ x. after_asking x q (look x.world q) c.ask.new.self) c.self.view_is,
     )
