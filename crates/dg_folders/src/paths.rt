@@ -39,11 +39,14 @@ pub fn transcript_path(
     Ok(path)
 }
 
-/// The path beside another to which a file is written before it takes its place. It is no path of a report or a transcript.
-pub fn beside(alloc: Global, path: &str) -> Result<String, AllocError>
-    ensures { IfOk result (λ other. string_bytes other ≡ beside path.now) }
+/// A path beside another, of this number, to which a file is written before it takes its place. It is no path of a report or
+/// a transcript.
+pub fn beside(alloc: Global, path: &str, number: u32) -> Result<String, AllocError>
+    ensures { IfOk result (λ other. string_bytes other ≡ beside path.now number) }
 {
     let mut other = String::from_str(alloc, path)?;
+    other.push_str(".")?;
+    other.push_str(number.to_string(alloc)?.as_str())?;
     other.push_str(".new")?;
     Ok(other)
 }

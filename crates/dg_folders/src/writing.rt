@@ -2,30 +2,57 @@
 use crate::fault::RunFault;
 use crate::paths::beside;
 use crate::suite::read_file;
+use std::fs::OpenOptions;
+use std::io::{ErrorKind, Write};
 use std::path::Path;
 use std::rt::Files;
 use std::{fs, io};
 
-/// Writes a file beside another and then puts it in its place, so that whoever reads the path, at any moment and after a
-/// kill, finds the old bytes or the new ones. Where that fails the old file stands.
+/// How many runs may write one file at once.
+const MOST: u32 = 10_000;
+
+/// A new file beside a path, where no other run writes, and its own path.
+fn create_beside<R: Files + AllocGlobal>(rt: &R, path: &str) -> io::Result<(String, R::File)> {
+    for number in 0..MOST {
+        let other = beside(rt.alloc(), path, number)?;
+        let created = OpenOptions::new()
+            .write(true)
+            .create_new(true)
+            .open(rt, other.as_str());
+        match created {
+            Ok(file) => return Ok((other, file)),
+            Err(error) if error.kind() == ErrorKind::AlreadyExists => {}
+            Err(error) => return Err(error),
+        }
+    }
+    Err(io::Error::from(ErrorKind::AlreadyExists))
+}
+
+/// Writes a new file beside a path and then puts it in its place. Where that fails no new file is left.
+fn replace<R: Files + AllocGlobal>(rt: &R, path: &str, bytes: &[u8]) -> io::Result<()> {
+    let (other, mut file) = create_beside(rt, path)?;
+    let written = file.write_all(bytes);
+    drop(file);
+    let moved = match written {
+        Ok(()) => fs::rename(rt, other.as_str(), path),
+        Err(error) => Err(error),
+    };
+    if moved.is_err() {
+        let _ = fs::remove_file(rt, other.as_str());
+    }
+    moved
+}
+
+/// Writes a file beside another and then puts it in its place, so that whoever reads the path, at any moment, after a kill,
+/// and where several runs write it at once, finds the old bytes or the new ones. Where that fails the old file stands.
 pub fn write_in_place<R: Files + AllocGlobal>(
     rt: &R,
     path: &str,
     bytes: &[u8],
 ) -> Result<(), RunFault> {
-    let alloc = rt.alloc();
-    let other = beside(alloc, path)?;
-    let written = fs::write(rt, other.as_str(), bytes);
-    let moved = match written {
-        Ok(()) => fs::rename(rt, other.as_str(), path),
-        Err(error) => Err(error),
-    };
-    match moved {
+    match replace(rt, path, bytes) {
         Ok(()) => Ok(()),
-        Err(error) => {
-            let _ = fs::remove_file(rt, other.as_str());
-            Err(RunFault::of_write(alloc, path, &error))
-        }
+        Err(error) => Err(RunFault::of_write(rt.alloc(), path, &error)),
     }
 }
 
