@@ -1,10 +1,11 @@
 -- Why a call of a bench isn't made, and what that leaves.
-use Rattle.std.specs.Prelude.{◌≡◌, ◌≢◌, ◌⊎◌, ◌<◌, ◌≤◌, ℕ, true, length}
+use Rattle.std.specs.Prelude.{◌≡◌, ◌≢◌, ◌⊎◌, ◌<◌, ◌≤◌, ℕ, true, List, length}
 use Rattle.dg_core.specs.Core.{CoreView, new_core}
 use Rattle.dg_world.specs.declared.refusal.Refusal.{Refusal}
 use Rattle.dg_world.specs.declared.refusal.Refusal.TheVariants.{Memory as WantsMemory}
 use Rattle.dg_bench.specs.declared.refusal.BenchRefusal.{BenchRefusal}
 use Rattle.dg_bench.specs.declared.refusal.BenchRefusal.TheVariants.{Shorter, HistoryFull, Edit, Memory}
+use Rattle.dg_bench.specs.declared.call.Call.{Call}
 use Rattle.dg_bench.specs.History.{IsLegal, Makes}
 use Rattle.dg_bench.specs.Seen.{Seen, Kept, seen_all, Begins}
 
@@ -26,6 +27,10 @@ Refuses cause limit old new pass back Memory = SeesAll old pass back × (new ≡
 -- a pass that has since seen a legal list of calls, which begins with what it had seen
 abbrev pub SeesMore : Seen → Seen → Type 0
 SeesMore pass back = (back.ours ≡ true) × (back.count ≡ length back.calls) × (pass.count ≤ back.count) × IsLegal back.calls × Begins pass back.calls
+
+-- there was a legal list of fewer calls than the pass has seen
+abbrev pub HasSeenMore : Seen → Type 0
+HasSeenMore pass = (calls : List Call) × IsLegal calls × (length calls < pass.count)
 
 -- what a refusal tells a caller, which can't look under the lock
 abbrev pub IsRefused : (CoreView → Refusal → Type 0) → Seen → Seen → BenchRefusal → Type 0

@@ -5,7 +5,7 @@ ghost use Rattle.dg_core.specs.Core.{edited_core, committed_live};
 ghost use Rattle.dg_bench.specs.History.{IsLegal};
 ghost use Rattle.dg_bench.specs.Seen.{Begins, seen_all};
 ghost use Rattle.dg_bench.specs.Made.{IsMade, IsLook};
-ghost use Rattle.dg_bench.specs.Refusals.{IsRefused, never};
+ghost use Rattle.dg_bench.specs.Refusals.{HasSeenMore, IsRefused, never};
 ghost use Rattle.dg_bench.specs.Work.{IsListed};
 ghost use Rattle.dg_bench.specs.declared.call.Call.TheVariants.{Edit as edited, Ask as asked, Commit as committed, Live as lived, Report as reported};
 
@@ -187,6 +187,7 @@ impl<B: Room> Bench<B> {
     pub fn into_history(self, pass: &mut Pass<B>) -> Result<History, Bench<B>>
         ensures same { pass.new ≡ pass.old }
         ensures history { IfOk result (λ h. IsLegal h × (pass.old.count ≤ length h) × Begins pass.old h) }
+        ensures back { IfErr result (λ bench. (bench ≡ self) × HasSeenMore pass.old) }
     {
         let Bench { cells, locked } = self;
         match locked.into_inner().into_history(pass) {

@@ -426,7 +426,7 @@ impl<B: Room> Locked<B> {
         ensures pass { pass.new ≡ pass.old }
         ensures ok { IfOk result (λ h. (h ≡ self.calls) × IsLegal h) }
         ensures begins { OnOk result ((pass.old.count ≤ length self.calls) × Begins pass.old self.calls) }
-        ensures err { IfErr result (λ l. (l ≡ self) × (length self.calls < pass.old.count)) }
+        ensures err { IfErr result (λ l. (l ≡ self) × (length self.calls < pass.old.count) × IsLegal self.calls) }
     {
         if self.len() < pass.seen() {
             return Err(self);

@@ -21,7 +21,7 @@ pub trait MakeGate {
     fn end(&self, worker: usize, gate: Self::Made);
 }
 
-/// Runs tests live for workers. Whatever makes gates does.
+/// Runs tests live for workers, and is told what they judge. Whatever makes gates does, and takes no notice.
 pub trait RunTests {
     ghost use Rattle.std.specs.Prelude.{◌≡◌, IfOk, IfErr};
     ghost use Rattle.dg_living.specs.Replayed.{transcript_of};
@@ -41,6 +41,12 @@ pub trait RunTests {
         requires ready { is_ready self.now }
         ensures run { IfOk result (λ p. (p.0.test ≡ test) × (p.1 ≡ transcript_of p.0.reads)) }
         ensures fault { IfErr result CanFail };
+
+    /// A worker begins to judge a test.
+    fn begin(&self, _test: &TestId) {}
+
+    /// A worker has judged a test, and keeps this record.
+    fn end(&self, _record: &Record) {}
 }
 
 impl<M: MakeGate> RunTests for M {

@@ -38,14 +38,21 @@ impl<'a, B: Room, M: RunTests, R: Wait> Crew<'a, B, M, R> {
     ) -> Result<(), WorkFault>
         requires ready { M.is_ready self.now.maker.now }
     {
+        self.maker.begin(test);
         let own = test.copy(self.alloc)?;
         match self.work {
             Work::Live => match self.maker.run_test(self.alloc, worker, own, client) {
-                Ok((record, transcript)) => client.commit_live(record, transcript),
+                Ok((record, transcript)) => {
+                    self.maker.end(&record);
+                    client.commit_live(record, transcript)
+                }
                 Err(why) => Err(client.fault(test.copy(self.alloc)?, why)),
             },
             Work::Rejudge => match client.rejudge(own) {
-                Ok(record) => client.commit(record),
+                Ok(record) => {
+                    self.maker.end(&record);
+                    client.commit(record)
+                }
                 Err(why) => Err(client.fault(test.copy(self.alloc)?, why)),
             },
         }

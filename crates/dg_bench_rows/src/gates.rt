@@ -2,6 +2,7 @@
 use dg_bench::MakeGate;
 use dg_bytes::{Bytes, Seq};
 use dg_gate::{Ended, Gate, GateFault, Piece, Reply, ScriptGate};
+use dg_transcript::Code;
 use std::alloc::{AllocError, Global};
 use std::collections::VecDeque;
 use std::sync::atomic::{AtomicU64, Ordering};
@@ -124,4 +125,23 @@ impl<'a, R: Clock> MakeGate for Waiting<'a, R> {
     }
 
     fn end(&self, _worker: usize, _gate: WaitingGate<'a, R>) {}
+}
+
+/// Gates whose child is started, and reads nothing: the first send fails.
+#[derive(Drop)]
+pub struct Deaf {
+    pub alloc: Global,
+}
+
+impl MakeGate for Deaf {
+    type Made = ScriptGate;
+
+    fn make(&self, _worker: usize) -> Result<ScriptGate, AllocError> {
+        let mut answers = VecDeque::new(self.alloc);
+        answers.push_back(Reply::Started)?;
+        answers.push_back(Reply::Failed(Code::BrokenPipe))?;
+        Ok(ScriptGate::new(answers))
+    }
+
+    fn end(&self, _worker: usize, _gate: ScriptGate) {}
 }

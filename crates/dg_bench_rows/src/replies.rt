@@ -1,7 +1,7 @@
 //! What the cases share: edits, and what calls and replies are to be.
 use dg_bench::{Bench, Call, Pass, Room};
 use dg_bytes::Bytes;
-use dg_core::Reply;
+use dg_core::{Core, Reply};
 use dg_world::{Edit, Name, Question};
 use std::alloc::{AllocError, Global};
 use std::sync::Wait;
@@ -55,11 +55,33 @@ pub fn are_same(one: &Call, other: &Call) -> bool {
     }
 }
 
-/// Whether these are the same sums, or of as many pending tests.
-fn are_same_replies(one: &Reply, other: &Reply) -> bool {
+/// Whether these are the same sums, or of the same pending tests.
+pub fn are_same_replies(one: &Reply, other: &Reply) -> bool {
     match (one, other) {
         (Reply::Sum(one, status), Reply::Sum(other, also)) => *one == *other && *status == *also,
-        (Reply::Pending(one), Reply::Pending(other)) => one.len() == other.len(),
+        (Reply::Pending(one), Reply::Pending(other)) => one.as_slice() == other.as_slice(),
         _ => false,
     }
+}
+
+/// Whether a core accepts a call, with the reply that stands there.
+fn accepts(alloc: Global, core: &mut Core, call: &Call) -> Option<bool> {
+    Some(match call.copy(alloc).ok()? {
+        Call::Edit(edit) => core.edit(alloc, edit).is_ok(),
+        Call::Ask(question, said) => core.ask(alloc, &question).ok()? == said,
+        Call::Commit(record) => core.commit(alloc, record).is_ok(),
+        Call::Live(record, transcript) => core.commit_live(alloc, record, transcript).is_ok(),
+        Call::Report(reply) => are_same_replies(&core.report(alloc).ok()?, &reply),
+    })
+}
+
+/// Whether a new core accepts these calls, one after another, each with its reply.
+pub fn replays(alloc: Global, calls: &[Call]) -> Option<bool> {
+    let mut core = Core::new(alloc).ok()?;
+    for call in calls {
+        if !accepts(alloc, &mut core, call)? {
+            return Some(false);
+        }
+    }
+    Some(true)
 }

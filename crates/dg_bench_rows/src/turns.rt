@@ -11,9 +11,9 @@ use std::time::Clock;
 
 /// What a thread is given: a pass, and the gates.
 #[derive(Drop)]
-struct Share<'a, B: Room, R: Clock> {
-    pass: Pass<B>,
-    maker: &'a Waiting<'a, R>,
+pub struct Share<'a, B: Room, R: Clock> {
+    pub pass: Pass<B>,
+    pub maker: &'a Waiting<'a, R>,
 }
 
 /// Runs all tests by two workers.

@@ -1,9 +1,10 @@
 //! Workers over stored worlds, and over gates that wait for nothing.
-use crate::gates::{Signal, Waiting};
+use crate::gates::{Deaf, Signal, Waiting};
 use crate::replies::{PASSED, is_sum, put_on};
 use dg_bench::{Bench, Call, MakeGate, Pass, Room, Work, run_workers};
 use dg_bytes::Bytes;
 use dg_core::Reply;
+use dg_transcript::encode;
 use std::alloc::Global;
 use std::sync::Wait;
 use std::thread::Threads;
@@ -41,7 +42,7 @@ pub fn passes(reply: &Reply) -> Option<usize> {
 }
 
 /// Gates that wait for nothing.
-fn ready<'a, R: Clock>(rt: &'a R, alloc: Global, signal: &'a Signal) -> Waiting<'a, R> {
+pub fn ready<'a, R: Clock>(rt: &'a R, alloc: Global, signal: &'a Signal) -> Waiting<'a, R> {
     Waiting {
         rt,
         alloc,
@@ -93,4 +94,52 @@ pub fn runs_live<B: Room + Send + Sync, R: Threads + Wait + Clock + Sync>(
     let (mut pass, reply) = run_workers(rt, alloc, &bench, pass, &maker, 2, Work::Live).ok()?;
     let history = bench.into_history(&mut pass).ok()?;
     Some(passes(&reply) == Some(3) && live_runs(history.calls()) == 3 && signal.raised() == 3)
+}
+
+/// A script that tells of a send that fails, and passes.
+const TELLS: &[u8] = b"spawn cat\nif {[catch {send a} m]} {note $m}\npass p\n";
+
+/// Its lines, and the transcript of a child that reads nothing, written out by hand.
+const TOLD: &[u8] = b"NOTE: spawn id exp1 not open\nPASS: p\n";
+
+const DEAF: &[u8] = b"dejagnu-transcript 1\nsession 1\nstarted 636174\nnosend 3 61\ndone\n";
+
+/// Whether a sum has these lines, one behind the other.
+fn tells(reply: &Reply, lines: &[u8]) -> bool {
+    match reply {
+        Reply::Sum(text, 0) => text
+            .as_slice()
+            .windows(lines.len().max(1))
+            .any(|part| part == lines),
+        _ => false,
+    }
+}
+
+/// Whether the one live run among the calls has this transcript.
+fn has_transcript(alloc: Global, calls: &[Call], wanted: &[u8]) -> Option<bool> {
+    let mut found = false;
+    for call in calls {
+        if let Call::Live(_, transcript) = call {
+            found = encode(alloc, transcript).ok()?.is(wanted);
+        }
+    }
+    Some(found)
+}
+
+/// Whether workers keep the transcript of a call that failed, and judge again by it to the same lines.
+pub fn keeps_failures<B: Room + Send + Sync, R: Threads + Wait + Sync>(
+    rt: &R,
+    alloc: Global,
+    bench: Bench<B>,
+) -> Option<bool> {
+    let maker = Deaf { alloc };
+    let pass = put_on(rt, alloc, &bench, bench.pass(), b"t/a.exp", TELLS)?;
+    let (pass, live) = run_workers(rt, alloc, &bench, pass, &maker, 2, Work::Live).ok()?;
+    let mut text = Bytes::from_slice(alloc, TELLS).ok()?;
+    text.extend(b"# again\n").ok()?;
+    let pass = put_on(rt, alloc, &bench, pass, b"t/a.exp", text.as_slice())?;
+    let (mut pass, again) = run_workers(rt, alloc, &bench, pass, &maker, 2, Work::Rejudge).ok()?;
+    let history = bench.into_history(&mut pass).ok()?;
+    let is_kept = has_transcript(alloc, history.calls(), DEAF)?;
+    Some(is_kept && tells(&live, TOLD) && tells(&again, TOLD))
 }

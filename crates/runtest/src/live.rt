@@ -43,13 +43,17 @@ where
         test: TestId,
         asker: &mut A,
     ) -> Result<(Record, Transcript), LiveFault> {
-        self.progress.begin(&test);
         let mut gate = PipeGate::new(self.rt, alloc, self.opener);
         let run = run_live(alloc, test, &mut gate, asker);
         let _accounts = gate.stop();
-        if let Ok((record, _)) = &run {
-            self.progress.end(record.verdict());
-        }
         run
+    }
+
+    fn begin(&self, test: &TestId) {
+        self.progress.begin(test);
+    }
+
+    fn end(&self, record: &Record) {
+        self.progress.end(record.verdict());
     }
 }
