@@ -2,6 +2,7 @@
 
 mod edits;
 mod growth;
+mod moments;
 mod patterns;
 mod selections;
 mod suites;

@@ -13,10 +13,10 @@ use std::test::Fail;
 const SEARCHES: &[u8] = b"if {[regexp {o(.)e} one]} {pass \"one\"}\n";
 
 /// More turns than its evaluation takes.
-const TURNS: u8 = 20;
+pub(super) const TURNS: u8 = 20;
 
 /// Tells a job what a core answers to its question.
-fn tell(
+pub(super) fn tell(
     alloc: Global,
     core: &mut Core,
     job: &mut Job,
@@ -64,7 +64,7 @@ fn a_pattern_keeps_its_first_answer(rt: HostRuntime) -> Result<(), Fail> {
 }
 
 /// Whether a report names just the one script as pending.
-fn is_pending(reply: &Reply) -> bool {
+pub(super) fn is_pending(reply: &Reply) -> bool {
     match reply {
         Reply::Sum(_, _) => false,
         Reply::Pending(tests) => match tests.as_slice() {
