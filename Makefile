@@ -39,10 +39,12 @@ kills: $(PROGRAM)
 	sh tests/kills/run.sh
 
 # Judges the example suites by their stored transcripts, and beside these with children: their reports are the stored ones.
-# Then compares and merges reports, as people do with them.
+# Then compares and merges reports, as people do with them, and tries what a user sees of the program: words, faults, sessions,
+# terminals, children.
 examples: $(PROGRAM)
 	sh tests/examples/run.sh live
 	sh tests/sum/run.sh
+	sh tests/program/run.sh $(PROGRAM)
 
 install: $(PROGRAM)
 	install -d $(DESTDIR)$(PREFIX)/bin
