@@ -184,12 +184,10 @@ fn is_last(reported: &Reported, history: &[Call]) -> bool {
 
 /// How many of the calls are edits, questions and reports.
 fn counts(calls: &[Call]) -> (usize, usize, usize) {
-    let count = |kind: fn(&Call) -> bool| calls.iter().filter(|call| kind(*call)).count();
-    (
-        count(|call| matches!(call, Call::Edit(_))),
-        count(|call| matches!(call, Call::Ask(_, _))),
-        count(|call| matches!(call, Call::Report(_))),
-    )
+    let edits = calls.iter().filter(|call| matches!(call, Call::Edit(_)));
+    let asks = calls.iter().filter(|call| matches!(call, Call::Ask(_, _)));
+    let reports = calls.iter().filter(|call| matches!(call, Call::Report(_)));
+    (edits.count(), asks.count(), reports.count())
 }
 
 /// Whether all were told of the calls that stand in the history, each caller in its order, and whether a core that is given
