@@ -1,5 +1,5 @@
 -- An index: the places of the records that read a topic.
-use Rattle.std.specs.Prelude.{ℕ, suc, Bool, List, [], ◌∷◌, ◌≡◌, false, Option, IsTrue, MatchOption, nat_eq, unwrap_or}
+use Rattle.std.specs.Prelude.{ℕ, suc, Bool, List, [], ◌∷◌, ◌≡◌, false, Option, None, Some, IsTrue, MatchOption, nat_eq, unwrap_or}
 use Rattle.std.specs.Borrow.{Bor}
 use Rattle.std.specs.List.{list_any, IsDistinct}
 use Rattle.std.specs.Map.{lookup}
@@ -24,6 +24,11 @@ is_among places place = list_any (nat_eq place) places
 -- each place that one index names for a topic, the other names too
 abbrev pub NamesMore : IndexView → IndexView → Type 0
 NamesMore few more = (t : Topic) (place : ℕ) → IsTrue (is_among (readers_of few t) place) → IsTrue (is_among (readers_of more t) place)
+
+-- the index names a place for a topic, where there is one
+abbrev pub IsNamed : IndexView → ℕ → Option Topic → Type 0
+IsNamed index place None = Unit {0}
+IsNamed index place (Some t) = IsTrue (is_among (readers_of index t) place)
 
 -- the index names a place for the topic of each read
 abbrev pub NamesReads : IndexView → ℕ → List Read → Type 0

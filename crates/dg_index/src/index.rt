@@ -1,6 +1,6 @@
 //! The index: the places of the records that read a topic.
-ghost use Rattle.std.specs.Prelude.{◌≡◌, [], IsTrue, OnOk};
-ghost use Rattle.dg_index.specs.Index.{is_among, readers_of, Finds, NamesMore, NamesReads};
+ghost use Rattle.std.specs.Prelude.{◌≡◌, [], IfOk, IsTrue, OnOk, Some};
+ghost use Rattle.dg_index.specs.Index.{is_among, readers_of, Finds, IsNamed, NamesMore, NamesReads};
 ghost use Rattle.dg_index.specs.Topic.{topic_of, touched};
 
 use crate::topic::Topic;
@@ -32,6 +32,16 @@ impl Model for Index {
     ghost Value = { IndexView };
 
     ghost view = { λ i. map (λ e. (e.0, e.1.keys)) i.readers.entries };
+}
+
+/// Whether a question is on a topic, where there is one.
+fn is_on(topic: &Option<Topic>, question: &Question) -> bool
+    ensures { IsTrue result → topic.now ≡ Some (topic_of question.now) }
+{
+    match topic {
+        Some(topic) => topic.covers(question),
+        None => false,
+    }
 }
 
 impl Index {
@@ -72,21 +82,45 @@ impl Index {
         Some((topic, readers.as_slice()))
     }
 
-    /// Names a place for the topic of a question. All that was named before is named in any case.
+    /// Names a place for the topic of a question, and gives the topic. All that was named before is named in any case.
     fn name_question(
         &mut self,
         alloc: Global,
         question: &Question,
         place: usize,
-    ) -> Result<(), AllocError>
-        ensures named { OnOk result (IsTrue (is_among (readers_of self.new (topic_of question.now)) place)) }
+    ) -> Result<Topic, AllocError>
+        ensures named { IfOk result (λ topic. IsTrue (is_among (readers_of self.new topic) place)) }
+        ensures topic { IfOk result (λ topic. topic ≡ topic_of question.now) }
         ensures stays { NamesMore self.old self.new }
     {
         let topic = Topic::of(alloc, question)?;
-        self.name(alloc, &topic, place)
+        self.name(alloc, &topic, place)?;
+        Ok(topic)
     }
 
-    /// Names a place for the topic of each read. All that was named before is named in any case.
+    /// Names a place for the topic of a question, unless that is the topic for which it was named last. All that was named
+    /// before is named in any case.
+    fn name_next(
+        &mut self,
+        alloc: Global,
+        last: &mut Option<Topic>,
+        question: &Question,
+        place: usize,
+    ) -> Result<(), AllocError>
+        requires { IsNamed self.old place last.old }
+        ensures named { OnOk result (IsTrue (is_among (readers_of self.new (topic_of question.now)) place)) }
+        ensures last { OnOk result (IsNamed self.new place last.new) }
+        ensures stays { NamesMore self.old self.new }
+    {
+        if is_on(last, question) {
+            return Ok(());
+        }
+        *last = Some(self.name_question(alloc, question, place)?);
+        Ok(())
+    }
+
+    /// Names a place for the topic of each read. All that was named before is named in any case. Of reads on one topic that
+    /// follow one another, as those of a transcript do, only the first looks for it.
     pub fn name_reads(
         &mut self,
         alloc: Global,
@@ -96,8 +130,9 @@ impl Index {
         ensures named { OnOk result (NamesReads self.new place reads.now) }
         ensures stays { NamesMore self.old self.new }
     {
+        let mut last = None;
         for read in reads {
-            self.name_question(alloc, &read.question, place)?;
+            self.name_next(alloc, &mut last, &read.question, place)?;
         }
         Ok(())
     }

@@ -12,9 +12,11 @@ use Rattle.dg_language.proofs.state.State.TheSendSync as state
 use Rattle.dg_expr.specs.contracts.code.Instruction as Instruction
 use Rattle.dg_shelf.proofs.shelf.Shelf.TheSendSync as shelf
 use Rattle.dg_language.proofs.ask.Ask.TheSendSync as ask
+use Rattle.dg_language.specs.contracts.ask.Ask as Ask
 use Rattle.dg_language.proofs.expect.Pair.TheSendSync as pair
 use Rattle.dg_match.proofs.Crosses.{Pattern-send, Programs-send}
 use Rattle.dg_world.proofs.test_id.TestId.TheSendSync as test
+use Rattle.dg_machine.proofs.boxed.Boxed.TheSendSync as boxed
 use Rattle.dg_machine.proofs.frame.Acting.TheSendSync as acting
 use Rattle.dg_machine.proofs.frame.Choice.TheSendSync as choice
 use Rattle.dg_machine.proofs.frame.Compiling.TheSendSync as compiling
@@ -26,6 +28,7 @@ use Rattle.dg_machine.proofs.frame.Reach.TheSendSync as reach
 use Rattle.dg_machine.proofs.frame.Stack.TheSendSync as stack
 use Rattle.dg_machine.proofs.frame.Stage.TheSendSync as stage
 use Rattle.dg_machine.specs.contracts.frame.Wait as Wait
+use Rattle.dg_machine.specs.contracts.boxed.Boxed as Boxed
 use Rattle.dg_machine.specs.contracts.evaluation.Asking as Asking
 use Rattle.dg_machine.specs.contracts.evaluation.Evaluation as Evaluation
 use Rattle.dg_machine.specs.contracts.frame.Calculation as Calculation
@@ -170,8 +173,14 @@ Machine-send =
     let frames = stack.the_send Frame.the_row Frame-send in
     search (sendable, state.the_send, control.the_field_send, Programs-send, shelf.the_send, Read-send, Read-sync, Formula-send, Formula-sync) depth 20
 
+Kept-machine-send : IsSend (Boxed.the_row Machine.the_row)
+Kept-machine-send = let machine : IsSend Machine.the_row = search (recorded_send, Machine-send) depth 20 in boxed.the_send Machine.the_row machine
+
+Kept-ask-send : IsSend (Boxed.the_row Ask.the_row)
+Kept-ask-send = boxed.the_send Ask.the_row ask.the_send
+
 pub Evaluation-send : IsSend Evaluation.the_row
-Evaluation-send = search (sendable, test.the_send, Machine-send) depth 20
+Evaluation-send = search (sendable, test.the_send, Kept-machine-send) depth 20
 
 pub Asking-send : IsSend Asking.the_row
-Asking-send = search (sendable, test.the_send, ask.the_field_send, Machine-send) depth 20
+Asking-send = search (sendable, test.the_send, Kept-machine-send, Kept-ask-send) depth 20

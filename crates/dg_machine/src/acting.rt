@@ -10,6 +10,7 @@ ghost use Rattle.dg_machine.specs.Acting.{acting, after_weight, naming, told_aft
 ghost use Rattle.dg_machine.specs.Meaning.{all_back, weight_of, ends_with, Comes, Goes};
 ghost use Rattle.dg_machine.specs.Performing.{Performs};
 
+use crate::boxed::Boxed;
 use crate::frame::{Acting, After, Came, Closing, Frame, Pace};
 use crate::machine::Machine;
 use dg_bytes::{Bytes, TryCopy};
@@ -22,17 +23,19 @@ use std::alloc::{AllocError, Global};
 
 impl Machine {
     /// A child did not do what was asked of it: the whole test ends.
-    pub(crate) fn depart(&mut self, alloc: Global) -> Result<Closing, AllocError>
+    pub(crate) fn depart(&mut self, alloc: Global) -> Result<Boxed<Closing>, AllocError>
         ensures ends { IfOk result (λ c. depart self.old.state ≡ ends_with c self.old.state) }
         ensures same { self.new ≡ self.old }
     {
         let judging = self.state.judged(alloc)?;
         let name = self.state.test().script().as_slice();
         let verdict = judging.depart(alloc, name)?;
-        Ok(Closing {
+        let closing = Closing {
             verdict,
             close: Close::Departed,
-        })
+        };
+        let closing = Boxed::new(alloc, closing)?;
+        Ok(closing)
     }
 
     /// What is asked for the next entry of a session, for an action.
@@ -75,7 +78,8 @@ impl Machine {
         };
         let ask = self.ask_for_entry(alloc, number, session, action)?;
         let Some(answer) = self.state.answer_to(&ask.question) else {
-            return Ok(Came::Stands(ask));
+            let asked = Boxed::new(alloc, ask)?;
+            return Ok(Came::Stands(asked));
         };
         let Answer::Entry(entry) = answer else {
             let closing = self.depart(alloc)?;

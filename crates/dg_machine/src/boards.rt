@@ -6,12 +6,12 @@ ghost use Rattle.dg_language.specs.Language.{evaluate};
 ghost use Rattle.dg_machine.specs.declared.frame.Control.{Control};
 ghost use Rattle.dg_machine.specs.Meaning.{all_back, weight_of, Goes, RunsAs};
 
-use crate::frame::{FileText, Frame, Pace};
+use crate::frame::{FileText, Frame, Pace, plain_ask};
 use crate::machine::Machine;
 use crate::step::outside;
 use dg_bytes::{Bytes, TryCopy};
 use dg_forms::{library_file, no_library, only, split, told_of, two};
-use dg_language::{Ask, BoardCommand, Code};
+use dg_language::{BoardCommand, Code};
 use dg_world::{Name, is_name};
 use std::alloc::{AllocError, Global};
 
@@ -118,7 +118,10 @@ impl Machine {
             return Ok(Pace::Moved);
         }
         match self.text_of(alloc, file)? {
-            FileText::Unanswered(question) => Ok(Pace::Stands(Ask::plain(question))),
+            FileText::Unanswered(question) => {
+                let ask = plain_ask(alloc, question)?;
+                Ok(Pace::Stands(ask))
+            }
             FileText::Known(None) => Ok(self.miss_library(alloc, library)?),
             FileText::Known(Some(text)) => {
                 self.state.enter_library(alloc, file.as_slice())?;

@@ -2,6 +2,7 @@
 ghost use Rattle.std.specs.Prelude.{◌≡◌, true, IfOk};
 ghost use Rattle.dg_world.specs.Question.{fits};
 
+use crate::boxed::Boxed;
 use crate::frame::{Closing, Control, Frame, Opening, Stack, Stop};
 use crate::machine::Machine;
 use crate::script::KEPT;
@@ -21,7 +22,7 @@ const PLACES: usize = 64;
 /// the steps that were taken.
 pub struct Evaluation {
     test: TestId,
-    machine: Machine,
+    machine: Boxed<Machine>,
 }
 
 impl Model for Evaluation {
@@ -49,8 +50,8 @@ impl Drop for Evaluation {
 /// what it sees of an evaluation.
 pub struct Asking {
     test: TestId,
-    ask: Ask,
-    machine: Machine,
+    ask: Boxed<Ask>,
+    machine: Boxed<Machine>,
 }
 
 impl Model for Asking {
@@ -120,6 +121,7 @@ impl Evaluation {
             scripts: Shelf::new(alloc, PLACES, KEPT),
             formulas: Shelf::new(alloc, PLACES, KEPT),
         };
+        let machine = Boxed::new(alloc, machine)?;
         Ok(Evaluation { test, machine })
     }
 
@@ -132,8 +134,8 @@ impl Evaluation {
             Stop::AtQuestion(ask) => Ok(Arrival::AtQuestion(Asking { test, ask, machine })),
             Stop::Lost => Ok(Arrival::Lost),
             Stop::AtEnd(closing) => {
-                let Closing { verdict, close } = closing;
-                let state = machine.into_state();
+                let Closing { verdict, close } = closing.into_inner();
+                let state = machine.into_inner().into_state();
                 let board_steps = state.board_steps();
                 let steps = state.steps();
                 let reads = state.into_reads()?;
@@ -159,14 +161,14 @@ impl Asking {
         ensures ask { result.now ≡ self.now.ask }
         ensures next { NeedsNext self.now.test self.now.reads self.now.ask }
     {
-        &self.ask
+        self.ask.get()
     }
 
     /// The steps that were taken.
     pub fn steps(&self) -> u64
         ensures { result ≡ self.now.steps }
     {
-        self.machine.state.steps()
+        self.machine.get().state.steps()
     }
 
     /// Goes on with an answer of the question's kind.
@@ -179,7 +181,8 @@ impl Asking {
             ask,
             mut machine,
         } = self;
-        machine.state.learn(ask.question, answer)?;
+        let ask = ask.into_inner();
+        machine.learn(ask.question, answer)?;
         Ok(Evaluation { test, machine })
     }
 }

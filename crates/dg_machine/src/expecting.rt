@@ -14,7 +14,7 @@ ghost use Rattle.dg_machine.specs.Acting.{again, awaiting, limit_in, limiting, r
 ghost use Rattle.dg_machine.specs.Meaning.{all_back, weight_of, Comes, Goes};
 
 use crate::frame::{
-    Came, Compiling, Fit, Frame, Limiting, Making, Pace, Reach, Sought, Stack, Wait,
+    Came, Compiling, Fit, Frame, Limiting, Making, Pace, Reach, Sought, Stack, Wait, plain_ask,
 };
 use crate::machine::Machine;
 use crate::matches::{find_match, keep_end, keep_match};
@@ -27,7 +27,7 @@ use dg_forms::{
     action_at, end_action, expect_words, expected_integer, limit_of, listed, not_open, regexes_in,
     steps_of, timeout_action,
 };
-use dg_language::{Ask, Code, Purpose};
+use dg_language::{Code, Purpose};
 use dg_sessions::id_of;
 use dg_transcript::Action;
 use dg_words::{WordFault, fault_text, parse_words};
@@ -232,7 +232,8 @@ impl Machine {
         match readings_of(alloc, &self.state, texts.as_slice())? {
             Known::Unasked(question) => {
                 self.stack.push(Frame::Compiling { compiling })?;
-                Ok(Pace::Stands(Ask::plain(question)))
+                let ask = plain_ask(alloc, question)?;
+                Ok(Pace::Stands(ask))
             }
             Known::OneUnread => {
                 let message = Bytes::from_slice(alloc, CANNOT_COMPILE)?;

@@ -1,6 +1,8 @@
 //! What stands round an evaluation.
-ghost use Rattle.std.specs.Prelude.{◌≡◌, ◌<◌, ◌^◌, [], ◌∷◌, length, OnOk, MatchOption};
+ghost use Rattle.std.specs.Prelude.{◌≡◌, ◌<◌, ◌^◌, [], ◌∷◌, length, IfOk, OnOk, MatchOption};
+ghost use Rattle.dg_language.specs.Play.{plain};
 
+use crate::boxed::Boxed;
 use crate::instructions::Instructions;
 use crate::patterns::Prepared;
 use crate::script::{Body, Script};
@@ -194,9 +196,9 @@ pub(crate) enum Sought {
 #[derive(Drop)]
 pub(crate) enum Came {
     /// The entry is not known yet.
-    Stands(Ask),
+    Stands(Boxed<Ask>),
     /// The whole test has ended.
-    Over(Closing),
+    Over(Boxed<Closing>),
     /// The entry was passed over, and the next one is wanted.
     Passed,
     /// This entry has answered.
@@ -339,20 +341,27 @@ pub(crate) enum Pace {
     /// There is more to do.
     Moved,
     /// This question has no answer yet. Globals may have begun; nothing else was changed.
-    Stands(Ask),
+    Stands(Boxed<Ask>),
     /// All has ended like this.
-    Over(Closing),
+    Over(Boxed<Closing>),
     /// A pattern that was answered as read can't be built.
     Lost,
+}
+
+/// A question that stands, with no action beside it.
+pub(crate) fn plain_ask(alloc: Global, question: Question) -> Result<Boxed<Ask>, AllocError>
+    ensures { IfOk result (λ ask. ask ≡ plain question) }
+{
+    Boxed::new(alloc, Ask::plain(question))
 }
 
 /// Where a machine comes to by itself.
 #[derive(Drop)]
 pub(crate) enum Stop {
     /// This question has no answer yet.
-    AtQuestion(Ask),
+    AtQuestion(Boxed<Ask>),
     /// All has ended like this.
-    AtEnd(Closing),
+    AtEnd(Boxed<Closing>),
     /// A pattern that was answered as read can't be built.
     Lost,
 }

@@ -3,6 +3,7 @@
 
 mod acting;
 mod boards;
+mod boxed;
 mod choices;
 mod computing;
 mod control;

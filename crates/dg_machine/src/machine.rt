@@ -11,12 +11,13 @@ ghost use Rattle.dg_machine.specs.declared.frame.Control.{Control};
 ghost use Rattle.dg_machine.specs.declared.frame.Frame.{Frame};
 ghost use Rattle.dg_machine.specs.Meaning.{all_back, budget, weight, weight_of, ends_with, Comes, Goes, Readies};
 
-use crate::frame::{Closing, Control, Frame, Making, Pace, Stack};
+use crate::boxed::Boxed;
+use crate::frame::{Closing, Control, Frame, Making, Pace, Stack, plain_ask};
 use crate::instructions::Formula;
 use crate::script::{Begun, Commands, KEPT, Script};
 use dg_bytes::{Bytes, TryCopy};
 use dg_forms::wrong_count;
-use dg_language::{Ask, Close, Code, Purpose, Queue, State, Substitution, Touch};
+use dg_language::{Close, Code, Purpose, Queue, State, Substitution, Touch};
 use dg_match::Programs;
 use dg_scope::LONGEST_VALUE;
 use dg_shelf::Shelf;
@@ -67,31 +68,35 @@ impl Machine {
 
     /// A limit ends the evaluation as an error does.
     #[tactic(auto, unfolding(dg_language::specs::Evaluation::cut, dg_language::specs::Evaluation::aborted))]
-    pub(crate) fn cut(&mut self, alloc: Global, why: &[u8]) -> Result<Closing, AllocError>
+    pub(crate) fn cut(&mut self, alloc: Global, why: &[u8]) -> Result<Boxed<Closing>, AllocError>
         ensures ends { IfOk result (λ c. cut why.now self.old.state ≡ ends_with c self.old.state) }
         ensures same { self.new ≡ self.old }
     {
         let judging = self.state.judged(alloc)?;
         let verdict = judging.abort(alloc, self.state.test().script().as_slice(), why)?;
-        Ok(Closing {
+        let closing = Closing {
             verdict,
             close: Close::Aborted,
-        })
+        };
+        let closing = Boxed::new(alloc, closing)?;
+        Ok(closing)
     }
 
     /// No step is left, which ends the evaluation as an error does.
     #[tactic(auto, unfolding(dg_language::specs::Evaluation::out_of_steps))]
-    pub(crate) fn out_of_steps(&mut self, alloc: Global) -> Result<Closing, AllocError>
+    pub(crate) fn out_of_steps(&mut self, alloc: Global) -> Result<Boxed<Closing>, AllocError>
         ensures ends { IfOk result (λ c. Ends (out_of_steps self.old.state) ≡ ends_with c self.old.state) }
         ensures same { self.new ≡ self.old }
     {
         let judging = self.state.judged(alloc)?;
         let name = self.state.test().script().as_slice();
         let verdict = judging.abort(alloc, name, b"step limit reached")?;
-        Ok(Closing {
+        let closing = Closing {
             verdict,
             close: Close::OutOfSteps,
-        })
+        };
+        let closing = Boxed::new(alloc, closing)?;
+        Ok(closing)
     }
 
     /// An evaluation has ended with this code and value.
@@ -132,7 +137,10 @@ impl Machine {
     {
         match self.state.touch(alloc, name)? {
             Touch::Ready => Ok(None),
-            Touch::Asking(question) => Ok(Some(Pace::Stands(Ask::plain(question)))),
+            Touch::Asking(question) => {
+                let ask = plain_ask(alloc, question)?;
+                Ok(Some(Pace::Stands(ask)))
+            }
             Touch::TooLong => {
                 let closing = self.cut(alloc, b"value too long")?;
                 Ok(Some(Pace::Over(closing)))

@@ -6,12 +6,12 @@ ghost use Rattle.dg_machine.specs.declared.frame.Control.{Control};
 ghost use Rattle.dg_machine.specs.Meaning.{all_back, weight_of, Comes, Goes, Opens};
 ghost use Rattle.dg_machine.specs.Opening.{open_next, opening_weight, Holds};
 
-use crate::frame::{FileText, Frame, Opening, Pace};
+use crate::frame::{FileText, Frame, Opening, Pace, plain_ask};
 use crate::machine::Machine;
 use crate::step::outside;
 use dg_bytes::{Bytes, TryCopy};
 use dg_forms::{board_file, content_of, no_such_script, tool_library, tool_of};
-use dg_language::{Ask, Code};
+use dg_language::Code;
 use dg_world::{Name, Question, is_name};
 use std::alloc::{AllocError, Global};
 
@@ -40,7 +40,10 @@ impl Machine {
             return Ok(Pace::Moved);
         }
         match self.text_of(alloc, &Name::from_valid(name))? {
-            FileText::Unanswered(question) => Ok(Pace::Stands(Ask::plain(question))),
+            FileText::Unanswered(question) => {
+                let ask = plain_ask(alloc, question)?;
+                Ok(Pace::Stands(ask))
+            }
             FileText::Known(None) => {
                 self.stack.push(Frame::Opening { what: next })?;
                 Ok(Pace::Moved)
@@ -72,7 +75,8 @@ impl Machine {
     {
         let question = Question::Tool;
         let Some(answer) = self.state.answer_to(&question) else {
-            return Ok(Pace::Stands(Ask::plain(question)));
+            let ask = plain_ask(alloc, question)?;
+            return Ok(Pace::Stands(ask));
         };
         let name = tool_library(alloc, tool_of(answer))?;
         self.state.mark(alloc, name.as_slice())?;
@@ -88,7 +92,10 @@ impl Machine {
         ensures { IfOk result (Opens open_script (opening_weight Opening.Script) self.old self.new) }
     {
         match self.text_of(alloc, self.state.test().script())? {
-            FileText::Unanswered(question) => Ok(Pace::Stands(Ask::plain(question))),
+            FileText::Unanswered(question) => {
+                let ask = plain_ask(alloc, question)?;
+                Ok(Pace::Stands(ask))
+            }
             FileText::Known(None) => {
                 let message = no_such_script(alloc, self.state.test().script().as_slice())?;
                 Ok(self.fail(alloc, message)?)

@@ -10,13 +10,13 @@ ghost use Rattle.dg_machine.specs.Giving.{giving};
 ghost use Rattle.dg_machine.specs.Meaning.{all_back, weight_of, Comes, Goes, Opens, RunsAs};
 ghost use Rattle.dg_machine.specs.Patterns.{AreRead};
 
-use crate::frame::{Frame, Pace};
+use crate::frame::{Frame, Pace, plain_ask};
 use crate::machine::Machine;
 use crate::patterns::{Known, reading_of};
 use crate::rounds::take_first;
 use dg_bytes::Bytes;
 use dg_forms::{parts_of, regexp_words};
-use dg_language::{Ask, Code, Queue, Search};
+use dg_language::{Code, Queue, Search};
 use dg_match::{Pattern, PatternFault};
 use dg_scope::LONGEST_VALUE;
 use std::alloc::{AllocError, Global};
@@ -36,7 +36,10 @@ impl Machine {
             Err(message) => return Ok(self.fail(alloc, message)?),
         };
         match reading_of(alloc, &self.state, &search.pattern)? {
-            Known::Unasked(question) => Ok(Pace::Stands(Ask::plain(question))),
+            Known::Unasked(question) => {
+                let ask = plain_ask(alloc, question)?;
+                Ok(Pace::Stands(ask))
+            }
             Known::OneUnread => {
                 let message = Bytes::from_slice(alloc, CANNOT_COMPILE)?;
                 Ok(self.fail(alloc, message)?)

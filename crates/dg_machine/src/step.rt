@@ -8,6 +8,7 @@ ghost use Rattle.dg_language.specs.State.{departed};
 ghost use Rattle.dg_machine.specs.declared.frame.Control.{Control};
 ghost use Rattle.dg_machine.specs.Meaning.{all_back, back, go, rest, weight_of, budget, frame_weight, ends_with, looping, next_round, making_with, outside_code, outside_value, Comes, ComesTo, Goes};
 
+use crate::boxed::Boxed;
 use crate::frame::{Closing, Control, Frame, Making, Pace, Rounds, Stop};
 use crate::machine::Machine;
 use crate::script::Script;
@@ -292,7 +293,7 @@ impl Machine {
                 Control::Go => self.finish(alloc, Code::Done, Bytes::new(alloc))?,
                 Control::Ended { code, value } => self.finish(alloc, code, value)?,
             };
-            return Ok(Pace::Over(closing));
+            return Ok(Pace::Over(Boxed::new(alloc, closing)?));
         };
         match control {
             Control::Go => Ok(self.resume(alloc, frame)?),

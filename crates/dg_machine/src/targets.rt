@@ -4,13 +4,13 @@ ghost use Rattle.dg_language.specs.Boards.{do_flag, do_is, do_is_native, do_targ
 ghost use Rattle.dg_machine.specs.declared.frame.Control.{Control};
 ghost use Rattle.dg_machine.specs.Meaning.{RunsAs};
 
-use crate::frame::Pace;
+use crate::frame::{Pace, plain_ask};
 use crate::machine::Machine;
 use dg_bytes::Bytes;
 use dg_cmds::glob_matches;
 use dg_expr::truth_text;
 use dg_forms::{any_pattern, flag_call, is_flagged, only, triplet_of};
-use dg_language::{Ask, Code, FlagCommand, TargetCommand};
+use dg_language::{Code, FlagCommand, TargetCommand};
 use dg_world::{Machine as Place, Question};
 use std::alloc::{AllocError, Global};
 
@@ -32,7 +32,8 @@ impl Machine {
         };
         let question = Question::Triplet(place);
         let Some(answer) = self.state.answer_to(&question) else {
-            return Ok(Pace::Stands(Ask::plain(question)));
+            let ask = plain_ask(alloc, question)?;
+            return Ok(Pace::Stands(ask));
         };
         let holds = glob_matches(pattern.as_slice(), triplet_of(answer));
         let value = Bytes::from_slice(alloc, truth_text(holds))?;
@@ -50,11 +51,13 @@ impl Machine {
         }
         let question = Question::Triplet(Place::Build);
         let Some(build) = self.state.answer_to(&question) else {
-            return Ok(Pace::Stands(Ask::plain(question)));
+            let ask = plain_ask(alloc, question)?;
+            return Ok(Pace::Stands(ask));
         };
         let question = Question::Triplet(Place::Target);
         let Some(target) = self.state.answer_to(&question) else {
-            return Ok(Pace::Stands(Ask::plain(question)));
+            let asked = plain_ask(alloc, question)?;
+            return Ok(Pace::Stands(asked));
         };
         let holds = triplet_of(build) == triplet_of(target);
         let value = Bytes::from_slice(alloc, truth_text(holds))?;
@@ -94,7 +97,8 @@ impl Machine {
         }
         let question = Question::Triplet(Place::Target);
         let Some(answer) = self.state.answer_to(&question) else {
-            return Ok(Pace::Stands(Ask::plain(question)));
+            let ask = plain_ask(alloc, question)?;
+            return Ok(Pace::Stands(ask));
         };
         if !is_flagged(triplet_of(answer), args) {
             return Ok(self.go_up(Code::Done, Bytes::new(alloc)));

@@ -1,5 +1,6 @@
 //! Names of variables: a leading `::`, a base and an index.
-ghost use Rattle.std.specs.Prelude.{◌≡◌, ◌==◌, position};
+ghost use Rattle.std.specs.Prelude.{◌≡◌, ◌==◌, ◌&&◌, ◌∷◌, [], nat_eq, not, position};
+ghost use Rattle.std.specs.List.{ends_with};
 ghost use Rattle.dg_scope.specs.Names.{global_name, is_qualified, has_index, base_of};
 
 /// The name without a leading `::` (Tcl(n), "Variable substitution").
@@ -14,6 +15,13 @@ pub(crate) fn is_qualified(name: &[u8]) -> bool
     ensures { result ≡ is_qualified name.now }
 {
     name.starts_with(b"::")
+}
+
+/// Whether the name neither begins with `::` nor ends as an element's does.
+pub(crate) fn is_plain(name: &[u8]) -> bool
+    ensures { result ≡ (not (is_qualified name.now) && not (ends_with nat_eq name.now (41 ∷ []))) }
+{
+    !is_qualified(name) && !name.ends_with(b")")
 }
 
 /// Whether the name is an element's: it ends with `)` and has a `(`.

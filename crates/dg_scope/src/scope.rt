@@ -1,8 +1,9 @@
 //! One scope.
-ghost use Rattle.std.specs.Prelude.{◌≡◌, IsFalse, IsTrue, Some, false, is_some};
+ghost use Rattle.std.specs.Prelude.{◌≡◌, ◌||◌, IsFalse, IsTrue, Some, false, is_some};
 ghost use Rattle.dg_scope.specs.declared.scope.Slot.TheVariants.{Held};
 ghost use Rattle.std.specs.Option.{option_copied};
 ghost use Rattle.std.specs.FinMap as map;
+ghost use Rattle.dg_scope.specs.Names.{base_of};
 ghost use Rattle.dg_scope.specs.Scopes.{Names, is_link, means_global_in, held};
 
 use crate::name::{base_of, is_qualified};
@@ -32,11 +33,20 @@ impl Scope {
     {
         match self {
             Scope::Outermost => true,
-            Scope::Local(names) => {
-                is_qualified(name) || is_linked(names, name) || is_linked(names, base_of(name))
-            }
+            Scope::Local(names) => is_qualified(name) || is_linked_by_base(names, name),
         }
     }
+}
+
+/// Whether a name or its base is a link. A name that doesn't end as an element's does is its own base, and is looked for once.
+#[tactic(auto, using(crate::proofs::Links::once))]
+fn is_linked_by_base(names: &Table<Slot>, name: &[u8]) -> bool
+    ensures { result ≡ (is_link (map.get names.now name.now) || is_link (map.get names.now (base_of name.now))) }
+{
+    if name.ends_with(b")") {
+        return is_linked(names, name) || is_linked(names, base_of(name));
+    }
+    is_linked(names, name)
 }
 
 /// Whether a name is itself a link.
@@ -44,16 +54,6 @@ fn is_linked(names: &Table<Slot>, name: &[u8]) -> bool
     ensures { result ≡ is_link (map.get names.now name.now) }
 {
     matches!(names.get(name), Some(Slot::Link))
-}
-
-/// The text that a name has in a scope of its own.
-pub(crate) fn own_text<'a>(names: &'a Table<Slot>, name: &[u8]) -> Option<&'a [u8]>
-    ensures { option_copied result ≡ held (map.get names.now name.now) }
-{
-    match names.get(name) {
-        Some(Slot::Held(text)) => Some(text.as_slice()),
-        _ => None,
-    }
 }
 
 /// The value that a name has in a scope of its own.

@@ -1,5 +1,5 @@
 //! The variables of an evaluation.
-ghost use Rattle.std.specs.Prelude.{◌≡◌, ◌∷◌, ◌++◌, [], ◌⊎◌, ℕ, List, IsFalse, Ok, Err, ◌<◌, ◌≤◌, ◌↔◌, IsTrue, is_some, Some, None, IsSome, IfOk, IfErr, OnOk, OnErr, length};
+ghost use Rattle.std.specs.Prelude.{◌≡◌, ◌∷◌, ◌++◌, [], ◌⊎◌, ℕ, List, IsFalse, Ok, Err, ◌<◌, ◌≤◌, ◌↔◌, IsTrue, is_some, Some, None, false, IsSome, IfOk, IfSome, IfErr, OnOk, OnErr, length};
 ghost use Rattle.std.specs.Option.{option_copied};
 ghost use Rattle.std.specs.FinMap as map;
 ghost use Rattle.dg_words.specs.Appending.{Refuses};
@@ -8,8 +8,8 @@ ghost use Rattle.dg_words.specs.Elements.{elements_of};
 ghost use Rattle.dg_scope.specs.Scopes.{LongerList, or_none, value_limit, no_variables, means_global, global_value, value_of, with_global, with_value, without_value, with_link, with_scope, with_outermost, without_scope};
 
 use crate::fault::ScopeFault;
-use crate::name::global_name;
-use crate::scope::{Scope, Slot, exchange_own, own_text, own_value};
+use crate::name::{global_name, is_plain};
+use crate::scope::{Scope, Slot, exchange_own, own_value};
 use crate::table::Table;
 use dg_bytes::Bytes;
 use dg_words::{ListFault, append_elements};
@@ -97,6 +97,19 @@ impl Scopes {
         ensures absent { OnErr result (global_value self.now name.now ≡ None) }
     {
         self.global_text(name).ok_or(ScopeFault::NoSuchVariable)
+    }
+
+    /// The value of a name that is no global's where evaluation is now, as far as one look tells: none for a name that begins
+    /// with `::` or ends as an element's does.
+    #[tactic(auto, using(crate::proofs::Links::plain_is_no_global))]
+    fn own(&self, name: &[u8]) -> Option<&Bytes>
+        ensures local { IfSome result (λ _. means_global self.now name.now ≡ false) }
+        ensures value { IfSome result (λ value. value_of self.now name.now ≡ Some value.now) }
+    {
+        match &self.current {
+            Scope::Local(names) if is_plain(name) => own_value(names, name),
+            _ => None,
+        }
     }
 
     /// Whether a name is set.
@@ -316,14 +329,24 @@ impl Scopes {
     fn text(&self, name: &[u8]) -> Option<&[u8]>
         ensures { option_copied result ≡ value_of self.now name.now }
     {
-        match &self.current {
-            Scope::Local(names) if !self.is_global(name) => own_text(names, name),
-            _ => self.global_text(name),
+        match self.held(name) {
+            Some(value) => Some(value.as_slice()),
+            None => None,
         }
     }
 
     /// The value of a name, if it is set.
     fn held(&self, name: &[u8]) -> Option<&Bytes>
+        ensures { option_copied result ≡ value_of self.now name.now }
+    {
+        match self.own(name) {
+            Some(value) => Some(value),
+            None => self.held_anywhere(name),
+        }
+    }
+
+    /// The value of a name, if it is set, wherever it stands.
+    fn held_anywhere(&self, name: &[u8]) -> Option<&Bytes>
         ensures { option_copied result ≡ value_of self.now name.now }
     {
         match &self.current {

@@ -7,7 +7,8 @@ loop-read-preserved c =
     let i = c.loop-read.read-index in
     let reads = c.args.reads.now in
     record {
-      named = names-next c.name_question.new.self c.args.place reads i c.read-item.result c.loop-read-test.true c.read-item.is
-          (names-more c.loop-read.self c.name_question.new.self c.args.place (take i reads) c.name_question.ensures.stays c.loop-read.invariant.named) c.in_ok-name_question.ensures.named;
-      stays = λ t p h. c.name_question.ensures.stays t p (c.loop-read.invariant.stays t p h);
+      named = names-next c.name_next.new.self c.args.place reads i c.read-item.result c.loop-read-test.true c.read-item.is
+          (names-more c.loop-read.self c.name_next.new.self c.args.place (take i reads) c.name_next.ensures.stays c.loop-read.invariant.named) c.in_ok-name_next.ensures.named;
+      last = c.in_ok-name_next.ensures.last;
+      stays = λ t p h. c.name_next.ensures.stays t p (c.loop-read.invariant.stays t p h);
     }

@@ -4,8 +4,8 @@ use Rattle.dg_machine.proofs.EvaluationLemmas.{starts}
 use Rattle.dg_machine.proofs.evaluation.Evaluation.start.Goals as goal
 
 pub invariant_of-result : goal.invariant_of-result
-invariant_of-result c = rw (c.new.ensures, c.new-2.ensures, c.in_ok-copy.ensures, c.in_ok-push.ensures, c.new-stack.ensures) (starts _ _ refl)
+invariant_of-result c = rw (c.in_ok-machine.ensures, c.new.ensures, c.new-2.ensures, c.in_ok-copy.ensures, c.in_ok-push.ensures, c.new-stack.ensures) (starts _ _ refl)
 
 pub returns : goal.returns
 unfolding fresh
-returns c = rw c.new.ensures refl
+returns c = rw (c.in_ok-machine.ensures, c.new.ensures) refl

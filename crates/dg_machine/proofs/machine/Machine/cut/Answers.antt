@@ -1,6 +1,7 @@
-use Rattle.std.proofs.Common.{ap, ◌∙◌, ◌++◌}
+use Rattle.std.proofs.Common.{ap, sym, ◌∙◌, ◌++◌}
 use Rattle.dg_results.specs.Lines.{lines_of, abort_lines}
 use Rattle.dg_machine.proofs.MachineLemmas.{cut-ends}
+use Rattle.dg_machine.specs.Meaning.{ends_with}
 use Rattle.dg_machine.proofs.machine.Machine.cut.Goals as goal
 
 pub returns-clause-ends : goal.returns-clause-ends
@@ -8,4 +9,5 @@ returns-clause-ends c =
     let s = c.args.self.now.state in
     let name = c.as_slice.ensures.bytes ∙ c.script.ensures ∙ ap (λ t. t.script) c.test.ensures in
     let lines = c.in_ok-verdict.ensures s.calls c.in_ok-judging.ensures in
-    cut-ends c.args.why.now s _ (lines ∙ ap (λ n. lines_of s.calls ++ abort_lines n c.args.why.now) name)
+    (cut-ends c.args.why.now s _ (lines ∙ ap (λ n. lines_of s.calls ++ abort_lines n c.args.why.now) name))
+    ∙ ap (λ k. ends_with k s) (sym c.in_ok-closing.ensures)

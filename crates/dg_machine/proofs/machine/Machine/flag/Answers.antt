@@ -16,7 +16,7 @@ pub returns-in_default : goal.returns-in_default
 returns-in_default c =
     let some = sym c.any_pattern.ensures ∙ c.if-not-any_pattern.false in
     let none = sym c.in_default.ensures in
-    rw c.plain.ensures (stands-at _ (flag_on c.args.which c.args.args.now) (do_flag c.args.which c.args.args.now) (flag-of _ _ some) _ _ none, refl, none)
+    rw c.in_ok-ask.ensures (stands-at _ (flag_on c.args.which c.args.args.now) (do_flag c.args.which c.args.args.now) (flag-of _ _ some) _ _ none, refl, none)
 
 pub returns-then-not-is_flagged : goal.returns-then-not-is_flagged
 returns-then-not-is_flagged c =

@@ -10,13 +10,13 @@ pub returns-in_default : goal.returns-in_default
 returns-in_default c =
     let empty = empty-if c.args.args.now (sym c.is_empty.ensures ∙ c.if-not-is_empty.false) in
     let none = sym c.in_default.ensures in
-    rw c.plain.ensures (stands-at _ native_on (do_is_native c.args.args.now) (native-of _ empty) _ _ none, refl, none)
+    rw c.in_ok-ask.ensures (stands-at _ native_on (do_is_native c.args.args.now) (native-of _ empty) _ _ none, refl, none)
 
 pub returns-in_default-answer_to : goal.returns-in_default-answer_to
 returns-in_default-answer_to c =
     let empty = empty-if c.args.args.now (sym c.is_empty.ensures ∙ c.if-not-is_empty.false) in
     let none = sym c.in_default-answer_to.ensures in
-    rw c.plain-in_default-answer_to.ensures (native-asks c.args.args.now empty c.in-Some.build.now c.args.self.now.state (all_back c.args.self.now.stack) (sym c.in-Some.ensures) none, refl, none)
+    rw c.in_ok-asked.ensures (native-asks c.args.args.now empty c.in-Some.build.now c.args.self.now.state (all_back c.args.self.now.stack) (sym c.in-Some.ensures) none, refl, none)
 
 pub returns : goal.returns
 returns c =

@@ -8,7 +8,7 @@ use Rattle.dg_machine.proofs.machine.Machine.is_place.Goals as goal
 pub returns-in_default-answer_to : goal.returns-in_default-answer_to
 returns-in_default-answer_to c =
     let none = sym c.in_default-answer_to.ensures in
-    rw c.plain.ensures (stands-at _ (told_place c.in-Some.pattern.now) (do_is c.args.place c.args.name.now c.args.args.now) (is-of _ _ _ _ c.in-Some.ensures) _ _ none, refl, none)
+    rw c.in_ok-ask.ensures (stands-at _ (told_place c.in-Some.pattern.now) (do_is c.args.place c.args.name.now c.args.args.now) (is-of _ _ _ _ c.in-Some.ensures) _ _ none, refl, none)
 
 pub returns : goal.returns
 returns c =

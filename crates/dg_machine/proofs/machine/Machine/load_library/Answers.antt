@@ -13,11 +13,11 @@ returns-then-has_begun c =
     let begun = sym c.has_begun.ensures ∙ c.if-has_begun.true in
     rw (c.end.ensures, c.new.ensures, c.requires.go) (sym (load-begun _ _ _ _ (rw (c.as_slice.ensures.bytes, c.requires.file) at begun)), refl, omega arith)
 
-pub returns-in-Unanswered : goal.returns-in-Unanswered
-returns-in-Unanswered c =
+pub returns-in_ok-ask-in-Unanswered : goal.returns-in_ok-ask-in-Unanswered
+returns-in_ok-ask-in-Unanswered c =
     let new = rw (c.as_slice.ensures.bytes, c.requires.file) at (sym c.has_begun.ensures ∙ c.if-has_begun.false) in
     let held = rw c.requires.file at (rw c.in-Unanswered.is at c.in_ok-question.ensures) in
-    rw c.plain.ensures (load-asks _ _ _ _ _ new held, refl, held.1)
+    rw c.in_ok-ask-in-Unanswered.ensures (load-asks _ _ _ _ _ new held, refl, held.1)
 
 pub returns-in_ok-miss_library-in-Known-None : goal.returns-in_ok-miss_library-in-Known-None
 returns-in_ok-miss_library-in-Known-None c =

@@ -16,7 +16,7 @@ pub returns-in-Unanswered : goal.returns-in-Unanswered
 returns-in-Unanswered c =
     let named = sym (rw c.as_slice.ensures at c.is_name.ensures) ∙ c.if-not-is_name.false in
     let held = rw c.from_valid.ensures at (rw c.in-Unanswered.is at c.in_ok-question.ensures) in
-    rw c.plain.ensures (first-asks _ _ named _ _ _ held, refl, held.1)
+    rw c.in_ok-ask-in-Unanswered.ensures (first-asks _ _ named _ _ _ held, refl, held.1)
 
 pub returns-in-Known-None : goal.returns-in-Known-None
 unfolding rest go

@@ -5,10 +5,10 @@ use Rattle.dg_language.specs.Judge.{open_script}
 use Rattle.dg_machine.proofs.OpeningLemmas.{script-asks, script-known, Goes-opens}
 use Rattle.dg_machine.proofs.machine.Machine.open_script.Goals as goal
 
-pub returns-in-Unanswered : goal.returns-in-Unanswered
-returns-in-Unanswered c =
+pub returns-in_ok-ask-in-Unanswered : goal.returns-in_ok-ask-in-Unanswered
+returns-in_ok-ask-in-Unanswered c =
     let held = rw (c.script.ensures ∙ ap (λ t. t.script) c.test.ensures) at (rw c.in-Unanswered.is at c.in_ok-question.ensures) in
-    rw c.plain.ensures (script-asks _ _ _ held, refl, held.1)
+    rw c.in_ok-ask-in-Unanswered.ensures (script-asks _ _ _ held, refl, held.1)
 
 pub returns-in_ok-fail-in-Known-None : goal.returns-in_ok-fail-in-Known-None
 returns-in_ok-fail-in-Known-None c =

@@ -5,7 +5,7 @@ use Rattle.dg_machine.proofs.OpeningLemmas.{tool-asks, tool-known, known-marked,
 use Rattle.dg_machine.proofs.machine.Machine.open_tool.Goals as goal
 
 pub returns-in_default : goal.returns-in_default
-returns-in_default c = rw c.plain.ensures (tool-asks _ _ (sym c.in_default.ensures), refl, sym c.in_default.ensures)
+returns-in_default c = rw c.in_ok-ask.ensures (tool-asks _ _ (sym c.in_default.ensures), refl, sym c.in_default.ensures)
 
 pub returns : goal.returns
 unfolding rest go

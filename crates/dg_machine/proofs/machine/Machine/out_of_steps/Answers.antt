@@ -1,7 +1,8 @@
-use Rattle.std.proofs.Common.{ap, ◌∙◌, ◌++◌}
+use Rattle.std.proofs.Common.{ap, sym, ◌∙◌, ◌++◌}
 use Rattle.std.specs.Prelude.{codes}
 use Rattle.dg_results.specs.Lines.{lines_of, abort_lines}
 use Rattle.dg_machine.proofs.MachineLemmas.{steps-end}
+use Rattle.dg_machine.specs.Meaning.{ends_with}
 use Rattle.dg_machine.proofs.machine.Machine.out_of_steps.Goals as goal
 
 pub returns-clause-ends : goal.returns-clause-ends
@@ -9,4 +10,5 @@ returns-clause-ends c =
     let s = c.args.self.now.state in
     let name = c.as_slice-name.ensures.bytes ∙ c.script.ensures ∙ ap (λ t. t.script) c.test.ensures in
     let lines = c.in_ok-verdict.ensures s.calls c.in_ok-judging.ensures in
-    steps-end s _ (lines ∙ ap (λ n. lines_of s.calls ++ abort_lines n (codes "step limit reached")) name)
+    (steps-end s _ (lines ∙ ap (λ n. lines_of s.calls ++ abort_lines n (codes "step limit reached")) name))
+    ∙ ap (λ k. ends_with k s) (sym c.in_ok-closing.ensures)

@@ -24,7 +24,7 @@ returns-in_default-answer_to c =
     let room = some-room _ _ _ c.has_room.ensures c.sessions.ensures c.if-not-has_room.false in
     let asked = c.in_ok-ask.ensures in
     let none = rw asked at (sym c.in_default-answer_to.ensures) in
-    rw asked
+    rw (c.in_ok-asked.ensures, asked)
     ((λ told late. perform-asks c.args.number c.args.action.now told late c.args.self.now.state c.in-Some.session.now room (sym c.in-Some.ensures) none), refl, refl, none)
 
 pub returns-in_default-answer : goal.returns-in_default-answer

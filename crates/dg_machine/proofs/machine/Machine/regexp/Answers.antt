@@ -3,11 +3,11 @@ use Rattle.dg_machine.specs.Meaning.{weight_of}
 use Rattle.dg_machine.proofs.PatternLemmas.{regexp-asks, regexp-read, regexp-runs, regexp-unread}
 use Rattle.dg_machine.proofs.machine.Machine.regexp.Goals as goal
 
-pub returns-in-Unasked : goal.returns-in-Unasked
-returns-in-Unasked c =
+pub returns-in_ok-ask-in-Unasked : goal.returns-in_ok-ask-in-Unasked
+returns-in_ok-ask-in-Unasked c =
     let words = sym c.in-Ok.is ∙ c.in_ok-search.ensures in
     let unasked = rw c.in-Unasked.is at c.in_ok-question.ensures in
-    rw c.plain.ensures (regexp-asks _ _ words _ _ _ unasked, refl, unasked.1)
+    rw c.in_ok-ask-in-Unasked.ensures (regexp-asks _ _ words _ _ _ unasked, refl, unasked.1)
 
 pub returns-in_ok-fail-in-OneUnread : goal.returns-in_ok-fail-in-OneUnread
 returns-in_ok-fail-in-OneUnread c =
