@@ -6,6 +6,7 @@ mod canonical;
 mod copying;
 mod listed;
 mod measure;
+mod order;
 mod seq;
 mod text;
 

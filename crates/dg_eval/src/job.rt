@@ -76,6 +76,7 @@ impl Job {
     pub fn start(alloc: Global, test: TestId) -> Result<Job, AllocError>
         ensures { IfOk result (λ j. j ≡ started test) }
     {
+        let test = test.kept(alloc)?;
         let evaluation = Evaluation::start(alloc, test.copy(alloc)?)?;
         Ok(Job {
             test,

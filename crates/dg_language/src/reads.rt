@@ -1,10 +1,11 @@
 //! The answers that an evaluation has had.
-ghost use Rattle.std.specs.Prelude.{◌≡◌, ◌++◌, ◌∷◌, [], None, OnOk, IfOk};
+ghost use Rattle.std.specs.Prelude.{◌≡◌, ◌++◌, ◌∷◌, [], None, Some, OnOk, IfOk, IfSome};
 ghost use Rattle.std.specs.Option.{option_copied};
 ghost use Rattle.dg_language.specs.Play.{lookup};
 
 use dg_bytes::Seq;
-use dg_world::{Answer, Question, Read};
+use dg_transcript::Entry;
+use dg_world::{Answer, Question, Read, TestId};
 use indexmap::IndexMap;
 use std::alloc::{AllocError, Global};
 use std::marker::Model;
@@ -45,6 +46,26 @@ impl Reads {
         ensures { option_copied result ≡ lookup question.now self.now }
     {
         self.answers.get(question)
+    }
+
+    /// The entry at a place of a session of a test, where that was answered last.
+    pub fn last_entry(&self, test: &TestId, session: u32, place: u32) -> Option<&Entry>
+        ensures { IfSome result (λ e. lookup (Question.Entry (record { test = test.now; session = session; place = place })) self.now ≡ Some (Answer.Entry e.now)) }
+    {
+        let (question, answer) = self
+            .answers
+            .get_index(self.answers.len().saturating_sub(1))?;
+        let Question::Entry(at) = question else {
+            return None;
+        };
+        let Answer::Entry(entry) = answer else {
+            return None;
+        };
+        if at.session == session && at.place == place && at.test.is(test) {
+            Some(entry)
+        } else {
+            None
+        }
     }
 
     /// Notes the answer to a question that had none. `AllocError` if there is no room for it.

@@ -1,5 +1,5 @@
 //! What an evaluation has made so far.
-ghost use Rattle.std.specs.Prelude.{◌≡◌, ◌<◌, ◌≤◌, ◌++◌, ℕ, List, None, Ok, Err, OnOk, IfOk, MatchResult, length, nat_lt};
+ghost use Rattle.std.specs.Prelude.{◌≡◌, ◌<◌, ◌≤◌, ◌++◌, ℕ, List, None, Some, Ok, Err, OnOk, IfOk, IfSome, MatchResult, length, nat_lt};
 ghost use Rattle.std.specs.Option.{option_copied};
 ghost use Rattle.std.specs.FinMap as map;
 ghost use Rattle.dg_scope.specs.Scopes.{value_limit, value_of, with_value};
@@ -183,6 +183,13 @@ impl State {
         ensures { option_copied result ≡ lookup question.now self.now.known }
     {
         self.known.answer_to(question)
+    }
+
+    /// The entry at a place of a session of the test, where that was answered last.
+    pub fn last_entry(&self, session: u32, place: u32) -> Option<&Entry>
+        ensures { IfSome result (λ e. lookup (Question.Entry (record { test = self.now.test; session = session; place = place })) self.now.known ≡ Some (Answer.Entry e.now)) }
+    {
+        self.known.last_entry(&self.test, session, place)
     }
 
     /// Notes the answer to a question that had none.

@@ -13,9 +13,9 @@ use dg_eval::{Job, JobFault, Turn};
 use dg_gate::{Asker, Gate, perform};
 use dg_language::Ask;
 use dg_records::Record;
-use dg_transcript::Transcript;
+use dg_transcript::{Entry, Transcript};
 use dg_world::{Answer, Question, TestId};
-use std::alloc::Global;
+use std::alloc::{AllocError, Global};
 
 /// The session that a question about an entry is about.
 fn session_of(question: &Question) -> u32
@@ -24,6 +24,17 @@ fn session_of(question: &Question) -> u32
     match question {
         Question::Entry(place) => place.session,
         _ => 0,
+    }
+}
+
+/// The same entry, of which a copy costs no copy of its bytes.
+fn kept(alloc: Global, mut entry: Entry) -> Result<Entry, LiveFault>
+    ensures same { IfOk result (λ e. e ≡ entry) }
+    ensures fault { IfErr result CanFail }
+{
+    match entry.keep(alloc) {
+        Ok(()) => Ok(entry),
+        Err(AllocError) => Err(LiveFault::Memory),
     }
 }
 
@@ -47,6 +58,7 @@ fn answer_to<G: Gate, A: Asker>(
         Some(action) => match perform(gate, alloc, session_of(&ask.question), action) {
             Ok(entry) => {
                 entry_known(&entry);
+                let entry = kept(alloc, entry)?;
                 Ok(Answer::Entry(entry))
             }
             Err(_wanted) => Err(LiveFault::Memory),

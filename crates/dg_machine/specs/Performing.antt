@@ -1,14 +1,21 @@
 -- What an action on a session comes to at its next entry.
-use Rattle.std.specs.Prelude.{◌≡◌, ℕ, None}
+use Rattle.std.specs.Prelude.{◌≡◌, ℕ, None, Some}
 use Rattle.dg_transcript.specs.declared.cursor.Action.{Action}
+use Rattle.dg_transcript.specs.declared.entry.Entry.{Entry}
+use Rattle.dg_sessions.specs.Views.{SessionView, session_at}
+use Rattle.dg_world.specs.declared.question.Answer.TheVariants as answer
 use Rattle.dg_language.specs.Play.{Asks, lookup}
-use Rattle.dg_language.specs.State.{learn}
-use Rattle.dg_language.specs.Sessions.{Told, Late, perform}
+use Rattle.dg_language.specs.State.{State, learn}
+use Rattle.dg_language.specs.Sessions.{Told, Late, entry_for, perform}
 use Rattle.dg_machine.specs.declared.machine.Machine.{Machine}
 use Rattle.dg_machine.specs.declared.frame.Came.{Came}
 use Rattle.dg_machine.specs.declared.frame.Came.TheVariants.{Stands, Over, Passed, Answered, Late as TooLate}
 use Rattle.dg_machine.specs.Acting.{UsesOne, Acts, SameKind}
 use Rattle.dg_machine.specs.Meaning.{ends_with}
+
+-- the next entry of the session was told, and is this
+abbrev pub IsNext : ℕ → Action → Entry → State → Type 0
+IsNext n a e s = (v : SessionView) × (session_at n s.sessions ≡ Some v) × (lookup (entry_for n v a s).question s.known ≡ Some (answer.Entry e))
 
 -- To a question that stands, and nothing has changed; to the end of the whole test; to the entry behind it, or to its answer or
 -- its limit, and but for the sessions nothing has changed. Behind it the second action is what is left of the first.

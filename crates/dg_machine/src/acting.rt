@@ -1,6 +1,6 @@
 //! Actions on sessions, from entry to entry of a test's transcript.
 ghost use Rattle.std.specs.Prelude.{◌≡◌, ◌+◌, ◌*◌, ◌^◌, ◌<◌, ◌∷◌, [], IfOk, codes};
-ghost use Rattle.dg_sessions.specs.Views.{id_of};
+ghost use Rattle.dg_sessions.specs.Views.{id_of, most_entries};
 ghost use Rattle.dg_language.specs.Sessions.{depart, entry_for, program_of, spawned, unless_failed, wait_for, wait_value};
 ghost use Rattle.dg_language.specs.State.{assigned};
 ghost use Rattle.dg_language.specs.Play.{Play};
@@ -8,7 +8,7 @@ ghost use Rattle.dg_language.specs.Evaluation.{Ending};
 ghost use Rattle.dg_machine.specs.declared.frame.Control.{Control};
 ghost use Rattle.dg_machine.specs.Acting.{acting, after_weight, naming, told_after};
 ghost use Rattle.dg_machine.specs.Meaning.{all_back, weight_of, ends_with, Comes, Goes};
-ghost use Rattle.dg_machine.specs.Performing.{Performs};
+ghost use Rattle.dg_machine.specs.Performing.{IsNext, Performs};
 
 use crate::boxed::Boxed;
 use crate::frame::{Acting, After, Came, Closing, Frame, Pace};
@@ -76,6 +76,10 @@ impl Machine {
             let closing = self.depart(alloc)?;
             return Ok(Came::Over(closing));
         };
+        if let Some(entry) = self.state.last_entry(number, session.place()) {
+            let entry = entry.copy(alloc)?;
+            return Ok(self.take_entry(alloc, number, action, entry)?);
+        }
         let ask = self.ask_for_entry(alloc, number, session, action)?;
         let Some(answer) = self.state.answer_to(&ask.question) else {
             let asked = Boxed::new(alloc, ask)?;
@@ -86,6 +90,21 @@ impl Machine {
             return Ok(Came::Over(closing));
         };
         let entry = entry.copy(alloc)?;
+        Ok(self.take_entry(alloc, number, action, entry)?)
+    }
+
+    /// An action on a session comes to its next entry, which was told.
+    fn take_entry(
+        &mut self,
+        alloc: Global,
+        number: u32,
+        action: &mut Action,
+        entry: Entry,
+    ) -> Result<Came, AllocError>
+        requires room { self.old.state.sessions.used < most_entries }
+        requires told { IsNext number action.old entry self.old.state }
+        ensures { IfOk result (λ c. Performs number action.old action.new self.old self.new c) }
+    {
         match self.state.act(alloc, number, action, &entry)? {
             Act::Answered => Ok(Came::Answered(entry)),
             Act::Wants(_) => Ok(Came::Passed),

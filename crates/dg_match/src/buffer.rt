@@ -30,6 +30,8 @@ pub struct Buffer {
     /// The bytes, behind a front that was cut off.
     bytes: Vec<u8>,
     front: usize,
+    /// Room for the bytes when that front is let go.
+    spare: Vec<u8>,
     max: usize,
     compared: u64,
     starts: Starts,
@@ -98,6 +100,7 @@ impl Buffer {
         Buffer {
             bytes: Vec::new(alloc),
             front: 0,
+            spare: Vec::new(alloc),
             max,
             compared: 0,
             starts: Starts::new(alloc),
@@ -145,7 +148,7 @@ impl Buffer {
             with_last self.old.max (record self.old { bytes = self.old.bytes ++ without_nulls chunk.now })) }
         ensures err { OnErr result (self.new ≡ self.old) }
     {
-        self.close_up();
+        self.close_up()?;
         extend(alloc, &mut self.bytes, chunk)?;
         let excess = (self.bytes.len() - self.front).saturating_sub(self.max);
         self.front += excess;
@@ -154,14 +157,18 @@ impl Buffer {
         Ok(())
     }
 
-    /// Moves the bytes to the front, once there is as much room before them as they need.
-    fn close_up(&mut self)
+    /// Lets the front that was cut off go, once it is as long as the bytes, or changes nothing.
+    fn close_up(&mut self) -> Result<(), AllocError>
         ensures { self.new ≡ self.old }
     {
-        if self.front >= self.bytes.len() - self.front {
-            without_front(&mut self.bytes, self.front);
-            self.front = 0;
+        if self.front < self.bytes.len() - self.front {
+            return Ok(());
         }
+        self.spare.clear();
+        self.spare.extend_from_slice(&self.bytes[self.front..])?;
+        mem::swap(&mut self.bytes, &mut self.spare);
+        self.front = 0;
+        Ok(())
     }
 
     /// The first of the patterns that has a match, with its match: of a glob the least start and of

@@ -1,5 +1,5 @@
 //! What a child did, one step at a time.
-ghost use Rattle.std.specs.Prelude.{◌≡◌, MatchOption, Some, None};
+ghost use Rattle.std.specs.Prelude.{◌≡◌, MatchOption, OnOk, Some, None};
 ghost use Rattle.dg_transcript.specs.Output.{output_of, is_failure};
 ghost use Rattle.dg_transcript.specs.Order.{role_of};
 
@@ -47,6 +47,16 @@ impl Entry {
         match self {
             Entry::Chunk(wait, bytes) => Some((*wait, bytes)),
             _ => None,
+        }
+    }
+
+    /// From now on a copy costs no copy of what came from the child.
+    pub fn keep(&mut self, alloc: Global) -> Result<(), AllocError>
+        ensures { OnOk result (self.new ≡ self.old) }
+    {
+        match self {
+            Entry::Chunk(_, bytes) => bytes.keep(alloc),
+            _ => Ok(()),
         }
     }
 

@@ -168,12 +168,12 @@ pub(crate) fn hex_of(alloc: Global, text: &[u8]) -> Result<Bytes, Cause>
 pub(crate) fn bytes_of(alloc: Global, most: usize, text: &[u8]) -> Result<Bytes, Cause>
     ensures { Gives (λ b. b) result (bytes_of most text.now) }
 {
-    let bytes = hex_of(alloc, text)?;
-    if bytes.len() <= most {
-        Ok(bytes)
-    } else {
-        Err(Cause::Field)
+    let mut bytes = hex_of(alloc, text)?;
+    if bytes.len() > most {
+        return Err(Cause::Field);
     }
+    bytes.keep(alloc)?;
+    Ok(bytes)
 }
 
 #[tactic(auto, unfolding(crate::specs::Fields::word_of))]

@@ -1,7 +1,6 @@
 //! Names of files.
-ghost use Rattle.std.specs.Prelude.{◌≡◌, ◌==◌, length, refl, Some, false, IfOk, IfErr, IsTrue, ◌↔◌, ◌⊎◌, nat_eq};
+ghost use Rattle.std.specs.Prelude.{◌≡◌, ◌==◌, ◌∷◌, [], length, refl, Some, false, IfOk, IfErr, IsTrue, ◌↔◌, ◌⊎◌, nat_eq};
 ghost use Rattle.std.specs.Ordering.{nat_cmp};
-ghost use Rattle.std.specs.Hash as fed;
 ghost use Rattle.std.specs.Cmp.Lexicographic.{pointwise, slice_cmp, nat_list_eq_equiv, nat_list_cmp_total, texts_ties, texts_po};
 ghost use Rattle.std.specs.Cmp.{partial_equiv_from_equiv};
 ghost use Rattle.std.specs.Cmp.Rules.{hashing};
@@ -67,6 +66,15 @@ impl Name {
         ensures is_name { IsTrue (is_name result.now) }
     {
         self.bytes.as_slice()
+    }
+
+    /// The same name, of which a copy costs no copy of the bytes.
+    pub(crate) fn kept(self, alloc: Global) -> Result<Name, AllocError>
+        ensures { IfOk result (λ n. n ≡ self) }
+    {
+        let Name { mut bytes } = self;
+        bytes.keep(alloc)?;
+        Ok(Name { bytes })
     }
 
     /// An equal name, or want of memory.
@@ -169,7 +177,7 @@ impl Ord for Name {
 }
 
 impl Hash for Name {
-    ghost hash_input = { fed.slice fed.u8 };
+    ghost hash_input = { λ n. n ∷ [] };
 
     ghost respects_eq = { Prim.search (hashing, rules) };
 

@@ -19,8 +19,11 @@ pub enum Machine {
 }
 
 /// A place in a test's transcript.
-#[derive(Debug, Drop, PartialEq, Eq, Hash)]
+#[derive(Debug, Drop, PartialEq, Eq)]
+#[derive_where(Hash)]
 pub struct EntryPlace {
+    /// Whoever keeps questions by their hashes keeps those of one test: its name would tell nothing.
+    #[derive_where(skip(Hash))]
     pub test: TestId,
     /// The session, counted from 1.
     pub session: u32,

@@ -95,6 +95,17 @@ impl TestId {
         &self.script
     }
 
+    /// The same test, of which a copy costs no copy of the names' bytes.
+    pub fn kept(self, alloc: Global) -> Result<TestId, AllocError>
+        ensures { IfOk result (λ t. t ≡ self) }
+    {
+        let TestId { board, script } = self;
+        Ok(TestId {
+            board: board.kept(alloc)?,
+            script: script.kept(alloc)?,
+        })
+    }
+
     /// An equal test, or want of memory.
     pub fn copy(&self, alloc: Global) -> Result<TestId, AllocError>
         ensures { IfOk result (λ t. t ≡ self.now) }
