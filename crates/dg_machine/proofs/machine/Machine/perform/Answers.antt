@@ -1,7 +1,4 @@
-use Rattle.std.proofs.Common.{◌≡◌, ap, sym, ◌∙◌, refl}
-use Rattle.std.specs.Prelude.{Some}
-use Rattle.dg_sessions.specs.Views.{session_at}
-use Rattle.dg_world.specs.declared.question.Answer.TheVariants as answer
+use Rattle.std.proofs.Common.{sym, ◌∙◌, refl}
 use Rattle.dg_machine.proofs.ActingLemmas.{perform-full, perform-absent, perform-asks, perform-ended}
 use Rattle.dg_machine.proofs.SessionLemmas.{no-room, some-room, is-no-entry}
 use Rattle.dg_machine.proofs.machine.Machine.perform.Goals as goal
