@@ -13,7 +13,7 @@ pub enum LiveFault {
     /// The asker did not answer a question.
     #[error("a question was not answered")]
     Asker(AskFault),
-    /// The gate wanted memory, or the transcript did.
+    /// The gate wanted memory, or the sharing of its entry or the transcript did.
     #[error("out of memory")]
     Memory,
 }

@@ -114,7 +114,8 @@ fn with_transcript(alloc: Global, judged: Record) -> Result<(Record, Transcript)
 ///
 /// # Errors
 /// `Job` where the job wants memory, or the asker's answer is of another kind than its question or of a pattern that can't be
-/// built after all; `Asker` where the asker does not answer; `Memory` where the gate wants memory, or the transcript does. Nothing is given back.
+/// built after all; `Asker` where the asker does not answer; `Memory` where the gate wants memory, or the sharing of its entry
+/// or the transcript does. Nothing is given back.
 pub fn run_live<G: Gate, A: Asker>(
     alloc: Global,
     test: TestId,

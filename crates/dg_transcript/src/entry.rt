@@ -50,7 +50,7 @@ impl Entry {
         }
     }
 
-    /// From now on a copy costs no copy of what came from the child.
+    /// From now on a copy costs no copy of what came from the child. Where a growth is refused that is lost.
     pub fn keep(&mut self, alloc: Global) -> Result<(), AllocError>
         ensures { OnOk result (self.new ≡ self.old) }
     {

@@ -31,4 +31,3 @@ returns-in_default-answer c =
       (λ told late. perform-ended c.args.number c.args.action.now c.args.self.now.state c.in-Some.session.now room (sym c.in-Some.ensures) told late _ some none ∙ c.in_ok-closing-3.ensures.ends),
       refl,
     )
-
