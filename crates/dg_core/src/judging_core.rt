@@ -155,10 +155,11 @@ impl Core {
         alloc: Global,
         pending: &mut Seq<TestId>,
         test: &TestId,
+        place: usize,
     ) -> Result<(), AllocError>
         ensures { OnOk result (pending.new ≡ pending.old ++ unheld self.now test.now) }
     {
-        if !self.kept.is_held(test) {
+        if !self.kept.is_held(test, place) {
             pending.push(test.copy(alloc)?)?;
         }
         Ok(())
@@ -170,8 +171,8 @@ impl Core {
         ensures { IfOk result (λ l. l ≡ pending self.now) }
     {
         let mut pending = Seq::new(alloc);
-        for test in tests {
-            self.add_unheld(alloc, &mut pending, test)?;
+        for (place, test) in tests.iter().enumerate() {
+            self.add_unheld(alloc, &mut pending, test, place)?;
         }
         Ok(pending)
     }
@@ -179,11 +180,11 @@ impl Core {
 
 impl Core {
     /// A test that is held, with the verdict of its record.
-    fn judged_test<'a>(&'a self, test: &'a TestId) -> Judged<'a>
+    fn judged_test<'a>(&'a self, test: &'a TestId, place: usize) -> Judged<'a>
         requires { is_held self.now.world self.now.shelf test.now ≡ true }
         ensures { IsJudged self.now.world test.now result }
     {
-        let Some(record) = self.kept.record(test) else {
+        let Some(record) = self.kept.record(test, place) else {
             unreachable!()
         };
         let verdict = record.verdict();
@@ -201,8 +202,8 @@ impl Core {
         ensures { IfOk result (λ l. all_judged (answers_of self.now.world) (selected self.now.world) ≡ Some l.items) }
     {
         let mut judged = Vec::new(alloc);
-        for test in tests {
-            judged.push(self.judged_test(test))?;
+        for (place, test) in tests.iter().enumerate() {
+            judged.push(self.judged_test(test, place))?;
         }
         Ok(judged)
     }

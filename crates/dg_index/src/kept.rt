@@ -1,8 +1,10 @@
 //! A world with its kept records, of which an edit compares only the reads that it touches.
 ghost use Rattle.std.specs.Prelude.{◌≡◌, ◌⊎◌, Ok, Err, IfOk, IfErr, OnOk, OnErr, IsTrue};
+ghost use Rattle.std.specs.Map.{lookup};
 ghost use Rattle.std.specs.Option.{option_copied};
 ghost use Rattle.dg_index.specs.Kept.{committed, committed_live, edited_kept, is_held, new_kept, IsAskedOf};
 ghost use Rattle.dg_records.specs.Shelf.{kept};
+ghost use Rattle.dg_world.specs.Test.{same_test};
 ghost use Rattle.dg_world.specs.World.{takes_memory};
 
 use crate::index::Index;
@@ -17,6 +19,22 @@ use dg_world::{Answer, Edit, Question, Refusal, TestId, World};
 use indexmap::IndexMap;
 use std::alloc::{AllocError, Global};
 use std::marker::Model;
+
+/// The marked record of a test, which is looked for at a place first.
+fn marked_of<'a>(
+    records: &'a IndexMap<TestId, Marked>,
+    test: &TestId,
+    place: usize,
+) -> Option<&'a Marked>
+    ensures { option_copied result ≡ lookup (same_test test.now) records.now.entries }
+{
+    if let Some((at, marked)) = records.get_index(place)
+        && at.is(test)
+    {
+        return Some(marked);
+    }
+    records.get(test)
+}
 
 /// A world, one record for each test that had one, and the number of reads that were compared with the world.
 pub struct Kept {
@@ -76,21 +94,22 @@ impl Kept {
         self.compared
     }
 
-    /// The record of a test.
-    pub fn record(&self, test: &TestId) -> Option<&Record>
+    /// The record of a test. It is looked for at a place of the records first, which changes nothing of the answer: those of
+    /// tests that were judged in their order stand in it.
+    pub fn record(&self, test: &TestId, place: usize) -> Option<&Record>
         ensures { option_copied result ≡ kept self.now.shelf test.now }
     {
-        match self.records.get(test) {
+        match marked_of(&self.records, test, place) {
             Some(marked) => Some(marked.kept()),
             None => None,
         }
     }
 
-    /// Whether a test has a kept record that holds in the world. It compares nothing.
-    pub fn is_held(&self, test: &TestId) -> bool
+    /// Whether a test has a kept record that holds in the world. It compares nothing, and looks at a place first as `record`.
+    pub fn is_held(&self, test: &TestId, place: usize) -> bool
         ensures { result ≡ is_held self.now.world self.now.shelf test.now }
     {
-        match self.records.get(test) {
+        match marked_of(&self.records, test, place) {
             Some(marked) => marked.is_clear(),
             None => false,
         }

@@ -20,6 +20,7 @@ use Rattle.dg_machine.specs.declared.frame.Making.{Making}
 use Rattle.dg_machine.specs.Choosing.{calculating, calculating_with, instructing}
 use Rattle.dg_machine.specs.Computing.{Does, Instructs, Computes}
 use Rattle.dg_machine.specs.Meaning.{making_on}
+use Rattle.dg_machine.specs.Texts.{Makes}
 use Rattle.dg_machine.proofs.ExpressionLemmas.{run-now}
 use Rattle.dg_machine.proofs.GatherLemmas.{gather-none}
 
@@ -51,6 +52,12 @@ module _ (c : Calculation) (s : State) (pieces : List Piece) (left : List Substi
       operand-begins k
       ∙ gather-none c.depth (used (evaluate c.depth) made.purpose) made.made made.outer made.text made.left s after (nothing made.left none)
       ∙ ap (λ (q : Purpose). used (evaluate c.depth) q made.made s after) loads
+
+-- an operand is the value that its steps make by themselves
+pub operand-value : (c : Calculation) (s : State) (pieces : List Piece) (v : List ℕ) → Makes s (operand_steps pieces) v → (k : Then)
+    → instructing c (code.Push pieces) s k ≡ calculating (record c { values = v ∷ c.values; passed = 0 }) s k
+unfolding run host
+operand-value c s pieces v h k = h c.depth (used (evaluate c.depth) Load) (if_done (λ u t. calculating_with (record c { passed = 0 }) u t k) k)
 
 -- an instruction has ended an expression, or has come to an operand
 module _ (s : State) (first now last : Calculation) (same : (k : Then) → calculating now s k ≡ calculating first s k) (fewer : length now.left ≤ length first.left)

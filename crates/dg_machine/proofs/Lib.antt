@@ -1,6 +1,7 @@
 pub mod ScriptLemmas
 pub mod MachineLemmas
 pub mod GatherLemmas
+pub mod TextLemmas
 pub mod ProcedureLemmas
 pub mod LoopLemmas
 pub mod ReadyLemmas

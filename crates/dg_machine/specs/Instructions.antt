@@ -3,31 +3,47 @@ use Rattle.std.specs.Prelude.{◌≡◌, ℕ, ◌+◌, List, [], ◌∷◌, drop
 use Rattle.dg_words.specs.Piece.{Piece}
 use Rattle.dg_expr.specs.declared.code.Instruction.{Instruction}
 use Rattle.dg_expr.specs.declared.code.Instruction.TheVariants.{Push, ApplyOne, Apply, And, Or, Truth, Unless, Skip}
+use Rattle.dg_language.specs.declared.substitution.Substitution.{Substitution}
 use Rattle.dg_language.specs.Expressions.{operand_steps}
+use Rattle.dg_language.specs.State.{State}
+use Rattle.dg_machine.specs.Texts.{Makes}
 use Rattle.dg_machine.specs.declared.instructions.Taken.{Taken}
-use Rattle.dg_machine.specs.declared.instructions.Taken.TheVariants.{Operand, One, Two, And as TakenAnd, Or as TakenOr, Truth as TakenTruth, Unless as TakenUnless, Skip as TakenSkip}
+use Rattle.dg_machine.specs.declared.instructions.Taken.TheVariants.{Value, Operand, One, Two, And as TakenAnd, Or as TakenOr, Truth as TakenTruth, Unless as TakenUnless, Skip as TakenSkip}
 
 -- the instructions from a place on, if there are any
 abbrev pub left_of : Option (List Instruction) → ℕ → List Instruction
 left_of None at = []
 left_of (Some code) at = drop at code
 
--- an instruction as it is taken: an operand has the steps in which it is made
-abbrev pub IsTaken : Instruction → Taken → Type 0
-IsTaken i (Operand steps) = (pieces : List Piece) × ((i ≡ Push pieces) × (steps ≡ operand_steps pieces))
-IsTaken i (One op) = i ≡ ApplyOne op
-IsTaken i (Two op) = i ≡ Apply op
-IsTaken i (TakenAnd passed) = i ≡ And passed
-IsTaken i (TakenOr passed) = i ≡ Or passed
-IsTaken i TakenTruth = i ≡ Truth
-IsTaken i (TakenUnless passed) = i ≡ Unless passed
-IsTaken i (TakenSkip passed) = i ≡ Skip passed
+-- An operand that these steps make is taken: as the value that they make by themselves, or with them.
+abbrev pub IsOperand : State → List Substitution → Taken → Type 0
+IsOperand s made (Value v) = Makes s made v
+IsOperand s made (Operand steps) = steps ≡ made
+IsOperand s made (One op) = ⊥
+IsOperand s made (Two op) = ⊥
+IsOperand s made (TakenAnd passed) = ⊥
+IsOperand s made (TakenOr passed) = ⊥
+IsOperand s made TakenTruth = ⊥
+IsOperand s made (TakenUnless passed) = ⊥
+IsOperand s made (TakenSkip passed) = ⊥
+
+-- an instruction as it is taken
+abbrev pub IsTaken : State → Instruction → Taken → Type 0
+IsTaken s i (Value v) = (pieces : List Piece) × ((i ≡ Push pieces) × Makes s (operand_steps pieces) v)
+IsTaken s i (Operand steps) = (pieces : List Piece) × ((i ≡ Push pieces) × (steps ≡ operand_steps pieces))
+IsTaken s i (One op) = i ≡ ApplyOne op
+IsTaken s i (Two op) = i ≡ Apply op
+IsTaken s i (TakenAnd passed) = i ≡ And passed
+IsTaken s i (TakenOr passed) = i ≡ Or passed
+IsTaken s i TakenTruth = i ≡ Truth
+IsTaken s i (TakenUnless passed) = i ≡ Unless passed
+IsTaken s i (TakenSkip passed) = i ≡ Skip passed
 
 -- the first instruction is taken, where there is one
-abbrev pub Takes : List Instruction → List Instruction → Option Taken → Type 0
-Takes old new None = (old ≡ []) × (new ≡ [])
-Takes old new (Some taken) = (i : Instruction) × ((old ≡ i ∷ new) × IsTaken i taken)
+abbrev pub Takes : State → List Instruction → List Instruction → Option Taken → Type 0
+Takes s old new None = (old ≡ []) × (new ≡ [])
+Takes s old new (Some taken) = (i : Instruction) × ((old ≡ i ∷ new) × IsTaken s i taken)
 
 -- how the instruction at a place is taken
-abbrev pub Begins : List Instruction → ℕ → Option Taken → Type 0
-Begins code at taken = Takes (drop at code) (drop (at + 1) code) taken
+abbrev pub Begins : State → List Instruction → ℕ → Option Taken → Type 0
+Begins s code at taken = Takes s (drop at code) (drop (at + 1) code) taken

@@ -1,6 +1,7 @@
 pub mod Script
 pub mod Source
 pub mod Steps
+pub mod Texts
 pub mod Instructions
 pub mod Choosing
 pub mod Opening

@@ -11,8 +11,8 @@ ghost use Rattle.dg_machine.specs.Instructions.{IsTaken};
 
 use crate::dispatch::first_or_empty;
 use crate::frame::{Calculation, Making, Stack};
-use crate::gather::make_texts;
 use crate::instructions::Taken;
+use crate::texts::make_texts;
 use dg_bytes::Bytes;
 use dg_expr::{Infix, Prefix, truth_text};
 use dg_forms::{truth_in, value_behind, value_between};
@@ -212,9 +212,13 @@ fn instruct(
     calculation: &mut Calculation,
     taken: Taken,
 ) -> Result<Option<Computed>, AllocError>
-    ensures { IfOk result (λ o. (i : Step) → IsTaken i taken → Instructs i state.now calculation.old calculation.new o) }
+    ensures { IfOk result (λ o. (i : Step) → IsTaken state.now i taken → Instructs i state.now calculation.old calculation.new o) }
 {
     match taken {
+        Taken::Value(value) => {
+            put(calculation, value, 0)?;
+            Ok(None)
+        }
         Taken::Operand(left) => match load(alloc, state, calculation, left)? {
             Some(making) => Ok(Some(Computed::Operand(making))),
             None => Ok(None),
@@ -240,7 +244,7 @@ pub(crate) fn compute_on(
 ) -> Result<Computed, AllocError>
     ensures { IfOk result (Computes state.now calculation.old calculation.new) }
 {
-    'instructions: while let Some(taken) = calculation.left.next(alloc)? {
+    'instructions: while let Some(taken) = calculation.left.next(alloc, state)? {
         if calculation.passed > 0 {
             calculation.passed -= 1;
         } else if let Some(computed) = instruct(alloc, state, calculation, taken)? {

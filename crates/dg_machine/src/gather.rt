@@ -11,92 +11,14 @@ ghost use Rattle.dg_machine.specs.Meaning.{all_back, weight_of, making_on, makin
 
 use crate::frame::{Frame, Making, Pace};
 use crate::machine::Machine;
+use crate::texts::{add_text, make_texts};
 use crate::variables::push_all;
 use dg_bytes::{Bytes, TryCopy};
 use dg_forms::{cannot_read, elements_in};
-use dg_language::{State, Substitution};
+use dg_language::Substitution;
 use dg_scope::LONGEST_VALUE;
 use std::alloc::{AllocError, Global};
 use std::mem;
-
-/// Adds a value at the end of a text; where that is empty it is the text from then on.
-fn add_text(text: &mut Bytes, value: Bytes) -> Result<(), AllocError>
-    ensures { OnOk result (text.new ≡ text.old ++ value) }
-{
-    if text.is_empty() {
-        *text = value;
-        return Ok(());
-    }
-    text.extend(value.as_slice())
-}
-
-/// Whether a text is no longer than a value may be, once this is added.
-fn has_room(text: &Bytes, added: &Bytes) -> bool
-    ensures short { OnTrue result (length text.now + length added.now ≤ 1048576) }
-    ensures long { OnFalse result (1048576 < length text.now + length added.now) }
-{
-    let length = added.len();
-    length <= LONGEST_VALUE && text.len() <= LONGEST_VALUE - length
-}
-
-/// The value of a variable that is in use, if a text has room for it.
-fn value_with_room(
-    alloc: Global,
-    state: &State,
-    name: &Bytes,
-    text: &Bytes,
-) -> Result<Option<Bytes>, AllocError>
-    ensures value { IfOk result (λ o. IfSome o (λ v. value_in_use name.now state.now ≡ Some v)) }
-    ensures room { IfOk result (λ o. IfSome o (λ v. length text.now + length v ≤ 1048576)) }
-{
-    let Some(value) = state.value_in_use(name.as_slice()) else {
-        return Ok(None);
-    };
-    if !has_room(text, value) {
-        return Ok(None);
-    }
-    Ok(Some(value.copy(alloc)?))
-}
-
-/// Takes the steps that only add a text or the value of a variable that is in use, or end a word, up to any other, or to a
-/// text that would make the word too long.
-pub(crate) fn make_texts(
-    alloc: Global,
-    state: &State,
-    making: &mut Making,
-) -> Result<(), AllocError>
-    ensures same { OnOk result ((depth : ℕ) (k : Then) → making_on making.new depth state.now k ≡ making_on making.old depth state.now k) }
-    ensures fewer { OnOk result (length making.new.left ≤ length making.old.left) }
-    ensures purpose { OnOk result (making.new.purpose ≡ making.old.purpose) }
-{
-    'steps: while let Some(step) = making.left.next() {
-        match step {
-            Substitution::Literal(text) => {
-                if !has_room(&making.text, &text) {
-                    making.left.push_front(Substitution::Literal(text))?;
-                    return Ok(());
-                }
-                add_text(&mut making.text, text)?;
-            }
-            Substitution::Variable(name) => {
-                let Some(value) = value_with_room(alloc, state, &name, &making.text)? else {
-                    making.left.push_front(Substitution::Variable(name))?;
-                    return Ok(());
-                };
-                add_text(&mut making.text, value)?;
-            }
-            Substitution::WordEnds => {
-                let word = mem::replace(&mut making.text, Bytes::new(alloc));
-                making.made.push(word)?;
-            }
-            step => {
-                making.left.push_front(step)?;
-                return Ok(());
-            }
-        }
-    }
-    Ok(())
-}
 
 /// The name of an element.
 fn element(alloc: Global, name: &[u8], index: &[u8]) -> Result<Bytes, AllocError>

@@ -3,14 +3,15 @@ ghost use Rattle.std.specs.Prelude.{◌≡◌, length, drop, map, IfOk, MatchOpt
 ghost use Rattle.std.specs.Arc.{arc_value};
 ghost use Rattle.dg_expr.specs.Reading.{tree_in};
 ghost use Rattle.dg_language.specs.Expressions.{code_in};
-ghost use Rattle.dg_machine.specs.Instructions.{Begins, Takes};
+ghost use Rattle.dg_machine.specs.Instructions.{Begins, IsOperand, Takes};
 ghost use Rattle.dg_machine.specs.Steps.{operand_in};
 
 use crate::steps::{kept_steps, queued};
-use dg_bytes::Seq;
+use crate::texts::one_value;
+use dg_bytes::{Bytes, Seq};
 use dg_expr::{Infix, Instruction, Prefix};
 use dg_forms::{code_of, operand_of};
-use dg_language::{Queue, Substitution};
+use dg_language::{Queue, State, Substitution};
 use dg_shelf::Reading;
 use std::alloc::{AllocError, Global};
 use std::marker::Model;
@@ -70,9 +71,10 @@ impl Reading for Formula {
     }
 }
 
-/// An instruction that is taken; where it puts an operand on the stack, the steps in which that is made.
+/// An instruction that is taken; where it puts an operand on the stack its value, or else the steps in which that is made.
 #[derive(Drop)]
 pub(crate) enum Taken {
+    Value(Bytes),
     Operand(Queue<Substitution>),
     One(Prefix),
     Two(Infix),
@@ -101,21 +103,32 @@ impl Model for Instructions {
     ghost view = { λ i. left_of (arc_value i.formula) i.at };
 }
 
+/// How the operand that these steps make is taken.
+fn take_operand(alloc: Global, state: &State, steps: &[Substitution]) -> Result<Taken, AllocError>
+    ensures { IfOk result (IsOperand state.now steps.now) }
+{
+    match one_value(alloc, state, steps)? {
+        Some(value) => Ok(Taken::Value(value)),
+        None => Ok(Taken::Operand(queued(alloc, steps)?)),
+    }
+}
+
 /// The instruction at a place, if there is one.
 fn take_at(
     alloc: Global,
+    state: &State,
     code: &[Instruction],
     steps: &[Seq<Substitution>],
     at: usize,
 ) -> Result<Option<Taken>, AllocError>
     requires { steps.now ≡ map operand_in code.now }
-    ensures { IfOk result (Begins code.now at) }
+    ensures { IfOk result (Begins state.now code.now at) }
 {
     if at >= code.len() {
         return Ok(None);
     }
     Ok(Some(match &code[at] {
-        Instruction::Push(_) => Taken::Operand(queued(alloc, steps[at].as_slice())?),
+        Instruction::Push(_) => take_operand(alloc, state, steps[at].as_slice())?,
         Instruction::ApplyOne(op) => Taken::One(*op),
         Instruction::Apply(op) => Taken::Two(*op),
         Instruction::And(passed) => Taken::And(*passed),
@@ -148,14 +161,15 @@ impl Instructions {
     }
 
     /// Takes the next instruction.
-    pub fn next(&mut self, alloc: Global) -> Result<Option<Taken>, AllocError>
-        ensures { IfOk result (Takes self.old self.new) }
+    pub fn next(&mut self, alloc: Global, state: &State) -> Result<Option<Taken>, AllocError>
+        ensures { IfOk result (Takes state.now self.old self.new) }
     {
         let Some(code) = &self.formula.code else {
             return Ok(None);
         };
         let taken = take_at(
             alloc,
+            state,
             code.as_slice(),
             self.formula.steps.as_slice(),
             self.at,

@@ -29,6 +29,7 @@ mod sessions;
 mod step;
 mod steps;
 mod targets;
+mod texts;
 mod variables;
 
 pub use crate::evaluation::{Arrival, Asking, Ended, Evaluation};

@@ -4,12 +4,10 @@ ghost use Rattle.std.specs.Option.{option_copied};
 ghost use Rattle.dg_language.specs.Evaluation.{cut, out_of_steps, fail, wrong_count};
 ghost use Rattle.dg_language.specs.Play.{Ends};
 ghost use Rattle.dg_language.specs.Variables.{store};
-ghost use Rattle.dg_language.specs.Language.{command, commands_at, sequence, evaluate};
-ghost use Rattle.dg_language.specs.Words.{gather};
-ghost use Rattle.dg_language.specs.declared.substitution.Purpose.{Purpose};
+ghost use Rattle.dg_language.specs.Language.{commands_at, sequence, evaluate};
 ghost use Rattle.dg_machine.specs.declared.frame.Control.{Control};
 ghost use Rattle.dg_machine.specs.declared.frame.Frame.{Frame};
-ghost use Rattle.dg_machine.specs.Meaning.{all_back, budget, weight, weight_of, ends_with, Comes, Goes, Readies};
+ghost use Rattle.dg_machine.specs.Meaning.{all_back, budget, making_on, weight, weight_of, ends_with, Comes, Goes, Readies};
 
 use crate::boxed::Boxed;
 use crate::frame::{Closing, Control, Frame, Making, Pace, Stack, plain_ask};
@@ -17,7 +15,7 @@ use crate::instructions::Formula;
 use crate::script::{Begun, Commands, KEPT, Script};
 use dg_bytes::{Bytes, TryCopy};
 use dg_forms::wrong_count;
-use dg_language::{Close, Code, Purpose, Queue, State, Substitution, Touch};
+use dg_language::{Close, Code, State, Touch};
 use dg_match::Programs;
 use dg_scope::LONGEST_VALUE;
 use dg_shelf::Shelf;
@@ -174,15 +172,15 @@ impl Machine {
         &mut self,
         alloc: Global,
         commands: Script,
-        left: Queue<Substitution>,
+        making: Making,
         depth: u32,
     ) -> Result<Pace, AllocError>
         requires { self.old.control ≡ Control.Go }
-        ensures comes { IfOk result (λ p. Comes (gather (evaluate depth) (command (evaluate depth)) [] [] [] left self.old.state (all_back (Frame.Sequence commands depth ∷ self.old.stack))) self.old.state.known (weight Control.Go self.old.state (Frame.Sequence commands depth ∷ self.old.stack) + budget Purpose.Run + 4 + 4 * length left) self.new p) }
-        ensures counted { OnOk result (length left < 2 ^ 64) }
+        ensures comes { IfOk result (λ p. Comes (making_on making depth self.old.state (all_back (Frame.Sequence commands depth ∷ self.old.stack))) self.old.state.known (weight Control.Go self.old.state (Frame.Sequence commands depth ∷ self.old.stack) + budget making.purpose + 4 + 4 * length making.left) self.new p) }
+        ensures counted { OnOk result (length making.left < 2 ^ 64) }
     {
+        let _count = making.left.len();
         self.stack.push(Frame::Sequence { commands, depth })?;
-        let making = Making::begun(alloc, Purpose::Run, left);
         let pace = self.gather(alloc, making, depth)?;
         Ok(pace)
     }
@@ -208,13 +206,14 @@ impl Machine {
                 let pace = self.fail(alloc, message)?;
                 Ok(pace)
             }
-            Some(Begun::Steps(left)) => {
+            Some(Begun::Words(steps)) => {
                 if !self.state.has_step() {
                     let closing = self.out_of_steps(alloc)?;
                     return Ok(Pace::Over(closing));
                 }
                 self.state.take_step();
-                let pace = self.begin_command(alloc, commands, left, depth)?;
+                let making = steps.begun(alloc, &self.state)?;
+                let pace = self.begin_command(alloc, commands, making, depth)?;
                 Ok(pace)
             }
         }

@@ -1,14 +1,19 @@
 //! The commands of a text, read one after another, and texts whose commands are read once.
-ghost use Rattle.std.specs.Prelude.{◌≡◌, ◌++◌, ◌∷◌, [], ◌≤◌, drop, length, map, IfOk, MatchOption};
+ghost use Rattle.std.specs.Prelude.{◌≡◌, ◌++◌, ◌∷◌, [], ◌≤◌, ◌<◌, ℕ, drop, length, map, IfOk, MatchOption};
 ghost use Rattle.std.specs.Arc.{arc_value};
+ghost use Rattle.dg_language.specs.Evaluation.{Then};
 ghost use Rattle.dg_language.specs.Language.{commands_at};
-ghost use Rattle.dg_machine.specs.Script.{Begins, Reads, Takes};
+ghost use Rattle.dg_language.specs.declared.substitution.Purpose.{Purpose};
+ghost use Rattle.dg_machine.specs.Meaning.{making_on};
+ghost use Rattle.dg_machine.specs.Script.{Begins, Reads, Takes, begins, steps_of};
 ghost use Rattle.dg_machine.specs.Steps.{steps_in};
 
-use crate::steps::{kept_steps, queued};
+use crate::frame::Making;
+use crate::steps::kept_steps;
+use crate::texts::begun_with;
 use dg_bytes::{Bytes, Seq, TryCopy};
 use dg_forms::steps_of;
-use dg_language::{Command, Queue, Substitution};
+use dg_language::{Command, Purpose, Queue, State, Substitution};
 use dg_shelf::Reading;
 use dg_words::{Parsed, Word, WordFault, parse_command};
 use std::alloc::{AllocError, Global};
@@ -21,7 +26,7 @@ pub(crate) const KEPT: usize = 4096;
 /// A command that begins: the steps in which its words are made, or why it can't be read.
 #[derive(Drop)]
 pub(crate) enum Begun {
-    Steps(Queue<Substitution>),
+    Words(WordSteps),
     Unreadable(WordFault),
 }
 
@@ -73,6 +78,57 @@ fn steps_of_all(alloc: Global, commands: &[Command]) -> Result<Seq<Seq<Substitut
         all.push(steps_in(alloc, command)?)?;
     }
     Ok(all)
+}
+
+/// The steps in which the words of a kept command are made. A contract sees the steps.
+#[derive(Drop)]
+pub(crate) struct KeptSteps {
+    commands: Arc<Commands>,
+    at: usize,
+}
+
+impl Model for KeptSteps {
+    ghost use Rattle.std.specs.Prelude.{◌<◌, List, length};
+    ghost use Rattle.std.specs.Arc.{arc_value};
+    ghost use Rattle.dg_language.specs.declared.substitution.Substitution.{Substitution};
+    ghost use Rattle.dg_machine.specs.Source.{steps_at};
+
+    ghost Value = { List Substitution };
+
+    ghost view = { λ k. steps_at (arc_value k.commands) k.at };
+
+    ghost invariant = { λ k. k.at < length (arc_value k.commands) };
+}
+
+impl KeptSteps {
+    /// The steps.
+    pub fn as_slice(&self) -> &[Substitution]
+        ensures { result.now ≡ self.now }
+    {
+        self.commands.steps.as_slice()[self.at].as_slice()
+    }
+}
+
+/// The steps in which the words of a command are made: as they were just read, or kept.
+#[derive(Drop)]
+pub(crate) enum WordSteps {
+    Read(Queue<Substitution>),
+    Kept(KeptSteps),
+}
+
+impl WordSteps {
+    /// The words begin to be made. Of kept steps those that are only texts and values of variables in use are taken at once.
+    pub(crate) fn begun(self, alloc: Global, state: &State) -> Result<Making, AllocError>
+        ensures same { IfOk result (λ m. (depth : ℕ) (k : Then) → making_on m depth state.now k ≡ begins (steps_of self) depth state.now k) }
+        ensures purpose { IfOk result (λ m. m.purpose ≡ Purpose.Run) }
+    {
+        match self {
+            WordSteps::Read(steps) => Ok(Making::begun(alloc, Purpose::Run, steps)),
+            WordSteps::Kept(steps) => {
+                Ok(begun_with(alloc, state, Purpose::Run, steps.as_slice())?)
+            }
+        }
+    }
 }
 
 /// Where commands come from: a text that is read as they are taken, or commands that were read.
@@ -152,22 +208,17 @@ fn commands_of(alloc: Global, text: &[u8]) -> Result<Seq<Command>, AllocError>
     }
 }
 
-/// How the command at a place begins, where there is one.
-fn begin_at(
-    alloc: Global,
-    commands: &[Command],
-    steps: &[Seq<Substitution>],
-    at: usize,
-) -> Result<Option<Begun>, AllocError>
-    requires { steps.now ≡ map steps_in commands.now }
-    ensures { IfOk result (Begins commands.now at) }
+/// How the command at a place begins.
+fn begin_at(commands: &Arc<Commands>, at: usize) -> Result<Begun, AllocError>
+    requires { at < length (arc_value commands.now) }
+    ensures { IfOk result (Begins (arc_value commands.now) at) }
 {
-    if at >= commands.len() {
-        return Ok(None);
-    }
-    match &commands[at] {
-        Command::Words(_) => Ok(Some(Begun::Steps(queued(alloc, steps[at].as_slice())?))),
-        Command::Unreadable(fault) => Ok(Some(Begun::Unreadable(*fault))),
+    match &commands.all.as_slice()[at] {
+        Command::Words(_) => {
+            let commands = Arc::try_clone(commands)?;
+            Ok(Begun::Words(WordSteps::Kept(KeptSteps { commands, at })))
+        }
+        Command::Unreadable(fault) => Ok(Begun::Unreadable(*fault)),
     }
 }
 
@@ -200,18 +251,18 @@ impl Script {
             Source::Text(text) => match read_command(alloc, text.as_slice(), self.at)? {
                 Next::Words(words, next) => {
                     self.at = next;
-                    Ok(Some(Begun::Steps(steps_of(alloc, words.as_slice())?)))
+                    Ok(Some(Begun::Words(WordSteps::Read(steps_of(alloc, words.as_slice())?))))
                 }
                 Next::Unreadable(fault) => Ok(Some(Begun::Unreadable(fault))),
                 Next::Nothing => Ok(None),
             },
             Source::Kept(commands) => {
-                let steps = commands.steps.as_slice();
-                let begun = begin_at(alloc, commands.all.as_slice(), steps, self.at)?;
-                if begun.is_some() {
-                    self.at += 1;
+                if self.at >= commands.all.len() {
+                    return Ok(None);
                 }
-                Ok(begun)
+                let begun = begin_at(commands, self.at)?;
+                self.at += 1;
+                Ok(Some(begun))
             }
         }
     }

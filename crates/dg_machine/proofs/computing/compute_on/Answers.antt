@@ -17,6 +17,13 @@ instructions-preserved-then-calculation-gt0-2 c =
     let fewer = c.instructions.invariant.1 in
     ((λ k. sym (run-passed _ _ _ _ _ _ _ _ taken.1.0 c.if-calculation-gt0.true) ∙ c.instructions.invariant.0 k), omega (arith, count, fewer))
 
+pub instructions-preserved-then-calculation-gt0-3 : goal.instructions-preserved-then-calculation-gt0-3
+instructions-preserved-then-calculation-gt0-3 c =
+    let taken = rw c.in-Some.is at c.in_ok-taken.ensures in
+    let count = ap length taken.1.0 in
+    let fewer = c.instructions.invariant.1 in
+    ((λ k. sym (run-passed _ _ _ _ _ _ _ _ taken.1.0 c.if-calculation-gt0.true) ∙ c.instructions.invariant.0 k), omega (arith, count, fewer))
+
 pub returns-in-Some-2 : goal.returns-in-Some-2
 returns-in-Some-2 c =
     let taken = rw c.in-Some.is at c.in_ok-taken.ensures in

@@ -1,7 +1,13 @@
 use Rattle.std.proofs.Common.{refl}
 use Rattle.dg_expr.specs.Code.{run}
-use Rattle.dg_machine.proofs.ComputingLemmas.{does-instructs}
+use Rattle.dg_machine.proofs.ComputingLemmas.{does-instructs, operand-value}
 use Rattle.dg_machine.proofs.computing.instruct.Goals as goal
+
+pub returns-in_ok-put-in-Value : goal.returns-in_ok-put-in-Value
+returns-in_ok-put-in-Value c i e =
+    let taken = rw c.in-Value.is at e in
+    rw (taken.1.0, c.in_ok-put-in-Value.ensures)
+    ((λ k. operand-value c.args.calculation.now c.args.state.now taken.0 c.in-Value.value taken.1.1 k), refl, refl)
 
 pub returns-in-Some : goal.returns-in-Some
 returns-in-Some c i e =

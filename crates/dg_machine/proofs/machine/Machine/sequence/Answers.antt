@@ -19,14 +19,15 @@ returns-in_ok-pace-in-Some-Unreadable c =
 
 pub returns-then-not-has_step : goal.returns-then-not-has_step
 returns-then-not-has_step c =
-    let taken = rw c.in-Some-Steps.field-0-is at (rw c.in-Some-Steps.is at c.in_ok-next.ensures) in
+    let taken = rw c.in-Some-Words.field-0-is at (rw c.in-Some-Words.is at c.in_ok-next.ensures) in
     let h = no-step c.args.self.now.state _ c.has_step.ensures c.if-not-has_step.true in
-    rw c.out_of_steps.ensures.same (sequence-cut _ _ _ _ _ _ _ taken.1.0 h ∙ c.in_ok-closing-in-Some-Steps.ensures.ends, refl)
+    rw c.out_of_steps.ensures.same (sequence-cut _ _ _ _ _ _ _ taken.1.0 h ∙ c.in_ok-closing-in-Some-Words.ensures.ends, refl)
 
-pub returns-in_ok-pace-in-Some-Steps : goal.returns-in_ok-pace-in-Some-Steps
-returns-in_ok-pace-in-Some-Steps c =
-    let taken = rw c.in-Some-Steps.field-0-is at (rw c.in-Some-Steps.is at c.in_ok-next.ensures) in
+pub returns-in_ok-pace-in-Some-Words : goal.returns-in_ok-pace-in-Some-Words
+returns-in_ok-pace-in-Some-Words c =
+    let taken = rw c.in-Some-Words.field-0-is at (rw c.in-Some-Words.is at c.in_ok-next.ensures) in
     let h = step-left c.args.self.now.state _ c.has_step.ensures c.if-not-has_step.false in
-    let went = rw (c.take_step.ensures, taken.1.1) at c.in_ok-pace-in-Some-Steps.ensures.comes in
-    Comes-along _ _ _ _ _ _ _ (Comes-known _ _ _ _ _ _ went (known-stepped _)) (sequence-next _ _ _ _ _ _ _ taken.1.0 h)
-    (rw c.requires (weight-stepped _ _ _ _ _ h (rw taken.1.1 at c.in_ok-pace-in-Some-Steps.ensures.counted)))
+    let went = rw (c.take_step.ensures, c.in_ok-making-in-Some-Words.ensures.purpose) at c.in_ok-pace-in-Some-Words.ensures.comes in
+    let made = rw (c.take_step.ensures, taken.1.1, c.in_ok-making-in-Some-Words.ensures.purpose) at c.in_ok-making-in-Some-Words.ensures.same in
+    Comes-along _ _ _ _ _ _ _ (Comes-known _ _ _ _ _ _ went (known-stepped _)) (sequence-next _ _ _ _ _ _ _ taken.1.0 h ∙ sym (made _ _))
+    (rw c.requires (weight-stepped _ _ _ _ _ h c.in_ok-pace-in-Some-Words.ensures.counted))

@@ -1,7 +1,7 @@
 use Rattle.std.proofs.Common.{◌≡◌, ℕ, ◌≤◌, length}
 use Rattle.dg_language.specs.Evaluation.{Then}
 use Rattle.dg_machine.specs.Meaning.{making_on}
-use Rattle.dg_machine.proofs.gather.make_texts.Given as goal
+use Rattle.dg_machine.proofs.texts.make_texts.Given as goal
 
 abbrev pub invariant-steps : goal.invariant-steps
 invariant-steps l =
