@@ -1,8 +1,6 @@
 //! How the words of a command are made, a step at a time.
-ghost use Rattle.std.specs.Prelude.{◌≡◌, ◌+◌, ◌*◌, ◌^◌, ◌<◌, ◌≤◌, ◌∷◌, ◌++◌, [], ℕ, IfOk, OnOk, IfSome, Some, length, codes};
-ghost use Rattle.std.specs.Bool.{OnTrue, OnFalse};
-ghost use Rattle.dg_language.specs.Evaluation.{Then, if_done, list_in};
-ghost use Rattle.dg_language.specs.Touch.{value_in_use};
+ghost use Rattle.std.specs.Prelude.{◌≡◌, ◌+◌, ◌*◌, ◌<◌, ◌∷◌, ◌++◌, [], IfOk, length};
+ghost use Rattle.dg_language.specs.Evaluation.{if_done, list_in};
 ghost use Rattle.dg_language.specs.Variables.{touch};
 ghost use Rattle.dg_language.specs.Language.{used, evaluate};
 ghost use Rattle.dg_language.specs.Words.{gather, element, with_elements};

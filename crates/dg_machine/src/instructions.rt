@@ -1,5 +1,5 @@
 //! The code of expressions, which is read once.
-ghost use Rattle.std.specs.Prelude.{◌≡◌, length, drop, map, IfOk, MatchOption};
+ghost use Rattle.std.specs.Prelude.{◌≡◌, length, map, IfOk};
 ghost use Rattle.std.specs.Arc.{arc_value};
 ghost use Rattle.dg_expr.specs.Reading.{tree_in};
 ghost use Rattle.dg_language.specs.Expressions.{code_in};

@@ -1,5 +1,5 @@
 //! A stopped evaluation, and how its commands begin and end.
-ghost use Rattle.std.specs.Prelude.{◌≡◌, ◌+◌, ◌*◌, ◌^◌, ◌<◌, ◌≤◌, ◌∷◌, ◌++◌, [], length, IfOk, codes, OnOk, MatchOption, ℕ, List};
+ghost use Rattle.std.specs.Prelude.{◌≡◌, ◌+◌, ◌*◌, ◌^◌, ◌<◌, ◌∷◌, length, IfOk, OnOk, ℕ, List};
 ghost use Rattle.std.specs.Option.{option_copied};
 ghost use Rattle.dg_language.specs.Evaluation.{cut, out_of_steps, fail, wrong_count};
 ghost use Rattle.dg_language.specs.Play.{Ends};

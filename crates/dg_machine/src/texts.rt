@@ -1,5 +1,5 @@
 //! Words that are made of texts, and of the values of variables that are in use: nothing is asked or evaluated for them.
-ghost use Rattle.std.specs.Prelude.{◌≡◌, ◌+◌, ◌≤◌, ◌<◌, ◌^◌, ◌∷◌, ◌++◌, [], ℕ, List, IfOk, OnOk, IfSome, Some, length};
+ghost use Rattle.std.specs.Prelude.{◌≡◌, ◌+◌, ◌≤◌, ◌<◌, ◌∷◌, ◌++◌, [], ℕ, List, IfOk, OnOk, IfSome, Some, length};
 ghost use Rattle.std.specs.Bool.{OnTrue, OnFalse};
 ghost use Rattle.dg_language.specs.Evaluation.{Then};
 ghost use Rattle.dg_language.specs.Touch.{value_in_use};
