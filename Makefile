@@ -4,7 +4,7 @@ PREFIX ?= /usr/local
 
 PROGRAM = crates/runtest/out/runtest
 
-.PHONY: all demo check times wrong-bodies bench kills examples install clean
+.PHONY: all demo check times wrong-bodies bench kills growths examples install clean
 
 # Proves the program and all that it stands on, several crates side by side, and builds it.
 all: $(PROGRAM)
@@ -37,6 +37,10 @@ bench: $(PROGRAM)
 # Kills runs at 100 random moments: every file is whole after each, no child is left, and the next run works.
 kills: $(PROGRAM)
 	sh tests/kills/run.sh
+
+# Counts the growths of evaluations, by valgrind.
+growths: $(PROGRAM)
+	python3 tests/growths/growths.py $(PROGRAM)
 
 # Judges the example suites by their stored transcripts, and beside these with children: their reports are the stored ones.
 # Then compares and merges reports, as people do with them, and tries what a user sees of the program: words, faults, sessions,

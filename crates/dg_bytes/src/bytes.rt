@@ -10,7 +10,7 @@ ghost use Rattle.std.specs.Cmp.Rules.{hashing};
 ghost use Rattle.std.proofs.Common.{rules};
 
 use crate::listed::Listed;
-use crate::order::order;
+use crate::order::{is_same, order};
 use crate::text::Text;
 use std::alloc::{AllocError, Global};
 use std::cmp::Ordering;
@@ -216,7 +216,7 @@ impl Bytes {
     pub fn is(&self, bytes: &[u8]) -> bool
         ensures { IsTrue result ↔ (self.now ≡ bytes.now) }
     {
-        self.as_slice() == bytes
+        is_same(self.as_slice(), bytes)
     }
 
     /// Adds a byte at the end, or changes nothing.
@@ -316,7 +316,7 @@ impl PartialEq for Bytes {
     ghost laws = { partial_equiv_from_equiv nat_list_eq_equiv };
 
     fn eq(&self, other: &Bytes) -> bool {
-        self.as_slice() == other.as_slice()
+        is_same(self.as_slice(), other.as_slice())
     }
 }
 

@@ -13,5 +13,6 @@ mod text;
 pub use crate::bytes::{Bytes, Growth};
 pub use crate::copying::TryCopy;
 pub use crate::measure::behind_element;
+pub use crate::order::is_same;
 pub use crate::seq::Seq;
 pub use crate::text::Text;

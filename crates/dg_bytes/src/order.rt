@@ -1,7 +1,7 @@
-//! The order of two texts.
-ghost use Rattle.std.specs.Prelude.{◌≡◌};
+//! The order of two texts, and whether they are the same.
+ghost use Rattle.std.specs.Prelude.{◌≡◌, nat_eq};
 ghost use Rattle.std.specs.Ordering.{nat_cmp};
-ghost use Rattle.std.specs.Cmp.Lexicographic.{slice_cmp};
+ghost use Rattle.std.specs.Cmp.Lexicographic.{pointwise, slice_cmp};
 
 use std::cmp::Ordering;
 
@@ -29,4 +29,26 @@ pub(crate) fn order(one: &[u8], other: &[u8]) -> Ordering
         }
     }
     rest.cmp(behind)
+}
+
+/// Whether two texts are the same. Short ones are compared in fewer steps than slices are.
+pub fn is_same(one: &[u8], other: &[u8]) -> bool
+    ensures { result ≡ pointwise nat_eq one.now other.now }
+{
+    let mut rest = one;
+    let mut behind = other;
+    for _ in 0..NEAR {
+        match (rest.split_first(), behind.split_first()) {
+            (Some((a, further)), Some((b, later))) => {
+                if *a != *b {
+                    return false;
+                }
+                rest = further;
+                behind = later;
+            }
+            (None, None) => return true,
+            _ => return false,
+        }
+    }
+    rest == behind
 }

@@ -70,12 +70,12 @@ bytes_equal a b h = (bytes_decides a b).0 (texts_ties a b ∙ h)
 
 -- and so are tests
 tests_equal : (a b : TestView) → is_eq (test_cmp a b) ≡ true → a ≡ b
-tests_equal a b h = step (slice_cmp nat_cmp a.board b.board) refl h
+tests_equal a b h = step (slice_cmp nat_cmp a.script b.script) refl h
   where
-    step : (o : Ordering) → slice_cmp nat_cmp a.board b.board ≡ o → is_eq (ordering_then o (slice_cmp nat_cmp a.script b.script)) ≡ true → a ≡ b
+    step : (o : Ordering) → slice_cmp nat_cmp a.script b.script ≡ o → is_eq (ordering_then o (slice_cmp nat_cmp a.board b.board)) ≡ true → a ≡ b
     step Equal e g =
-        let board = bytes_equal a.board b.board (ap is_eq e) in
-        let script = bytes_equal a.script b.script g in
+        let script = bytes_equal a.script b.script (ap is_eq e) in
+        let board = bytes_equal a.board b.board g in
         λ i. record { board = board i; script = script i }
     step _ e g = cc
 

@@ -5,7 +5,7 @@ ghost use Rattle.dg_index.specs.Marks.{is_clear, looked_again, marks_in, reads_o
 use crate::marks::Marks;
 use crate::topic::Topic;
 use dg_records::Record;
-use dg_world::{Read, World};
+use dg_world::{Read, TestId, World};
 use std::alloc::Global;
 use std::marker::Model;
 
@@ -70,7 +70,7 @@ impl Marked {
     pub fn look(&mut self, world: &World)
         ensures { self.new ≡ record self.old { marks = marks_in world.now self.old.record_of.reads } }
     {
-        look(self.kept.reads(), &mut self.marks, world);
+        look(self.kept.test(), self.kept.reads(), &mut self.marks, world);
     }
 
     /// Compares each read of a topic with the world, and tells how many those are.
@@ -82,13 +82,15 @@ impl Marked {
     }
 }
 
-/// Marks each read as it compares with the world.
-fn look(reads: &[Read], marks: &mut Marks, world: &World)
+/// Marks each read as it compares with the world. Most are of the entries of one test.
+fn look(test: &TestId, reads: &[Read], marks: &mut Marks, world: &World)
     requires { length marks.old ≡ length reads.now }
     ensures { marks.new ≡ marks_in world.now reads.now }
 {
+    let transcript = world.transcript(test);
     for (place, read) in reads.iter().enumerate() {
-        marks.put(place, !world.agrees(&read.question, &read.answer));
+        let agrees = world.agrees_with(test, transcript, &read.question, &read.answer);
+        marks.put(place, !agrees);
     }
 }
 

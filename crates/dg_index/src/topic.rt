@@ -2,7 +2,7 @@
 ghost use Rattle.std.specs.Prelude.{◌≡◌, ℕ, List, IfOk};
 ghost use Rattle.dg_index.specs.Topic.{is_on, topic_of};
 
-use dg_bytes::{Bytes, TryCopy};
+use dg_bytes::{Bytes, TryCopy, is_same};
 use dg_world::{Question, TestId};
 use std::alloc::{AllocError, Global};
 
@@ -61,12 +61,15 @@ impl Topic {
         ensures { result ≡ is_on self.now question.now }
     {
         match (self, question) {
-            (Topic::File(name), Question::File(asked)) => name.as_slice() == asked.as_slice(),
+            (Topic::File(name), Question::File(asked)) => is_same(
+                name.as_slice(),
+                asked.as_slice(),
+            ),
             (Topic::Selection, Question::Tool | Question::Triplet(_) | Question::Variable(_)) =>
                 true,
             (Topic::Transcript(board, script), Question::Entry(place)) => {
-                board.as_slice() == place.test.board().as_slice()
-                    && script.as_slice() == place.test.script().as_slice()
+                is_same(board.as_slice(), place.test.board().as_slice())
+                    && is_same(script.as_slice(), place.test.script().as_slice())
             }
             (Topic::Pattern(text), Question::Pattern(asked)) => *text == *asked,
             _ => false,

@@ -11,16 +11,16 @@ use Rattle.dg_world.specs.Test.{same_test}
 pub same_place-refl : (p : EntryPlace) → same_place p p ≡ true
 same_place-refl p =
     and_from _ _
-    (and_from _ _ (and_from _ _ (nat_list_eq_equiv.refl p.test.board) (nat_list_eq_equiv.refl p.test.script)) (eq-eqb p.session p.session refl))
+    (and_from _ _ (and_from _ _ (nat_list_eq_equiv.refl p.test.script) (nat_list_eq_equiv.refl p.test.board)) (eq-eqb p.session p.session refl))
     (eq-eqb p.place p.place refl)
 
 pub same_place-true : (p q : EntryPlace) → same_place p q ≡ true → p ≡ q
 same_place-true p q h =
     let parts = and_parts (same_test p.test q.test && (p.session == q.session)) (p.place == q.place) h in
     let both = and_parts (same_test p.test q.test) (p.session == q.session) parts.0 in
-    let test = and_parts (pointwise nat_eq p.test.board q.test.board) (pointwise nat_eq p.test.script q.test.script) both.0 in
+    let test = and_parts (pointwise nat_eq p.test.script q.test.script) (pointwise nat_eq p.test.board q.test.board) both.0 in
     λ i. record {
-      test = record { board = same_text p.test.board q.test.board (sym test.0) i; script = same_text p.test.script q.test.script (sym test.1) i };
+      test = record { board = same_text p.test.board q.test.board (sym test.1) i; script = same_text p.test.script q.test.script (sym test.0) i };
       session = eqb-true p.session q.session both.1 i;
       place = eqb-true p.place q.place parts.1 i;
     }
@@ -37,6 +37,6 @@ pub equal_place : (p q : EntryPlace) → (same_test p.test q.test && ((p.session
 equal_place p q =
     and_assoc (same_test p.test q.test) (p.session == q.session) (p.place == q.place)
     ∙ (λ i.
-    ((nat_list_eq_equiv.symm p.test.board q.test.board i && nat_list_eq_equiv.symm p.test.script q.test.script i)
+    ((nat_list_eq_equiv.symm p.test.script q.test.script i && nat_list_eq_equiv.symm p.test.board q.test.board i)
     && eqb-symm p.session q.session i)
     && eqb-symm p.place q.place i)

@@ -7,6 +7,7 @@ pub mod BufferLemmas
 pub mod RegexLemmas
 pub mod GroupLemmas
 pub mod NeedsLemmas
+pub mod AutomataLemmas
 pub mod BookLemmas
 pub mod AnswerLemmas
 pub mod WithinLemmas

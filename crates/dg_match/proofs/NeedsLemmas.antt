@@ -18,7 +18,7 @@ use Rattle.regex_syntax.specs.Grammar.{Names, read}
 use Rattle.regex_syntax.specs.Verdict.{Reads}
 use Rattle.regex.specs.Patterns.{Re}
 use Rattle.regex.proofs.ForCallers.{span_alike}
-use Rattle.dg_match.specs.Groups.{found_of}
+use Rattle.dg_match.specs.Groups.{found_of, regex_match}
 use Rattle.dg_match.specs.Literals.{IsNowhere}
 use Rattle.dg_match.specs.Needs.{NeedsOneOf}
 use Rattle.dg_match.specs.Regexes.{bytes_config}
@@ -48,13 +48,19 @@ same_captures : (hir : Hir) (P Q : Nested Re × Names → Type 0) (o : Option (N
 same_captures hir P Q None f h = absurd h
 same_captures hir P Q (Some x) f h = f x h
 
+-- where a tree of a text has no match, the text's pattern has none
+pub none_of_tree : (text : List ℕ) (hir : Hir) (names : Names) → Reads bytes_config text hir names →
+    (hay : List ℕ) → AreBytes hay → find (meaning hir) hay 0 ≡ None → regex_match text hay ≡ None
+unfolding Reads match_in
+none_of_tree text hir names reads hay bytes none =
+    no_match hir hay bytes none (read bytes_config (chars text)) (is_utf8 text)
+    (same_captures hir _ _ (read bytes_config (chars text)) (λ x p. p.1) reads)
+
 -- what the tree of a text needs, the text's pattern needs
 pub needs_of_tree : (text : List ℕ) (hir : Hir) (names : Names) (needles : List (List ℕ)) → Reads bytes_config text hir names →
     ContainsNeedle (meaning hir) needles → NeedsOneOf text needles
-unfolding Reads match_in
 needs_of_tree text hir names needles reads contains = λ hay bytes none.
-    no_match hir hay bytes (no_needle (meaning hir) needles hay bytes contains none) (read bytes_config (chars text)) (is_utf8 text)
-    (same_captures hir _ _ (read bytes_config (chars text)) (λ x p. p.1) reads)
+    none_of_tree text hir names reads hay bytes (no_needle (meaning hir) needles hay bytes contains none)
 
 pub contains_of_end : (re : Re) (needles : List (List ℕ)) → EndsWithNeedle re needles → ContainsNeedle re needles
 contains_of_end re needles h = λ hay ok i j m. let it = h hay ok i j m in (it.0, it.1, it.2)

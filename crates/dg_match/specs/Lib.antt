@@ -5,6 +5,7 @@ pub mod Fronts
 pub mod Regexes
 pub mod Groups
 pub mod Needs
+pub mod Automata
 pub mod Book
 pub mod Programs
 pub mod Hits

@@ -8,6 +8,7 @@ ghost use Rattle.dg_match.specs.Tries.{AreTried, HasCompared, all_tried, counted
 ghost use Rattle.dg_match.specs.Literals.{IsNowhere, IsFirstPlace};
 ghost use Rattle.dg_glob.specs.Glob.{IsFirstSpan};
 
+use crate::automata::Automata;
 use crate::built::Built;
 use crate::found::{Found, first_match};
 use crate::hit::Hit;
@@ -36,6 +37,7 @@ pub struct Buffer {
     compared: u64,
     starts: Starts,
     watch: Watch,
+    automata: Automata,
 }
 
 impl Model for Buffer {
@@ -105,6 +107,7 @@ impl Buffer {
             compared: 0,
             starts: Starts::new(alloc),
             watch: Watch::new(alloc),
+            automata: Automata::new(alloc),
         }
     }
 
@@ -274,12 +277,24 @@ impl Buffer {
         ensures err { OnErr result (self.new ≡ self.old) }
         ensures only { HasCompared 0 self.old self.new }
     {
-        let found = if self.lacks(alloc, index, built)? {
+        let found = if self.lacks(alloc, index, built)? || self.excludes(built) {
             None
         } else {
-            first_match(alloc, built, self.as_slice())?
+            self.search(alloc, built)?
         };
         self.skip(alloc, index)?;
+        Ok(found)
+    }
+
+    /// The first match of a `-re` pattern, for which all bytes are searched.
+    fn search(&mut self, alloc: Global, built: &Built) -> Result<Option<Found>, AllocError>
+        ensures found { IfOk result (λ found. found ≡ regex_match built.now self.old.bytes) }
+        ensures same { self.new ≡ self.old }
+    {
+        let found = first_match(alloc, built, self.as_slice())?;
+        if found.is_none() {
+            self.automata.note_vain(alloc, built.text());
+        }
         Ok(found)
     }
 
@@ -290,6 +305,15 @@ impl Buffer {
     {
         let bytes = &self.bytes[self.front..];
         self.watch.lacks(alloc, bytes, index, built.needs())
+    }
+
+    /// Whether the automaton of a `-re` pattern tells that it has no match in the bytes.
+    fn excludes(&mut self, built: &Built) -> bool
+        ensures none { IsTrue result → regex_match built.now self.old.bytes ≡ None }
+        ensures same { self.new ≡ self.old }
+    {
+        let bytes = &self.bytes[self.front..];
+        self.automata.exclude(built.text(), bytes)
     }
 
     /// How many places a text that stands in every match of the pattern of this index is known

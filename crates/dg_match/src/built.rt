@@ -90,6 +90,13 @@ impl Built {
         self.regex.as_ref()
     }
 
+    /// The text.
+    pub(crate) fn text(&self) -> &[u8]
+        ensures { result.now ≡ self.now }
+    {
+        self.regex().as_str().as_bytes()
+    }
+
     /// The texts that its matches need.
     pub(crate) fn needs(&self) -> &Needs
         ensures { All (λ s. NeedsOneOf self.now (needles_of s)) result.now.sets.items }

@@ -2,6 +2,7 @@
 //! patterns.
 #![tactic(auto)]
 
+mod automata;
 mod book;
 mod buffer;
 mod built;

@@ -4,7 +4,7 @@ ghost use Rattle.dg_match.specs.Held.{later};
 ghost use Rattle.dg_match.specs.Starts.{IsPassed, AllPassed};
 ghost use Rattle.dg_match.specs.Tries.{known_passed, remembered};
 
-use dg_bytes::Bytes;
+use dg_bytes::{Bytes, is_same};
 use std::alloc::{AllocError, Global};
 use std::marker::Model;
 
@@ -60,7 +60,7 @@ impl Starts {
         ensures passed { (bytes : List ℕ) → AllPassed bytes self.now → IsPassed text.now bytes result }
     {
         match self.entries.get(index) {
-            Some(start) if start.text.as_slice() == text => start.passed,
+            Some(start) if is_same(start.text.as_slice(), text) => start.passed,
             _ => 0,
         }
     }

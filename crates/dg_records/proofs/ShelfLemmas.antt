@@ -24,11 +24,11 @@ tests_equal a b e f = rw (e, f) refl
 pub same_test-true : (a b : TestId) → same_test a b ≡ true → a ≡ b
 same_test-true a b h =
     let p = and_parts _ _ h in
-    λ i. record { board = (bytes_decides a.board b.board).0 p.0 i; script = (bytes_decides a.script b.script).0 p.1 i }
+    λ i. record { board = (bytes_decides a.board b.board).0 p.1 i; script = (bytes_decides a.script b.script).0 p.0 i }
 
 pub same_test-refl : (a b : TestId) → a ≡ b → same_test a b ≡ true
 same_test-refl a b e =
-    and_from _ _ ((bytes_decides a.board b.board).1 (ap (λ t. t.board) e)) ((bytes_decides a.script b.script).1 (ap (λ t. t.script) e))
+    and_from _ _ ((bytes_decides a.script b.script).1 (ap (λ t. t.script) e)) ((bytes_decides a.board b.board).1 (ap (λ t. t.board) e))
 
 pub lookup-kept : (es : Entries) (t : TestId) → list_all keyed es ≡ true → lookup (same_test t) es ≡ kept (map (λ e. e.1) es) t
 lookup-kept [] t h = refl

@@ -7,7 +7,7 @@ ghost use Rattle.dg_transcript.specs.Replay.{buffer_behind};
 ghost use Rattle.dg_sessions.specs.Phases.{phase_behind};
 
 use crate::phase::Phase;
-use dg_bytes::Bytes;
+use dg_bytes::{Bytes, is_same};
 use dg_match::{Buffer, Hit, Pattern};
 use dg_transcript::{Act, Action, Cursor, Entry};
 use std::alloc::{AllocError, Global};
@@ -91,7 +91,7 @@ impl Session {
         ensures { result ≡ has_id id.now self.now }
     {
         let own = self.id();
-        own.as_slice() == id
+        is_same(own.as_slice(), id)
     }
 
     /// How far it has come.

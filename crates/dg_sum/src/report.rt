@@ -7,7 +7,7 @@ ghost use Rattle.dg_sum.specs.Report.{line_text, script_text, lines_of_board, ow
 use crate::judged::Judged;
 use crate::summary::{write_between, write_board_summary, write_summary};
 use crate::tally::{tally_of_all, tally_of_board};
-use dg_bytes::Bytes;
+use dg_bytes::{Bytes, is_same};
 use dg_results::{Line, Verdict};
 use dg_world::Selection;
 use std::alloc::{AllocError, Global};
@@ -138,7 +138,7 @@ fn write_scripts(out: &mut Bytes, board: &Bytes, judged: &[Judged<'_>]) -> Resul
 fn write_script(out: &mut Bytes, board: &Bytes, judged: &Judged<'_>) -> Result<(), AllocError>
     ensures { OnOk result (out.new ≡ out.old ++ script_text board.now judged.now) }
 {
-    if judged.test.board().as_slice() != board.as_slice() {
+    if !is_same(judged.test.board().as_slice(), board.as_slice()) {
         return Ok(());
     }
     write_between(out, b"Running ", judged.test.script().as_slice(), b" ...\n")?;

@@ -5,7 +5,7 @@ ghost use Rattle.dg_results.specs.Tally.{tally_of};
 ghost use Rattle.dg_sum.specs.Report.{lines_on, lines_of_board};
 
 use crate::judged::Judged;
-use dg_bytes::Bytes;
+use dg_bytes::{Bytes, is_same};
 use dg_results::Tally;
 
 /// No lines.
@@ -30,7 +30,7 @@ fn no_lines() -> Tally
 fn tally_of_test(board: &Bytes, judged: &Judged<'_>) -> Tally
     ensures { result ≡ tally_of (lines_on board.now judged.now) }
 {
-    if judged.test.board().as_slice() == board.as_slice() {
+    if is_same(judged.test.board().as_slice(), board.as_slice()) {
         judged.verdict.tally()
     } else {
         no_lines()

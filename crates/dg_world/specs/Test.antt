@@ -12,11 +12,11 @@ pub record TestView : Type 0 where
 
 -- whether two tests are the same
 abbrev pub same_test : TestView → TestView → Bool
-same_test a b = pointwise nat_eq a.board b.board && pointwise nat_eq a.script b.script
+same_test a b = pointwise nat_eq a.script b.script && pointwise nat_eq a.board b.board
 
--- the order of tests: by their boards, and on one board by their scripts
+-- the order of tests: by their scripts, and of one script by their boards
 abbrev pub test_cmp : TestView → TestView → Ordering
-test_cmp a b = ordering_then (slice_cmp nat_cmp a.board b.board) (slice_cmp nat_cmp a.script b.script)
+test_cmp a b = ordering_then (slice_cmp nat_cmp a.script b.script) (slice_cmp nat_cmp a.board b.board)
 
 -- the test of a script on a board, if these bytes are such
 abbrev pub test_of : List ℕ → List ℕ → Option TestView

@@ -11,7 +11,7 @@ use crate::name::{is_name, is_single_part};
 use crate::question::Machine;
 use crate::setting::{self, Setting};
 use dg_boards::{Triplet, TripletFault};
-use dg_bytes::{Bytes, Seq, TryCopy};
+use dg_bytes::{Bytes, Seq, TryCopy, is_same};
 use std::alloc::{AllocError, Global};
 
 const MAX_BOARDS: usize = 16;
@@ -234,9 +234,7 @@ fn is_script(tool: &[u8], name: &[u8]) -> bool
 fn is_reserved(folder: &[u8]) -> bool
     ensures { result ≡ is_reserved folder.now }
 {
-    folder == b"lib".as_slice()
-        || folder == b"boards".as_slice()
-        || folder == b"transcripts".as_slice()
+    is_same(folder, b"lib") || is_same(folder, b"boards") || is_same(folder, b"transcripts")
 }
 
 /// Whether a list has a name or the last part of it.

@@ -12,8 +12,8 @@ use std::marker::Model;
 /// A test: a board, which is one part of at most 64 bytes, and a script, which is a name.
 #[derive(Debug, PartialEq, Eq, PartialOrd, Ord, Hash)]
 pub struct TestId {
-    board: Name,
     script: Name,
+    board: Name,
 }
 
 impl Model for TestId {

@@ -1,12 +1,13 @@
 //! The world: files by name, what is run, transcripts by test, and the book of patterns.
-ghost use Rattle.std.specs.Prelude.{◌≡◌, ◌≢◌, ◌++◌, Some, Ok, option_copied, false, Err, IfOk, IfErr, IfSome, OnOk, OnErr, IsTrue, ◌↔◌, ◌⊎◌, length};
+ghost use Rattle.std.specs.Prelude.{◌≡◌, ◌≢◌, ◌++◌, Some, Ok, option_and_then, option_copied, false, Err, IfOk, IfErr, IfSome, OnOk, OnErr, IsTrue, ◌↔◌, ◌⊎◌, length};
 ghost use Rattle.std.specs.List.Sorted.{IsStrictlySortedBy};
 ghost use Rattle.std.specs.Ordering.{nat_cmp};
 ghost use Rattle.std.specs.Cmp.Lexicographic.{slice_cmp};
 ghost use Rattle.std.specs.Map.{keys_of};
 ghost use Rattle.dg_world.specs.Name.{is_single_part};
 ghost use Rattle.dg_world.specs.Tests.{tests_on};
-ghost use Rattle.dg_world.specs.Transcripts.{refusal_for, transcript_in};
+ghost use Rattle.dg_transcript.specs.Sessions.{entry_at};
+ghost use Rattle.dg_world.specs.Transcripts.{entry_answer, refusal_for, transcript_in};
 
 use crate::edit::Edit;
 use crate::name::{Name, is_name};
@@ -58,8 +59,29 @@ impl Model for World {
     ghost invariant = { λ w. IsTrue (is_world (record { files = w.files.entries; selection = w.selection; transcripts = w.transcripts.entries; book = w.book })) };
 }
 
+/// The entry at a place of a transcript.
+fn entry_in<'a>(transcript: Option<&'a Transcript>, place: &EntryPlace) -> Option<&'a Entry>
+    ensures { option_copied result ≡ option_and_then (λ ss. entry_at ss place.now.session place.now.place) (option_copied transcript.entry) }
+{
+    match transcript {
+        Some(transcript) => transcript.entry(place.session, place.place),
+        None => None,
+    }
+}
+
+/// Whether this is the answer where this entry stands at a place, or none does.
+fn is_entry_answer(held: Option<&Entry>, answer: &Answer) -> bool
+    ensures { IsTrue result ↔ (entry_answer (option_copied held.entry) ≡ answer.now) }
+{
+    match (held, answer) {
+        (Some(held), Answer::Entry(entry)) => are_same_entry(held, entry),
+        (None, Answer::Ended) => true,
+        _ => false,
+    }
+}
+
 impl World {
-    ghost use Rattle.dg_world.specs.World.{new_world, edited, takes_memory, look, selected, scripts, is_world, entry_of, lacks_room, recorded, with_transcript, FitsQuestion, IsAsked};
+    ghost use Rattle.dg_world.specs.World.{new_world, edited, takes_memory, look, selected, scripts, is_world, entry_of, lacks_room, recorded, transcript_of, with_transcript, FitsQuestion, IsAsked};
 
     /// A world with no files and no transcripts, the first selection, and an empty book.
     pub fn new(alloc: Global) -> Result<World, AllocError>
@@ -225,14 +247,18 @@ impl World {
         Ok(())
     }
 
+    /// The transcript of a test, if it has one.
+    pub fn transcript(&self, test: &TestId) -> Option<&Transcript>
+        ensures { option_copied result ≡ transcript_of self.now test.now }
+    {
+        self.transcripts.get(test)
+    }
+
     /// The entry at a place of a test's transcript.
     fn entry(&self, place: &EntryPlace) -> Option<&Entry>
         ensures { option_copied result ≡ entry_of self.now place.now }
     {
-        match self.transcripts.get(&place.test) {
-            Some(transcript) => transcript.entry(place.session, place.place),
-            None => None,
-        }
+        entry_in(self.transcript(&place.test), place)
     }
 
     /// What it answers to a question, if it has an answer: it has none only to a pattern that it was never asked for.
@@ -288,15 +314,30 @@ impl World {
                 (None, Answer::Unset) => true,
                 _ => false,
             },
-            Question::Entry(place) => match (self.entry(place), answer) {
-                (Some(held), Answer::Entry(entry)) => are_same_entry(held, entry),
-                (None, Answer::Ended) => true,
-                _ => false,
-            },
+            Question::Entry(place) => is_entry_answer(self.entry(place), answer),
             Question::Pattern(text) => match (self.book.get(text), answer) {
                 (Some(held), Answer::Reading(reading)) => held == *reading,
                 _ => false,
             },
+        }
+    }
+
+    /// The same, with the transcript of a test, which was looked for before: its entries are not sought by their test.
+    pub fn agrees_with(
+        &self,
+        test: &TestId,
+        transcript: Option<&Transcript>,
+        question: &Question,
+        answer: &Answer,
+    ) -> bool
+        requires { option_copied transcript ≡ transcript_of self.now test.now }
+        ensures { IsTrue result ↔ (look self.now question.now ≡ Some answer.now) }
+    {
+        match question {
+            Question::Entry(place) if place.test.is(test) => {
+                is_entry_answer(entry_in(transcript, place), answer)
+            }
+            _ => self.agrees(question, answer),
         }
     }
 

@@ -13,7 +13,7 @@ loop-place-preserved c =
     let w = c.args.world.now in
     let i = c.loop-place.place in
     let read = c.index-reads-place.result in
-    c.put.ensures ∙ ap (slice_set c.loop-place.marks i) (told-stale c.agrees.result w read c.agrees.ensures)
+    c.put.ensures ∙ ap (slice_set c.loop-place.marks i) (told-stale c.agrees_with-agrees.result w read c.agrees_with-agrees.ensures)
     ∙ ap (λ ms. slice_set ms i (is_stale w read)) c.loop-place.invariant
     ∙ sym (looked_at-more w c.args.reads.now c.args.marks.now i read c.loop-place-test.true c.requires c.index-reads-place.is)
 

@@ -8,17 +8,17 @@ use Rattle.dg_match.proofs.starts.Starts.passed.Goals as goal
 pub returns-in-Some-clause-known : goal.returns-in-Some-clause-known
 returns-in-Some-clause-known c =
     known_hit c.args.index c.args.text.now c.deref.result.now c.args.self.now c.in-Some.start.now c.in-Some.ensures.lookup.3.0 c.in-Some.ensures.lookup.1 (c.deref.ensures.value ∙ c.self.view_is)
-    (ap (λ (t : List ℕ). pointwise nat_eq t c.args.text.now) (sym c.as_slice.ensures) ∙ (sym c.eq.ensures ∙ c.if-eq.true))
+    (ap (λ (t : List ℕ). pointwise nat_eq t c.args.text.now) (sym c.as_slice.ensures) ∙ (sym c.is_same.ensures ∙ c.if-is_same.true))
 
 pub returns-in-Some-clause-passed : goal.returns-in-Some-clause-passed
 returns-in-Some-clause-passed c = λ bytes all.
     one_passed bytes c.args.text.now c.args.index c.deref.result.now c.args.self.now c.in-Some.start.now c.in-Some.ensures.lookup.3.0 c.in-Some.ensures.lookup.1 (c.deref.ensures.value ∙ c.self.view_is)
-    (ap (λ (t : List ℕ). pointwise nat_eq t c.args.text.now) (sym c.as_slice.ensures) ∙ (sym c.eq.ensures ∙ c.if-eq.true)) all
+    (ap (λ (t : List ℕ). pointwise nat_eq t c.args.text.now) (sym c.as_slice.ensures) ∙ (sym c.is_same.ensures ∙ c.if-is_same.true)) all
 
 pub returns-in_default-clause-known : goal.returns-in_default-clause-known
 returns-in_default-clause-known c =
     known_miss c.args.index c.args.text.now c.deref.result.now c.args.self.now c.in-Some.start.now c.in-Some.ensures.lookup.3.0 c.in-Some.ensures.lookup.1 (c.deref.ensures.value ∙ c.self.view_is)
-    (ap (λ (t : List ℕ). pointwise nat_eq t c.args.text.now) (sym c.as_slice.ensures) ∙ (sym c.eq.ensures ∙ c.if-eq.false))
+    (ap (λ (t : List ℕ). pointwise nat_eq t c.args.text.now) (sym c.as_slice.ensures) ∙ (sym c.is_same.ensures ∙ c.if-is_same.false))
 
 pub returns-in_default-2-clause-known : goal.returns-in_default-2-clause-known
 returns-in_default-2-clause-known c =

@@ -1,0 +1,177 @@
+//! Automata of `-re` patterns that were searched for in vain. They keep the states that they have met, and tell that bytes
+//! have no match without a new matcher.
+ghost use Rattle.std.specs.Prelude.{◌≡◌, ◌↔◌, List, ℕ, IfSome, IsTrue, None};
+ghost use Rattle.regex_dfa.specs.Search.{IsForwardFor};
+ghost use Rattle.regex_syntax.specs.Grammar.{Names};
+ghost use Rattle.regex_syntax.specs.Verdict.{Reads};
+ghost use Rattle.dg_match.specs.Automata.{IsToldBy};
+ghost use Rattle.dg_match.specs.Groups.{regex_match};
+ghost use Rattle.dg_match.specs.Regexes.{bytes_config};
+
+use dg_bytes::Bytes;
+use regex_compile::compile;
+use regex_dfa::{Dfa, End, Forward};
+use regex_hir::Hir;
+use regex_syntax::{Config, parse};
+use std::alloc::{AllocError, Global};
+use std::marker::Model;
+use std::str;
+
+/// How many searches end in vain before one more automaton is made: to make one takes longer than many searches do.
+const PATIENCE: u8 = 4;
+
+/// How many automata a buffer keeps at most.
+const MOST: usize = 4;
+
+/// How many bytes the states of an automaton take at most.
+const ROOM: usize = 0x4_0000;
+
+/// How many bytes the tables of an automaton take at most, as `regex` has it.
+const LARGEST: usize = 10 * 1024 * 1024;
+
+/// The automaton of a `-re` pattern, with the states that its searches have met. A contract sees the pattern's text.
+#[derive(Drop)]
+struct Automaton {
+    pattern: Bytes,
+    dfa: Dfa,
+    forward: Forward,
+}
+
+impl Model for Automaton {
+    ghost use Rattle.std.specs.Prelude.{ℕ, List};
+    ghost use Rattle.regex_dfa.specs.Search.{IsForwardFor};
+    ghost use Rattle.dg_match.specs.Automata.{IsToldBy};
+
+    ghost Value = { List ℕ };
+
+    ghost view = { λ a. a.pattern };
+
+    ghost invariant = { λ a. IsForwardFor a.forward a.dfa × IsToldBy a.pattern a.dfa.nfa };
+}
+
+/// The automaton of a pattern's tree, if there is room for it.
+fn dfa_of(alloc: Global, hir: &Hir, groups: usize) -> Option<Dfa>
+    ensures { IfSome result (λ d. (text : List ℕ) (names : Names) → Reads bytes_config text hir.now names → IsToldBy text d.nfa) }
+{
+    let Ok(groups) = u32::try_from(groups) else {
+        return None;
+    };
+    let Ok(nfa) = compile(alloc, hir, groups, LARGEST) else {
+        return None;
+    };
+    match Dfa::new(alloc, nfa) {
+        Ok(dfa) => Some(dfa),
+        Err(_) => None,
+    }
+}
+
+/// The automaton of the pattern that a text spells, if it spells one and there is room for it.
+fn dfa_of_text(alloc: Global, pattern: &[u8]) -> Option<Dfa>
+    ensures { IfSome result (λ d. IsToldBy pattern.now d.nfa) }
+{
+    let Ok(source) = str::from_utf8(pattern) else {
+        return None;
+    };
+    let config = Config {
+        utf8: false,
+        ..Config::default()
+    };
+    match parse(alloc, source, &config) {
+        Ok(parsed) => dfa_of(alloc, &parsed.hir, parsed.names.len()),
+        Err(_) => None,
+    }
+}
+
+impl Automaton {
+    /// The automaton of the pattern that a text spells, if it spells one and there is room for it.
+    fn of(alloc: Global, pattern: &[u8]) -> Option<Automaton>
+        ensures { IfSome result (λ a. a ≡ pattern.now) }
+    {
+        let dfa = dfa_of_text(alloc, pattern)?;
+        let Ok(forward) = Forward::with_budget(alloc, &dfa, false, ROOM) else {
+            return None;
+        };
+        let Ok(pattern) = Bytes::from_slice(alloc, pattern) else {
+            return None;
+        };
+        Some(Automaton {
+            pattern,
+            dfa,
+            forward,
+        })
+    }
+
+    /// Whether it is that of this pattern.
+    fn is_of(&self, pattern: &[u8]) -> bool
+        ensures { IsTrue result ↔ (self.now ≡ pattern.now) }
+    {
+        self.pattern.is(pattern)
+    }
+
+    /// Whether it tells that the pattern has no match in the bytes.
+    fn excludes(&mut self, bytes: &[u8]) -> bool
+        ensures none { IsTrue result → regex_match self.old bytes.now ≡ None }
+        ensures same { self.new ≡ self.old }
+    {
+        let end = self
+            .forward
+            .find_end(&self.dfa, bytes, 0, bytes.len(), false, true);
+        matches!(end, End::NoMatch)
+    }
+}
+
+/// The automata of the patterns that were searched for in vain, a few at most.
+#[derive(Drop)]
+pub(crate) struct Automata {
+    kept: Vec<Automaton>,
+    /// The place of the one that goes where there is no room for one more.
+    oldest: usize,
+    /// How many searches have ended in vain since one was made.
+    vain: u8,
+}
+
+impl Automata {
+    /// None is kept.
+    pub(crate) fn new(alloc: Global) -> Automata {
+        Automata {
+            kept: Vec::new(alloc),
+            oldest: 0,
+            vain: 0,
+        }
+    }
+
+    /// Whether one of them tells that the pattern has no match in the bytes.
+    pub(crate) fn exclude(&mut self, pattern: &[u8], bytes: &[u8]) -> bool
+        ensures { IsTrue result → regex_match pattern.now bytes.now ≡ None }
+    {
+        for automaton in self.kept.iter_mut() {
+            if automaton.is_of(pattern) {
+                return automaton.excludes(bytes);
+            }
+        }
+        false
+    }
+
+    /// Counts a search for a pattern that has found nothing, and makes the pattern's automaton where there were many. Without
+    /// room for it there is none.
+    pub(crate) fn note_vain(&mut self, alloc: Global, pattern: &[u8]) {
+        self.vain = self.vain.saturating_add(1);
+        if self.vain < PATIENCE || self.kept.iter().any(|it| it.is_of(pattern)) {
+            return;
+        }
+        self.vain = 0;
+        if let Some(automaton) = Automaton::of(alloc, pattern) {
+            self.keep(automaton);
+        }
+    }
+
+    /// Keeps one more, in place of the oldest where there is no room.
+    fn keep(&mut self, automaton: Automaton) {
+        if self.kept.len() < MOST {
+            let _kept = self.kept.push(automaton);
+        } else if let Some(place) = self.kept.get_mut(self.oldest) {
+            *place = automaton;
+            self.oldest = (self.oldest + 1) % MOST;
+        }
+    }
+}
