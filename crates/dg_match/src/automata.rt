@@ -1,16 +1,19 @@
 //! Automata of `-re` patterns that were searched for in vain. They keep the states that they have met, and tell that bytes
 //! have no match without a new matcher.
 ghost use Rattle.std.specs.Prelude.{◌≡◌, ◌↔◌, List, ℕ, IfSome, IsTrue, None};
-ghost use Rattle.regex_dfa.specs.Search.{IsForwardFor};
+ghost use Rattle.regex_compile.specs.Implements.{Implements, HasPaths};
+ghost use Rattle.regex_dfa.specs.Search.{IsForwardFor, IsReverseFor};
+ghost use Rattle.regex_hir.specs.Meaning.{meaning};
 ghost use Rattle.regex_syntax.specs.Grammar.{Names};
 ghost use Rattle.regex_syntax.specs.Verdict.{Reads};
-ghost use Rattle.dg_match.specs.Automata.{IsToldBy};
+ghost use Rattle.dg_match.specs.Automata.{IsWalkOf};
 ghost use Rattle.dg_match.specs.Groups.{regex_match};
 ghost use Rattle.dg_match.specs.Regexes.{bytes_config};
 
 use dg_bytes::Bytes;
 use regex_compile::compile;
-use regex_dfa::{Dfa, End, Forward};
+use regex_dfa::{Dfa, End, Forward, Reverse, Start};
+use regex_extract::is_anchored_end;
 use regex_hir::Hir;
 use regex_syntax::{Config, parse};
 use std::alloc::{AllocError, Global};
@@ -29,29 +32,41 @@ const ROOM: usize = 0x4_0000;
 /// How many bytes the tables of an automaton take at most, as `regex` has it.
 const LARGEST: usize = 10 * 1024 * 1024;
 
+/// How many bytes an automaton reads forwards at most: of more than these a matcher is faster, which skips where it can.
+const NEAR: usize = 4096;
+
+/// The way that an automaton reads, with the states that it has met.
+#[derive(Drop)]
+enum Walk {
+    /// From the first byte on.
+    Forwards(Forward),
+    /// From the last byte back: each match of the pattern ends there.
+    Backwards(Reverse),
+}
+
 /// The automaton of a `-re` pattern, with the states that its searches have met. A contract sees the pattern's text.
 #[derive(Drop)]
 struct Automaton {
     pattern: Bytes,
     dfa: Dfa,
-    forward: Forward,
+    walk: Walk,
 }
 
 impl Model for Automaton {
     ghost use Rattle.std.specs.Prelude.{ℕ, List};
-    ghost use Rattle.regex_dfa.specs.Search.{IsForwardFor};
-    ghost use Rattle.dg_match.specs.Automata.{IsToldBy};
+    ghost use Rattle.dg_match.specs.Automata.{IsWalkOf};
 
     ghost Value = { List ℕ };
 
     ghost view = { λ a. a.pattern };
 
-    ghost invariant = { λ a. IsForwardFor a.forward a.dfa × IsToldBy a.pattern a.dfa.nfa };
+    ghost invariant = { λ a. IsWalkOf a.pattern a.dfa a.walk };
 }
 
 /// The automaton of a pattern's tree, if there is room for it.
 fn dfa_of(alloc: Global, hir: &Hir, groups: usize) -> Option<Dfa>
-    ensures { IfSome result (λ d. (text : List ℕ) (names : Names) → Reads bytes_config text hir.now names → IsToldBy text d.nfa) }
+    ensures implements { IfSome result (λ d. Implements d.nfa (meaning hir.now)) }
+    ensures paths { IfSome result (λ d. HasPaths d.nfa (meaning hir.now)) }
 {
     let Ok(groups) = u32::try_from(groups) else {
         return None;
@@ -65,9 +80,36 @@ fn dfa_of(alloc: Global, hir: &Hir, groups: usize) -> Option<Dfa>
     }
 }
 
-/// The automaton of the pattern that a text spells, if it spells one and there is room for it.
-fn dfa_of_text(alloc: Global, pattern: &[u8]) -> Option<Dfa>
-    ensures { IfSome result (λ d. IsToldBy pattern.now d.nfa) }
+/// The way that the automaton of a tree reads, if there is room for its states.
+fn walk_of(alloc: Global, hir: &Hir, dfa: &Dfa) -> Option<Walk>
+    requires implements { Implements dfa.now.nfa (meaning hir.now) }
+    requires paths { HasPaths dfa.now.nfa (meaning hir.now) }
+    ensures { IfSome result (λ s. (text : List ℕ) (names : Names) → Reads bytes_config text hir.now names → IsWalkOf text dfa.now s) }
+{
+    if is_anchored_end(hir) {
+        return match Reverse::with_budget(alloc, dfa, ROOM) {
+            Ok(reverse) => Some(Walk::Backwards(reverse)),
+            Err(_) => None,
+        };
+    }
+    match Forward::with_budget(alloc, dfa, false, ROOM) {
+        Ok(forward) => Some(Walk::Forwards(forward)),
+        Err(_) => None,
+    }
+}
+
+/// The automaton of a pattern's tree and the way that it reads, if there is room for them.
+fn walker_of(alloc: Global, hir: &Hir, groups: usize) -> Option<(Dfa, Walk)>
+    ensures { IfSome result (λ s. (text : List ℕ) (names : Names) → Reads bytes_config text hir.now names → IsWalkOf text s.0 s.1) }
+{
+    let dfa = dfa_of(alloc, hir, groups)?;
+    let walk = walk_of(alloc, hir, &dfa)?;
+    Some((dfa, walk))
+}
+
+/// The same of the pattern that a text spells, if it spells one.
+fn walker_of_text(alloc: Global, pattern: &[u8]) -> Option<(Dfa, Walk)>
+    ensures { IfSome result (λ s. IsWalkOf pattern.now s.0 s.1) }
 {
     let Ok(source) = str::from_utf8(pattern) else {
         return None;
@@ -77,7 +119,7 @@ fn dfa_of_text(alloc: Global, pattern: &[u8]) -> Option<Dfa>
         ..Config::default()
     };
     match parse(alloc, source, &config) {
-        Ok(parsed) => dfa_of(alloc, &parsed.hir, parsed.names.len()),
+        Ok(parsed) => walker_of(alloc, &parsed.hir, parsed.names.len()),
         Err(_) => None,
     }
 }
@@ -87,18 +129,11 @@ impl Automaton {
     fn of(alloc: Global, pattern: &[u8]) -> Option<Automaton>
         ensures { IfSome result (λ a. a ≡ pattern.now) }
     {
-        let dfa = dfa_of_text(alloc, pattern)?;
-        let Ok(forward) = Forward::with_budget(alloc, &dfa, false, ROOM) else {
-            return None;
-        };
+        let (dfa, walk) = walker_of_text(alloc, pattern)?;
         let Ok(pattern) = Bytes::from_slice(alloc, pattern) else {
             return None;
         };
-        Some(Automaton {
-            pattern,
-            dfa,
-            forward,
-        })
+        Some(Automaton { pattern, dfa, walk })
     }
 
     /// Whether it is that of this pattern.
@@ -113,10 +148,19 @@ impl Automaton {
         ensures none { IsTrue result → regex_match self.old bytes.now ≡ None }
         ensures same { self.new ≡ self.old }
     {
-        let end = self
-            .forward
-            .find_end(&self.dfa, bytes, 0, bytes.len(), false, true);
-        matches!(end, End::NoMatch)
+        match &mut self.walk {
+            Walk::Forwards(forward) => {
+                if bytes.len() > NEAR {
+                    return false;
+                }
+                let end = forward.find_end(&self.dfa, bytes, 0, bytes.len(), false, true);
+                matches!(end, End::NoMatch)
+            }
+            Walk::Backwards(reverse) => {
+                let start = reverse.find_start(&self.dfa, bytes, 0, bytes.len());
+                matches!(start, Start::NoMatch)
+            }
+        }
     }
 }
 
