@@ -20,8 +20,11 @@ use std::alloc::{AllocError, Global};
 use std::marker::Model;
 use std::str;
 
-/// How many searches end in vain before one more automaton is made: to make one takes longer than many searches do.
+/// How many searches end in vain before one more automaton is made: to make one takes longer than a search does.
 const PATIENCE: u8 = 4;
+
+/// The same once there is no room for one more, or one could not be made: so what is made in vain costs little.
+const LONG_PATIENCE: u8 = 255;
 
 /// How many automata a buffer keeps at most.
 const MOST: usize = 4;
@@ -29,8 +32,8 @@ const MOST: usize = 4;
 /// How many bytes the states of an automaton take at most.
 const ROOM: usize = 0x4_0000;
 
-/// How many bytes the tables of an automaton take at most, as `regex` has it.
-const LARGEST: usize = 10 * 1024 * 1024;
+/// How many bytes the tables of an automaton take at most: larger patterns have none.
+const LARGEST: usize = 0x4_0000;
 
 /// How many bytes an automaton reads forwards at most: of more than these a matcher is faster, which skips where it can.
 const NEAR: usize = 4096;
@@ -172,6 +175,8 @@ pub(crate) struct Automata {
     oldest: usize,
     /// How many searches have ended in vain since one was made.
     vain: u8,
+    /// How many of them have to before one more is.
+    patience: u8,
 }
 
 impl Automata {
@@ -181,6 +186,7 @@ impl Automata {
             kept: Vec::new(alloc),
             oldest: 0,
             vain: 0,
+            patience: PATIENCE,
         }
     }
 
@@ -200,12 +206,13 @@ impl Automata {
     /// room for it there is none.
     pub(crate) fn note_vain(&mut self, alloc: Global, pattern: &[u8]) {
         self.vain = self.vain.saturating_add(1);
-        if self.vain < PATIENCE || self.kept.iter().any(|it| it.is_of(pattern)) {
+        if self.vain < self.patience || self.kept.iter().any(|it| it.is_of(pattern)) {
             return;
         }
         self.vain = 0;
-        if let Some(automaton) = Automaton::of(alloc, pattern) {
-            self.keep(automaton);
+        match Automaton::of(alloc, pattern) {
+            Some(automaton) => self.keep(automaton),
+            None => self.patience = LONG_PATIENCE,
         }
     }
 
@@ -216,6 +223,9 @@ impl Automata {
         } else if let Some(place) = self.kept.get_mut(self.oldest) {
             *place = automaton;
             self.oldest = (self.oldest + 1) % MOST;
+        }
+        if self.kept.len() >= MOST {
+            self.patience = LONG_PATIENCE;
         }
     }
 }
