@@ -1,11 +1,10 @@
 -- The first span as a function is the first span as a relation.
-use Rattle.std.proofs.Common.{◌≡◌, ◌≤◌, ◌<◌, ◌+◌, ◌==◌, ℕ, Bool, true, false, not, ◌&&◌, ◌||◌, IsTrue, List, length, Option, None, Some, option_map, option_and_then, refl, sym, ap, subst, ◌∙◌, ⊎_elim, arith, eq-eqb}
-use Rattle.std.specs.Prelude.{slice_range, nat_le, IfSome, IfNone}
+use Rattle.std.proofs.Common.{◌≡◌, ◌≤◌, ◌+◌, ℕ, Bool, true, false, not, ◌||◌, List, length, Option, None, Some, option_map, option_and_then, refl, sym, ap, ◌∙◌, ⊎_elim, arith, eq-eqb}
+use Rattle.std.specs.Prelude.{slice_range, IfSome, IfNone}
 use Rattle.std.specs.Option.{is_some}
 use Rattle.std.proofs.lemmas.Bool.{cases_Bool, false≢true, eqb-true, leb-true, le-leb, and_from, and_parts}
-use Rattle.dg_glob.specs.Glob.{Matches, IsSpan, IsFirstSpan, binds_start, binds_end, body}
-use Rattle.dg_glob.specs.Least.{least_below, greatest_below}
-use Rattle.dg_glob.specs.Tests.{glob_matches, is_span, last_end, first_span}
+use Rattle.dg_glob.specs.Glob.{IsSpan, IsFirstSpan, body}
+use Rattle.dg_glob.specs.Tests.{is_span, last_end, first_span}
 use Rattle.dg_glob.specs.declared.glob.Span.{Span}
 use Rattle.dg_glob.proofs.LeastLemmas.{least-none, least-some, greatest-none, greatest-some}
 use Rattle.dg_glob.proofs.TestLemmas.{glob_true, matches_from_test}

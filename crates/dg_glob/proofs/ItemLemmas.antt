@@ -34,7 +34,7 @@ steady_bracket p rest b is closes holds c d q r at_c at_d =
 past_close_more : (x : ℕ) (p : List ℕ) → length (past_close p) ≤ length p → length (past_close (x ∷ p)) ≤ length p
 past_close_more x p h = grind (arith, nat_tests)
 
-past_close_shorter : (p : List ℕ) → length (past_close p) ≤ length p
+pub past_close_shorter : (p : List ℕ) → length (past_close p) ≤ length p
 past_close_shorter [] = omega arith
 past_close_shorter (x ∷ p) = let h = past_close_more x p (past_close_shorter p) in omega arith
 

@@ -8,4 +8,7 @@ pub mod RowLemmas
 pub mod LeastLemmas
 pub mod TestLemmas
 pub mod FirstLemmas
+pub mod PartLemmas
+pub mod ReadingLemmas
+pub mod TrailLemmas
 mod Examples

@@ -5,3 +5,5 @@ pub mod Tests
 pub mod Search
 pub mod Marks
 pub mod Rows
+pub mod Parts
+pub mod Reading

@@ -26,7 +26,7 @@ pub struct Span {
 }
 
 /// Whether a pattern is bound to the text's start, by a `^` at its front.
-fn binds_start(pattern: &[u8]) -> bool
+pub(crate) fn binds_start(pattern: &[u8]) -> bool
     ensures { result ≡ word.binds_start pattern.now }
 {
     pattern.first() == Some(&b'^')
@@ -48,7 +48,7 @@ fn binds_end(pattern: &[u8]) -> bool
 }
 
 /// The pattern without what binds it.
-fn body(pattern: &[u8]) -> &[u8]
+pub(crate) fn body(pattern: &[u8]) -> &[u8]
     ensures { result.now ≡ word.body pattern.now }
 {
     let body = match pattern.split_first() {

@@ -43,7 +43,7 @@ fn first_item(pattern: &[u8]) -> Option<Item<'_>>
 }
 
 /// The pattern past its first `]`, or its end where it has none.
-fn past_close(pattern: &[u8]) -> &[u8]
+pub(crate) fn past_close(pattern: &[u8]) -> &[u8]
     ensures { result.now ≡ word.past_close pattern.now }
 {
     let mut rest = pattern;
@@ -103,7 +103,7 @@ pub(crate) fn after_item(pattern: &[u8], byte: u8) -> Option<&[u8]>
 
 /// Whether the bracket whose items are read from here on is left at its first `]` whichever of its
 /// items takes a byte: no range ends with `]`.
-fn closes_alike(pattern: &[u8]) -> bool
+pub(crate) fn closes_alike(pattern: &[u8]) -> bool
     ensures { result ≡ word.closes_alike (word.items pattern.now) }
 {
     let mut rest = pattern;

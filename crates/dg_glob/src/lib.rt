@@ -4,7 +4,9 @@
 mod glob;
 mod items;
 mod marks;
+mod parts;
 mod rows;
 mod search;
 
 pub use crate::glob::{Span, find_glob, string_match};
+pub use crate::parts::{Parts, Trail};
