@@ -4,7 +4,7 @@ use Rattle.std.proofs.lemmas.List.{drop-drop, drop-append-le, length-drop, lengt
 use Rattle.std.proofs.lemmas.List.Elements.{filter-append}
 use Rattle.std.specs.List.{concat}
 use Rattle.dg_match.specs.Held.{Held, Output, heard, heard_all, last_bytes, later, with_last, without_first, without_nulls}
-use Rattle.dg_match.specs.Starts.{AllPassed}
+use Rattle.dg_match.specs.Starts.{AllKept}
 use Rattle.dg_match.specs.declared.starts.Start.{Start}
 use Rattle.dg_match.proofs.StartLemmas.{all_more}
 
@@ -63,10 +63,10 @@ module _ (front cut max : ℕ) (items kept new : List ℕ) (is : new ≡ items +
   pub chunk_fits : length (drop (front + cut) new) ≤ max
   chunk_fits = let size = length-drop (front + cut) new in omega arith
 
-  pub chunk_passed : (starts now : List Start) → AllPassed (drop front items) starts →
-      ((bytes : List ℕ) → cut ≤ length bytes → AllPassed bytes starts → AllPassed (drop cut bytes) now) → AllPassed (drop (front + cut) new) now
+  pub chunk_passed : (starts now : List Start) → AllKept (drop front items) starts →
+      ((bytes : List ℕ) → cut ≤ length bytes → AllKept bytes starts → AllKept (drop cut bytes) now) → AllKept (drop (front + cut) new) now
   chunk_passed starts now before later =
-      subst (λ (bytes : List ℕ). AllPassed bytes now) (sym chunk_cut)
+      subst (λ (bytes : List ℕ). AllKept bytes now) (sym chunk_cut)
       (later (drop front items ++ kept) (let size = chunk_excess in omega arith) (all_more (drop front items) kept starts before))
 
   pub chunk_added : (compared : ℕ) (starts now : List Start) (old : Held) → now ≡ map (later cut) starts →

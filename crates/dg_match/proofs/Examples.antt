@@ -5,20 +5,20 @@ use Rattle.dg_match.specs.Held.{Held, with_last, without_nulls}
 use Rattle.dg_match.specs.Tries.{once_tried}
 use Rattle.dg_match.specs.Literals.{least_place}
 use Rattle.dg_match.specs.declared.pattern.Pattern.TheVariants.{Exact}
-use Rattle.dg_match.specs.Fronts.{text_of}
+use Rattle.dg_match.specs.declared.starts.Sought.TheVariants.{Text}
 
 -- a buffer that remembers that `zz` has passed two places
 abbrev held : List ℕ → Held
-held bytes = record { bytes = bytes; max = 9; compared = 3; starts = record { text = codes "zz"; passed = 2 } ∷ [] }
+held bytes = record { bytes = bytes; max = 9; compared = 3; starts = record { sought = Text (codes "zz"); found = 0; passed = 2 } ∷ [] }
 
-last_of_more : with_last 2 (held (codes "abc")) ≡ record { bytes = codes "bc"; max = 9; compared = 3; starts = record { text = codes "zz"; passed = 1 } ∷ [] }
+last_of_more : with_last 2 (held (codes "abc")) ≡ record { bytes = codes "bc"; max = 9; compared = 3; starts = record { sought = Text (codes "zz"); found = 0; passed = 1 } ∷ [] }
 last_of_more = refl
 
 last_of_fewer : with_last 9 (held (codes "abc")) ≡ held (codes "abc")
 last_of_fewer = refl
 
 -- a literal that isn't there is compared with what is left, and then remembered
-literal_not_there : once_tried 0 (Exact (codes "zz")) (held (codes "abcz")) ≡ record { bytes = codes "abcz"; max = 9; compared = 5; starts = record { text = codes "zz"; passed = 3 } ∷ [] }
+literal_not_there : once_tried 0 (Exact (codes "zz")) (held (codes "abcz")) ≡ record { bytes = codes "abcz"; max = 9; compared = 5; starts = record { sought = Text (codes "zz"); found = 0; passed = 3 } ∷ [] }
 unfolding once_tried least_place
 literal_not_there = refl
 
@@ -34,24 +34,3 @@ another_literal = refl
 
 nulls_removed : without_nulls (120 ∷ 0 ∷ 121 ∷ 0 ∷ []) ≡ codes "xy"
 nulls_removed = refl
-
-text_of_a_plain_glob : text_of (codes "login: ") ≡ codes "login: "
-text_of_a_plain_glob = refl
-
-text_behind_stars : text_of (codes "**foo*bar") ≡ codes "bar"
-text_behind_stars = refl
-
-text_before_stars : text_of (codes "*error*:*") ≡ codes "error"
-text_before_stars = refl
-
-text_of_a_bound_glob : text_of (codes "^foo") ≡ []
-text_of_a_bound_glob = refl
-
-text_before_a_dollar : text_of (codes "foo$") ≡ codes "foo"
-text_before_a_dollar = refl
-
-text_behind_a_bracket : text_of (codes "*[a-z]foo") ≡ codes "foo"
-text_behind_a_bracket = refl
-
-text_before_a_bracket_that_ends_anywhere : text_of (codes "b[a-]]foo") ≡ codes "b"
-text_before_a_bracket_that_ends_anywhere = refl

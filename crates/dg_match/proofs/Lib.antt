@@ -1,8 +1,8 @@
 pub mod OccursLemmas
 pub mod SearchLemmas
+pub mod GlobLemmas
 pub mod StartLemmas
 pub mod TryLemmas
-pub mod SpanLemmas
 pub mod BufferLemmas
 pub mod RegexLemmas
 pub mod GroupLemmas

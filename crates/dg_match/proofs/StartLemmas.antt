@@ -1,28 +1,42 @@
 -- What is remembered of starts, as the buffer changes.
-use Rattle.std.proofs.Common.{◌≡◌, ⊎_elim, ℕ, zero, suc, ◌+◌, ◌-◌, ◌≤◌, ◌<◌, List, [], ◌∷◌, ◌++◌, Result, Ok, Err, true, false, cond, nat_eq, refl, length, take, drop, get_or, set, subst, sym, ap, ap₂, ◌∙◌, map, arith, append-nil}
-use Rattle.std.proofs.lemmas.List.{take_all, drop_all}
+use Rattle.std.proofs.Common.{◌≡◌, ⊎_elim, ℕ, zero, suc, ◌+◌, ◌-◌, ◌≤◌, ◌<◌, List, [], ◌∷◌, ◌++◌, Bool, true, false, cond, refl, length, take, drop, get_or, set, subst, sym, ap, ap₂, ◌∙◌, map, arith, append-nil}
+use Rattle.std.proofs.lemmas.List.{take_all, drop_all, get_or_default}
 use Rattle.std.proofs.lemmas.List.Edits.{map_over_more}
 use Rattle.std.proofs.lemmas.List.Elements.{All-map, All-push, All-set, All-weaker, All-get_or}
 use Rattle.std.proofs.lemmas.Bool.{cases_lt, cond-true, cond-false}
-use Rattle.std.specs.Prelude.{OnOk}
-use Rattle.std.specs.Cmp.Lexicographic.{pointwise, bytes_decides}
+use Rattle.std.specs.Cmp.Lexicographic.{bytes_decides}
+use Rattle.dg_glob.proofs.PartLemmas.{trail_begins, trail_cut, trail_more}
 use Rattle.dg_match.specs.Held.{later}
-use Rattle.dg_match.specs.Tries.{known_passed, remembered}
+use Rattle.dg_match.specs.Searches.{is_same_sought, nothing_known, searched}
+use Rattle.dg_match.specs.Tries.{known, remembered}
+use Rattle.dg_match.specs.declared.starts.Sought.{Sought}
+use Rattle.dg_match.specs.declared.starts.Sought.TheVariants.{Text, Glob}
 use Rattle.dg_match.specs.declared.starts.Start.{Start}
-use Rattle.dg_match.specs.Starts.{IsPassed, AllPassed}
-use Rattle.dg_match.proofs.OccursLemmas.{passed_cut, passed_more}
+use Rattle.dg_match.specs.Starts.{IsOut, IsKept, AllKept}
+use Rattle.dg_match.proofs.OccursLemmas.{none_passed, passed_cut, passed_more}
 
-abbrev pub made : List ℕ → ℕ → Start
-made t p = record { text = t; passed = p }
+abbrev pub made : Sought → ℕ → ℕ → Start
+made k f p = record { sought = k; found = f; passed = p }
 
-abbrev Passed : List ℕ → Start → Type 0
-Passed bytes s = IsPassed s.text bytes s.passed
+out_cut : (bytes : List ℕ) (n : ℕ) (k : Sought) (f p : ℕ) → n ≤ length bytes → IsOut bytes k f p → IsOut (drop n bytes) k f (p - n)
+out_cut bytes n (Text t) f p h out = passed_cut t bytes p n h out
+out_cut bytes n (Glob g) f p h out = trail_cut g f bytes p n h out
 
-pub all_later : (bytes : List ℕ) (n : ℕ) (starts : List Start) → n ≤ length bytes → AllPassed bytes starts → AllPassed (drop n bytes) (map (later n) starts)
-all_later bytes n starts h all = All-map (Passed (drop n bytes)) (later n) starts (All-weaker (Passed bytes) (λ s. Passed (drop n bytes) (later n s)) (λ s p. passed_cut s.text bytes s.passed n h p) starts all)
+out_more : (bytes more : List ℕ) (k : Sought) (f p : ℕ) → IsOut bytes k f p → IsOut (bytes ++ more) k f p
+out_more bytes more (Text t) f p out = passed_more t bytes more p out
+out_more bytes more (Glob g) f p out = trail_more g f bytes more p out
 
-pub all_more : (bytes more : List ℕ) (starts : List Start) → AllPassed bytes starts → AllPassed (bytes ++ more) starts
-all_more bytes more starts all = All-weaker (Passed bytes) (Passed (bytes ++ more)) (λ s p. passed_more s.text bytes more s.passed p) starts all
+-- where nothing is known, nothing is claimed
+pub out_begins : (bytes : List ℕ) (k : Sought) → IsOut bytes k 0 0
+out_begins bytes (Text t) = none_passed t bytes
+out_begins bytes (Glob g) = trail_begins g bytes
+
+pub all_later : (bytes : List ℕ) (n : ℕ) (starts : List Start) → n ≤ length bytes → AllKept bytes starts → AllKept (drop n bytes) (map (later n) starts)
+all_later bytes n starts h all =
+    All-map (IsKept (drop n bytes)) (later n) starts (All-weaker (IsKept bytes) (λ s. IsKept (drop n bytes) (later n s)) (λ s p. out_cut bytes n s.sought s.found s.passed h p) starts all)
+
+pub all_more : (bytes more : List ℕ) (starts : List Start) → AllKept bytes starts → AllKept (bytes ++ more) starts
+all_more bytes more starts all = All-weaker (IsKept bytes) (IsKept (bytes ++ more)) (λ s p. out_more bytes more s.sought s.found s.passed p) starts all
 
 -- what is remembered for an index stands in the place of what was, or behind all
 pub remembered_set : (i : ℕ) (s : Start) (starts : List Start) → i < length starts → set starts i s ≡ remembered i s starts
@@ -35,16 +49,11 @@ remembered_push i s [] high = refl
 remembered_push zero s (old ∷ starts) high = absurd (omega arith)
 remembered_push (suc i) s (old ∷ starts) high = ap (λ (r : List Start). old ∷ r) (remembered_push i s starts (omega arith))
 
-pub set_ok : {A E : Type 0} (r : Result A E) (i : ℕ) (now s : Start) (items starts : List Start) → i < length items → items ≡ starts →
-    OnOk r (now ≡ s) → OnOk r (set items i now ≡ remembered i s starts)
-set_ok (Ok a) i now s items starts low same h = ap (set items i) h ∙ (remembered_set i s items low ∙ ap (remembered i s) same)
-set_ok (Err e) i now s items starts low same h = h
-
-pub all_remembered : (bytes : List ℕ) (i : ℕ) (s : Start) (starts : List Start) → AllPassed bytes starts → IsPassed s.text bytes s.passed → AllPassed bytes (remembered i s starts)
+pub all_remembered : (bytes : List ℕ) (i : ℕ) (s : Start) (starts : List Start) → AllKept bytes starts → IsKept bytes s → AllKept bytes (remembered i s starts)
 all_remembered bytes i s starts all here =
     ⊎_elim
-    (λ low. subst (AllPassed bytes) (remembered_set i s starts low) (All-set (Passed bytes) starts i s here all))
-    (λ high. subst (AllPassed bytes) (remembered_push i s starts high) (All-push (Passed bytes) starts s all here))
+    (λ low. subst (AllKept bytes) (remembered_set i s starts low) (All-set (IsKept bytes) starts i s here all))
+    (λ high. subst (AllKept bytes) (remembered_push i s starts high) (All-push (IsKept bytes) starts s all here))
     (cases_lt i (length starts))
 
 pub remembered_length : (i : ℕ) (s : Start) (starts : List Start) → i ≤ length starts → i + 1 ≤ length (remembered i s starts)
@@ -52,41 +61,94 @@ remembered_length i s [] low = omega arith
 remembered_length zero s (old ∷ starts) low = omega arith
 remembered_length (suc i) s (old ∷ starts) low = let more = remembered_length i s starts (omega arith) in omega arith
 
--- how many places are known to be passed is remembered for the index, if anything is
-pub known_at : (i : ℕ) (text : List ℕ) (starts : List Start) (d : Start) → i < length starts →
-    known_passed i text starts ≡ cond (pointwise nat_eq (get_or starts i d).text text) (get_or starts i d).passed 0
-known_at i text [] d low = absurd (omega arith)
-known_at zero text (s ∷ starts) d low = refl
-known_at (suc i) text (s ∷ starts) d low = known_at i text starts d (omega arith)
+-- what is remembered of an index is what was put there last
+pub remembered_at : (i : ℕ) (s d : Start) (starts : List Start) → i ≤ length starts → get_or (remembered i s starts) i d ≡ s
+remembered_at zero s d [] low = refl
+remembered_at (suc i) s d [] low = absurd (omega arith)
+remembered_at zero s d (old ∷ starts) low = refl
+remembered_at (suc i) s d (old ∷ starts) low = remembered_at i s d starts (omega arith)
 
-pub known_behind : (i : ℕ) (text : List ℕ) (starts : List Start) → length starts ≤ i → known_passed i text starts ≡ 0
-known_behind i text [] high = refl
-known_behind zero text (s ∷ starts) high = absurd (omega arith)
-known_behind (suc i) text (s ∷ starts) high = known_behind i text starts (omega arith)
+pub remembered_twice : (i : ℕ) (s r : Start) (starts : List Start) → i ≤ length starts → remembered i s (remembered i r starts) ≡ remembered i s starts
+remembered_twice zero s r [] low = refl
+remembered_twice (suc i) s r [] low = absurd (omega arith)
+remembered_twice zero s r (old ∷ starts) low = refl
+remembered_twice (suc i) s r (old ∷ starts) low = ap (λ (ss : List Start). old ∷ ss) (remembered_twice i s r starts (omega arith))
 
--- for the text that is remembered for an index, or for another
-pub known_hit : (i : ℕ) (text : List ℕ) (items starts : List Start) (s : Start) → i < length items → s ≡ get_or items i s → items ≡ starts →
-    pointwise nat_eq s.text text ≡ true → s.passed ≡ known_passed i text starts
-known_hit i text items starts s low at same hit =
-    sym (ap (known_passed i text) (sym same) ∙ (known_at i text items s low ∙ (ap (λ (x : Start). cond (pointwise nat_eq x.text text) x.passed 0) (sym at) ∙ cond-true _ _ _ hit)))
+remembered_same : (i : ℕ) (d : Start) (starts : List Start) → i < length starts → remembered i (get_or starts i d) starts ≡ starts
+remembered_same i d [] low = absurd (omega arith)
+remembered_same zero d (s ∷ starts) low = refl
+remembered_same (suc i) d (s ∷ starts) low = ap (λ (ss : List Start). s ∷ ss) (remembered_same i d starts (omega arith))
 
-pub known_miss : (i : ℕ) (text : List ℕ) (items starts : List Start) (s : Start) → i < length items → s ≡ get_or items i s → items ≡ starts →
-    pointwise nat_eq s.text text ≡ false → 0 ≡ known_passed i text starts
-known_miss i text items starts s low at same miss =
-    sym (ap (known_passed i text) (sym same) ∙ (known_at i text items s low ∙ (ap (λ (x : Start). cond (pointwise nat_eq x.text text) x.passed 0) (sym at) ∙ cond-false _ _ _ miss)))
+-- what is known of an index is remembered there, if it was for the same
+known_at : (i : ℕ) (k : Sought) (starts : List Start) (d : Start) → i < length starts →
+    known i k starts ≡ cond (is_same_sought (get_or starts i d).sought k) (get_or starts i d) (nothing_known k)
+known_at i k [] d low = absurd (omega arith)
+known_at zero k (s ∷ starts) d low = refl
+known_at (suc i) k (s ∷ starts) d low = known_at i k starts d (omega arith)
 
--- what is remembered for an index is so
-pub one_passed : (bytes text : List ℕ) (i : ℕ) (items starts : List Start) (s : Start) → i < length items → s ≡ get_or items i s → items ≡ starts →
-    pointwise nat_eq s.text text ≡ true → AllPassed bytes starts → IsPassed text bytes s.passed
-one_passed bytes text i items starts s low at same hit all =
-    subst (λ t. IsPassed t bytes s.passed) ((bytes_decides s.text text).0 hit) (subst (Passed bytes) (sym at) (All-get_or (Passed bytes) items i s low (subst (AllPassed bytes) (sym same) all)))
+pub known_behind : (i : ℕ) (k : Sought) (items starts : List Start) → length items ≤ i → items ≡ starts → known i k starts ≡ nothing_known k
+known_behind i k items starts high same = sym (ap (known i k) same) ∙ known_none i k items high
+  where
+    known_none : (i : ℕ) (k : Sought) (starts : List Start) → length starts ≤ i → known i k starts ≡ nothing_known k
+    known_none i k [] high = refl
+    known_none zero k (s ∷ starts) high = absurd (omega arith)
+    known_none (suc i) k (s ∷ starts) high = known_none i k starts (omega arith)
+
+pub known_hit : (i : ℕ) (k : Sought) (items starts : List Start) (s : Start) → i < length items → s ≡ get_or items i s → items ≡ starts →
+    is_same_sought s.sought k ≡ true → remembered i (known i k starts) starts ≡ starts
+known_hit i k items starts s low at same hit =
+    let is : known i k items ≡ get_or items i s = known_at i k items s low ∙ cond-true _ _ _ (ap (λ (x : Start). is_same_sought x.sought k) (sym at) ∙ hit) in
+    sym (ap (λ (ss : List Start). remembered i (known i k ss) ss) same) ∙ (ap (λ (x : Start). remembered i x items) is ∙ (remembered_same i s items low ∙ same))
+
+pub known_miss : (i : ℕ) (k : Sought) (items starts : List Start) (s : Start) → i < length items → s ≡ get_or items i s → items ≡ starts →
+    is_same_sought s.sought k ≡ false → known i k starts ≡ nothing_known k
+known_miss i k items starts s low at same miss =
+    sym (ap (known i k) same) ∙ (known_at i k items s low ∙ cond-false _ _ _ (ap (λ (x : Start). is_same_sought x.sought k) (sym at) ∙ miss))
+
+same_is : (a b : Sought) → is_same_sought a b ≡ true → a ≡ b
+same_is (Text a) (Text b) h = ap Text ((bytes_decides a b).0 h)
+same_is (Text a) (Glob b) h = cc
+same_is (Glob a) (Text b) h = cc
+same_is (Glob a) (Glob b) h = ap Glob ((bytes_decides a b).0 h)
+
+chosen_sought : (s : Start) (k : Sought) (b : Bool) → is_same_sought s.sought k ≡ b → (cond b s (nothing_known k)).sought ≡ k
+chosen_sought s k true h = same_is s.sought k h
+chosen_sought s k false h = refl
+
+pub known_sought : (i : ℕ) (k : Sought) (starts : List Start) → (known i k starts).sought ≡ k
+known_sought i k [] = refl
+known_sought zero k (s ∷ starts) = chosen_sought s k (is_same_sought s.sought k) refl
+known_sought (suc i) k (s ∷ starts) = known_sought i k starts
+
+chosen_kept : (bytes : List ℕ) (s : Start) (k : Sought) (b : Bool) → IsKept bytes s → IsKept bytes (cond b s (nothing_known k))
+chosen_kept bytes s k true h = h
+chosen_kept bytes s k false h = out_begins bytes k
+
+-- and it is so
+pub known_kept : (bytes : List ℕ) (i : ℕ) (k : Sought) (starts : List Start) → AllKept bytes starts → IsKept bytes (known i k starts)
+known_kept bytes i k starts all =
+    ⊎_elim
+    (λ low.
+    let d : Start = nothing_known k in
+    subst (IsKept bytes) (sym (known_at i k starts d low))
+    (chosen_kept bytes (get_or starts i d) k (is_same_sought (get_or starts i d).sought k) (All-get_or (IsKept bytes) starts i d low all)))
+    (λ high. subst (IsKept bytes) (sym (known_behind i k starts starts high refl)) (out_begins bytes k))
+    (cases_lt i (length starts))
+
+pub at_known : (i : ℕ) (s : Start) (starts now : List Start) → i ≤ length starts → now ≡ remembered i s starts → s ≡ get_or now i s
+at_known i s starts now low is = sym (ap (λ (ss : List Start). get_or ss i s) is ∙ remembered_at i s s starts low)
+
+-- what is remembered of an index once it was searched for
+pub searched_at : (bytes : List ℕ) (i : ℕ) (items starts : List Start) (x new : Start) → i < length items → x ≡ get_or items i x → items ≡ starts → new ≡ searched bytes x →
+    (s : Start) → s ≡ get_or starts i s → set items i new ≡ remembered i (searched bytes s) starts
+searched_at bytes i items starts x new low at same is s here =
+    let one : x ≡ s = at ∙ (get_or_default items i x s low ∙ (ap (λ (ss : List Start). get_or ss i s) same ∙ sym here)) in
+    ap (set items i) (is ∙ ap (searched bytes) one) ∙ (remembered_set i (searched bytes s) items low ∙ ap (remembered i (searched bytes s)) same)
 
 -- one start more has so many places fewer
-pub cut_step : (n i p : ℕ) (old now : List Start) (x : Start) → i < length old → now ≡ map (later n) (take i old) ++ drop i old → x ≡ get_or now i x →
-    p ≡ (get_or now i x).passed - n → set now i (record { text = (get_or now i x).text; passed = p }) ≡ map (later n) (take (i + 1) old) ++ drop (i + 1) old
-cut_step n i p old now x low so at is =
-    let same : made (get_or now i x).text p ≡ made x.text (x.passed - n) = ap₂ made (ap (λ (s : Start). s.text) (sym at)) (is ∙ ap (λ (s : Start). s.passed - n) (sym at)) in
-    ap (set now i) same ∙ map_over_more (later n) old now i x low so at
+pub cut_step : (n i : ℕ) (old now : List Start) (x s : Start) → i < length old → now ≡ map (later n) (take i old) ++ drop i old → x ≡ get_or now i x →
+    s ≡ later n (get_or now i x) → set now i s ≡ map (later n) (take (i + 1) old) ++ drop (i + 1) old
+cut_step n i old now x s low so at is = ap (set now i) (is ∙ ap (later n) (sym at)) ∙ map_over_more (later n) old now i x low so at
 
 -- all have
 pub cut_all : (n i : ℕ) (old now : List Start) → length old ≤ i → now ≡ map (later n) (take i old) ++ drop i old → now ≡ map (later n) old

@@ -1,6 +1,11 @@
 -- What a buffer holds.
 use Rattle.std.specs.Prelude.{ℕ, ◌-◌, ◌==◌, ◌++◌, not, List, [], ◌∷◌, length, drop, filter, map, refl}
 use Rattle.std.specs.Coded.{Coded, code_by, coded×, coded_list, coded_ℕ}
+use Rattle.std.specs.Prelude.{◌≡◌, ◌⊎◌}
+use Rattle.std.proofs.Common.{inl, inr}
+use Rattle.std.specs.Coded.{coded⊎}
+use Rattle.dg_match.specs.declared.starts.Sought.{Sought}
+use Rattle.dg_match.specs.declared.starts.Sought.TheVariants.{Text, Glob}
 use Rattle.dg_match.specs.declared.starts.Start.{Start}
 
 -- What those above see of a buffer: the bytes, and how many are kept at most.
@@ -8,8 +13,9 @@ pub record Output : Type 0 where
   pub bytes : List ℕ
   pub max : ℕ
 
--- and what its own tries of patterns see: how many bytes its literals and globs have compared, and for the patterns tried
--- last, in their order, a text that stands in each match of the pattern, with how many of the first places it has passed
+-- and what its own tries of patterns see: how many bytes its literals and globs have compared, and what is remembered of the
+-- patterns tried last, in their order: what each looks for, how many parts of a glob are found, and how many of the first
+-- places it, or the next part, has passed
 pub record Held : Type 0 where
   pub bytes : List ℕ
   pub max : ℕ
@@ -20,18 +26,34 @@ pub record Held : Type 0 where
 abbrev pub output_of : Held → Output
 output_of h = record { bytes = h.bytes; max = h.max }
 
+abbrev pub sides : Sought → List ℕ ⊎ List ℕ
+sides (Text t) = inl t
+sides (Glob p) = inr p
+
+abbrev pub of_side : List ℕ ⊎ List ℕ → Sought
+of_side (inl t) = Text t
+of_side (inr p) = Glob p
+
+pub sides_back : (k : Sought) → of_side (sides k) ≡ k
+sides_back (Text t) = refl
+sides_back (Glob p) = refl
+
+abbrev pub sought_code : Coded Sought
+sought_code = code_by (List ℕ ⊎ List ℕ) (coded⊎ (coded_list coded_ℕ) (coded_list coded_ℕ)) sides of_side sides_back
+
 abbrev pub start_code : Coded Start
 start_code =
-    code_by (List ℕ × ℕ) (coded× (coded_list coded_ℕ) coded_ℕ) (λ s. (s.text, s.passed)) (λ p. record { text = p.0; passed = p.1 }) (λ _. refl)
+    code_by ((Sought × ℕ) × ℕ) (coded× (coded× sought_code coded_ℕ) coded_ℕ) (λ s. ((s.sought, s.found), s.passed))
+    (λ p. record { sought = p.0.0; found = p.0.1; passed = p.1 }) (λ _. refl)
 
 abbrev pub held_code : Coded Held
 held_code =
     code_by (((List ℕ × ℕ) × ℕ) × List Start) (coded× (coded× (coded× (coded_list coded_ℕ) coded_ℕ) coded_ℕ) (coded_list start_code))
     (λ h. (((h.bytes, h.max), h.compared), h.starts)) (λ p. record { bytes = p.0.0.0; max = p.0.0.1; compared = p.0.1; starts = p.1 }) (λ _. refl)
 
--- a text that has passed n places fewer
+-- what has passed n places fewer
 abbrev pub later : ℕ → Start → Start
-later n s = record { text = s.text; passed = s.passed - n }
+later n s = record { sought = s.sought; found = s.found; passed = s.passed - n }
 
 -- the buffer without its first n bytes
 abbrev pub without_first : ℕ → Held → Held

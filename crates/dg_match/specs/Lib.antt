@@ -1,7 +1,6 @@
 pub mod Held
 pub mod Starts
 pub mod Literals
-pub mod Fronts
 pub mod Regexes
 pub mod Groups
 pub mod Needs

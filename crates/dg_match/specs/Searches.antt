@@ -1,9 +1,37 @@
--- What the search for a text in bytes compares, and which places it passes.
-use Rattle.std.specs.Prelude.{ℕ, ◌+◌, ◌-◌, List, [], length, nat_lt, Option, None, Some, if◌then◌else◌}
-use Rattle.dg_match.specs.Literals.{least_place}
-use Rattle.dg_match.specs.Fronts.{text_of}
+-- What a search in bytes finds, compares and learns.
+use Rattle.std.specs.Prelude.{ℕ, ◌+◌, ◌-◌, Bool, false, List, [], length, nat_eq, nat_le, nat_lt, Option, None, Some, MatchOption, if◌then◌else◌}
+use Rattle.std.specs.Cmp.Lexicographic.{pointwise}
+use Rattle.dg_glob.specs.Glob.{IsSpan, IsFirstSpan}
+use Rattle.dg_glob.specs.Parts.{followed, parts_of}
+use Rattle.dg_glob.specs.declared.glob.Span.{Span}
+use Rattle.dg_match.specs.Literals.{IsNowhere, IsFirstPlace, least_place}
 use Rattle.dg_match.specs.declared.pattern.Pattern.{Pattern}
-use Rattle.dg_match.specs.declared.pattern.Pattern.TheVariants.{Glob, Exact, Regex}
+use Rattle.dg_match.specs.declared.pattern.Pattern.TheVariants as pattern
+use Rattle.dg_match.specs.declared.starts.Kind.{Kind}
+use Rattle.dg_match.specs.declared.starts.Kind.TheVariants as kind
+use Rattle.dg_match.specs.declared.starts.Sought.{Sought}
+use Rattle.dg_match.specs.declared.starts.Sought.TheVariants.{Text, Glob}
+use Rattle.dg_match.specs.declared.starts.Start.{Start}
+
+-- what a pattern looks for: a literal itself, a glob its parts, and a `-re` pattern no text
+abbrev pub sought : Pattern → Sought
+sought (pattern.Glob p) = Glob p
+sought (pattern.Exact t) = Text t
+sought (pattern.Regex t) = Text []
+
+abbrev pub sought_of : Kind → List ℕ → Sought
+sought_of kind.Text t = Text t
+sought_of kind.Glob p = Glob p
+
+abbrev pub is_same_sought : Sought → Sought → Bool
+is_same_sought (Text a) (Text b) = pointwise nat_eq a b
+is_same_sought (Text a) (Glob b) = false
+is_same_sought (Glob a) (Text b) = false
+is_same_sought (Glob a) (Glob b) = pointwise nat_eq a b
+
+-- nothing is known of what is looked for
+abbrev pub nothing_known : Sought → Start
+nothing_known k = record { sought = k; found = 0; passed = 0 }
 
 -- how many places a text has passed, by its least place: those before it, or where there is none all at which it fits
 abbrev pub places_passed : List ℕ → List ℕ → Option ℕ → ℕ
@@ -16,23 +44,35 @@ abbrev pub bytes_compared : ℕ → List ℕ → List ℕ → Option ℕ → ℕ
 bytes_compared from text bytes None = if nat_lt (length bytes - from) (length text) then 0 else length bytes - from
 bytes_compared from text bytes (Some k) = k + length text - from
 
--- how many bytes are compared with a glob, by the least place of its text: all where it has one
-abbrev pub bytes_behind : List ℕ → Option ℕ → ℕ
-bytes_behind bytes None = 0
-bytes_behind bytes (Some k) = length bytes
+-- whether all parts of a glob are found
+abbrev pub all_found : List ℕ → ℕ × ℕ → Bool
+all_found p r = nat_le (length (parts_of p)) r.0
 
--- the text of a pattern that is searched for: a literal itself, a glob's longest run, and none of a `-re` pattern
-abbrev pub sought : Pattern → List ℕ
-sought (Glob p) = text_of p
-sought (Exact t) = t
-sought (Regex t) = []
+-- what is known of the parts behind a search: nothing where all were found
+abbrev pub left_by : List ℕ → ℕ × ℕ → ℕ × ℕ
+left_by p r = if all_found p r then (0, 0) else r
 
-abbrev pub glob_compared : ℕ → List ℕ → List ℕ → ℕ
-glob_compared from glob bytes =
-    bytes_compared from (text_of glob) bytes (least_place (text_of glob) bytes) + bytes_behind bytes (least_place (text_of glob) bytes)
+-- how many bytes are compared with a glob: those from the place on at which its next part may stand, and where all its
+-- parts are found all bytes
+abbrev pub glob_compared : List ℕ → ℕ → ℕ → List ℕ → ℕ
+glob_compared p found n bytes = length bytes - n + (if all_found p (followed p found bytes n) then length bytes else 0)
 
--- how many bytes are compared in a try of a pattern whose text has passed the places before this one
-abbrev pub compared_by : Pattern → ℕ → List ℕ → ℕ
-compared_by (Glob p) from bytes = glob_compared from p bytes
-compared_by (Exact t) from bytes = bytes_compared from t bytes (least_place t bytes)
-compared_by (Regex t) from bytes = 0
+-- the same by what is looked for, with what is known from then on
+abbrev pub compared_for : List ℕ → Sought → ℕ → ℕ → ℕ
+compared_for bytes (Text t) found n = bytes_compared n t bytes (least_place t bytes)
+compared_for bytes (Glob p) found n = glob_compared p found n bytes
+
+abbrev pub known_of : List ℕ → Sought → ℕ → ℕ → Start
+known_of bytes (Text t) found n = record { sought = Text t; found = found; passed = places_passed t bytes (least_place t bytes) }
+known_of bytes (Glob p) found n = record { sought = Glob p; found = (left_by p (followed p found bytes n)).0; passed = (left_by p (followed p found bytes n)).1 }
+
+abbrev pub compared_by : List ℕ → Start → ℕ
+compared_by bytes s = compared_for bytes s.sought s.found s.passed
+
+abbrev pub searched : List ℕ → Start → Start
+searched bytes s = known_of bytes s.sought s.found s.passed
+
+-- the match of what is looked for, if there is one
+abbrev pub IsFound : List ℕ → Sought → Option Span → Type 0
+IsFound bytes (Text t) o = MatchOption o (IsNowhere t bytes) (λ s. IsFirstPlace t bytes s.start s.end)
+IsFound bytes (Glob p) o = MatchOption o ((s e : ℕ) → IsSpan p bytes s e → ⊥) (λ s. IsFirstSpan p bytes s.start s.end)

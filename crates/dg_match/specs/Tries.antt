@@ -1,18 +1,17 @@
 -- What a buffer has compared, and what it remembers, once patterns were tried.
-use Rattle.std.specs.Prelude.{◌≡◌, ℕ, zero, suc, ◌+◌, ◌≤◌, min, List, [], ◌∷◌, take, nat_eq, Option, None, Some, if◌then◌else◌}
-use Rattle.std.specs.Cmp.Lexicographic.{pointwise}
+use Rattle.std.specs.Prelude.{◌≡◌, ℕ, zero, suc, ◌+◌, ◌≤◌, min, List, [], ◌∷◌, take, Option, None, Some, if◌then◌else◌}
 use Rattle.dg_match.specs.Held.{Held}
-use Rattle.dg_match.specs.Literals.{least_place}
-use Rattle.dg_match.specs.Searches.{compared_by, places_passed, sought}
+use Rattle.dg_match.specs.Searches.{compared_by, is_same_sought, nothing_known, searched, sought}
+use Rattle.dg_match.specs.declared.starts.Sought.{Sought}
 use Rattle.dg_match.specs.declared.starts.Start.{Start}
 use Rattle.dg_match.specs.declared.hit.Hit.{Hit}
 use Rattle.dg_match.specs.declared.pattern.Pattern.{Pattern}
 
--- how many places are known to be passed for the pattern of an index: those of the last try, if that was for the same text
-abbrev pub known_passed : ℕ → List ℕ → List Start → ℕ
-known_passed i text [] = 0
-known_passed zero text (s ∷ starts) = if pointwise nat_eq s.text text then s.passed else 0
-known_passed (suc i) text (s ∷ starts) = known_passed i text starts
+-- what is known of what the pattern of an index looks for: what is remembered of the last try, if that was for the same
+abbrev pub known : ℕ → Sought → List Start → Start
+known i k [] = nothing_known k
+known zero k (s ∷ starts) = if is_same_sought s.sought k then s else nothing_known k
+known (suc i) k (s ∷ starts) = known i k starts
 
 -- what is remembered, with this for the pattern of an index
 abbrev pub remembered : ℕ → Start → List Start → List Start
@@ -24,12 +23,16 @@ remembered (suc i) s (old ∷ starts) = old ∷ remembered i s starts
 abbrev pub counted : ℕ → ℕ
 counted n = min n 18446744073709551615
 
+-- the buffer once it was searched for what the pattern of an index looks for
+abbrev pub once_sought : ℕ → Sought → Held → Held
+once_sought i k h = record h {
+  compared = counted (h.compared + compared_by h.bytes (known i k h.starts));
+  starts = remembered i (searched h.bytes (known i k h.starts)) h.starts;
+}
+
 -- the buffer once the pattern of an index was tried
 unfoldable pub once_tried : ℕ → Pattern → Held → Held
-once_tried i p h = record h {
-  compared = counted (h.compared + compared_by p (known_passed i (sought p) h.starts) h.bytes);
-  starts = remembered i (record { text = sought p; passed = places_passed (sought p) h.bytes (least_place (sought p) h.bytes) }) h.starts;
-}
+once_tried i p h = once_sought i (sought p) h
 
 -- and once all of these were tried, of which the first has this index
 unfoldable pub all_tried : ℕ → List Pattern → Held → Held

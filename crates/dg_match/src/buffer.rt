@@ -3,8 +3,8 @@ ghost use Rattle.std.specs.Prelude.{◌≡◌, ◌≤◌, ◌+◌, ◌*◌, ◌+
 ghost use Rattle.dg_match.specs.Groups.{regex_match};
 ghost use Rattle.dg_match.specs.Held.{emptied, heard, output_of, with_last, without_first, without_nulls};
 ghost use Rattle.dg_match.specs.Hits.{IsTried, IsAnswer, HasNoMatch, LiesIn, hit_of};
-ghost use Rattle.dg_match.specs.Starts.{IsPassed};
-ghost use Rattle.dg_match.specs.Tries.{AreTried, HasCompared, all_tried, counted, known_passed, once_tried, remembered, up_to};
+ghost use Rattle.dg_match.specs.Searches.{IsFound, compared_by, searched, sought_of};
+ghost use Rattle.dg_match.specs.Tries.{AreTried, HasCompared, all_tried, counted, known, once_sought, once_tried, remembered, up_to};
 ghost use Rattle.dg_match.specs.Literals.{IsNowhere, IsFirstPlace};
 ghost use Rattle.dg_glob.specs.Glob.{IsFirstSpan};
 
@@ -13,10 +13,10 @@ use crate::built::Built;
 use crate::found::{Found, first_match};
 use crate::hit::Hit;
 use crate::pattern::Pattern;
-use crate::search::{Search, search_glob, search_text, text_of};
-use crate::starts::Starts;
+use crate::starts::{Kind, Looked, Starts};
 use crate::watch::Watch;
 use dg_bytes::{Bytes, Seq};
+use dg_glob::Span;
 use memchr::memchr;
 use std::alloc::{AllocError, Global};
 use std::marker::Model;
@@ -43,7 +43,7 @@ pub struct Buffer {
 impl Model for Buffer {
     ghost use Rattle.std.specs.Prelude.{◌≤◌, length, drop};
     ghost use Rattle.dg_match.specs.Held.{Held, held_code};
-    ghost use Rattle.dg_match.specs.Starts.{AllPassed};
+    ghost use Rattle.dg_match.specs.Starts.{AllKept};
 
     ghost Value = { Held };
 
@@ -52,8 +52,8 @@ impl Model for Buffer {
     ghost view = { λ b. record { bytes = drop b.front b.bytes.items; max = b.max; compared = b.compared; starts = b.starts } };
 
     ghost invariant = { λ b. (b.front ≤ length b.bytes.items)
-        × AllPassed (drop b.front b.bytes.items) b.starts
-        × AllPassed (drop b.front b.bytes.items) b.watch
+        × AllKept (drop b.front b.bytes.items) b.starts
+        × AllKept (drop b.front b.bytes.items) b.watch
         × (length (drop b.front b.bytes.items) ≤ b.max) };
 }
 
@@ -84,10 +84,10 @@ fn extend(alloc: Global, bytes: &mut Vec<u8>, chunk: &[u8]) -> Result<(), AllocE
 }
 
 /// The match that a search for a glob or a literal has found.
-fn without_groups(alloc: Global, search: Search) -> Option<Found>
-    ensures { result ≡ option_map (λ s. record { start = s.start; end = s.end; groups = [] }) search.found }
+fn without_groups(alloc: Global, found: Option<Span>) -> Option<Found>
+    ensures { result ≡ option_map (λ s. record { start = s.start; end = s.end; groups = [] }) found }
 {
-    search.found.map(|span| Found {
+    found.map(|span| Found {
         start: span.start,
         end: span.end,
         groups: Seq::new(alloc),
@@ -234,34 +234,97 @@ impl Buffer {
     }
 
     /// Tries the glob of an index.
-    #[tactic(auto, unfolding(crate::specs::Tries::once_tried))]
-    fn try_glob(&mut self, alloc: Global, index: usize, glob: &[u8]) -> Result<Search, AllocError>
+    fn try_glob(
+        &mut self,
+        alloc: Global,
+        index: usize,
+        glob: &[u8],
+    ) -> Result<Option<Span>, AllocError>
         requires { index ≤ length self.old.starts }
-        ensures found { IfOk result (λ r. MatchOption r.found (HasNoMatch (Pattern.Glob glob.now) self.old.bytes)
+        ensures found { IfOk result (λ r. MatchOption r (HasNoMatch (Pattern.Glob glob.now) self.old.bytes)
             (λ s. IsFirstSpan glob.now self.old.bytes s.start s.end)) }
         ensures tried { OnOk result (self.new ≡ once_tried index (Pattern.Glob glob.now) self.old) }
         ensures err { OnErr result (self.new ≡ self.old) }
         ensures only { HasCompared (2 * length self.old.bytes) self.old self.new }
     {
-        let text = text_of(glob);
-        let search = search_glob(self.as_slice(), glob, self.passed(index, text));
-        self.note(alloc, index, text, search)?;
-        Ok(search)
+        self.look(alloc, index, Kind::Glob, glob)
     }
 
     /// Tries the literal of an index.
-    #[tactic(auto, unfolding(crate::specs::Tries::once_tried))]
-    fn try_text(&mut self, alloc: Global, index: usize, text: &[u8]) -> Result<Search, AllocError>
+    fn try_text(
+        &mut self,
+        alloc: Global,
+        index: usize,
+        text: &[u8],
+    ) -> Result<Option<Span>, AllocError>
         requires { index ≤ length self.old.starts }
-        ensures found { IfOk result (λ r. MatchOption r.found (IsNowhere text.now self.old.bytes)
+        ensures found { IfOk result (λ r. MatchOption r (IsNowhere text.now self.old.bytes)
             (λ s. IsFirstPlace text.now self.old.bytes s.start s.end)) }
         ensures tried { OnOk result (self.new ≡ once_tried index (Pattern.Exact text.now) self.old) }
         ensures err { OnErr result (self.new ≡ self.old) }
         ensures only { HasCompared (2 * length self.old.bytes) self.old self.new }
     {
-        let search = search_text(self.as_slice(), text, self.passed(index, text));
-        self.note(alloc, index, text, search)?;
-        Ok(search)
+        self.look(alloc, index, Kind::Text, text)
+    }
+
+    /// Searches for a text or a glob, counts what was compared, and remembers what is learned.
+    fn look(
+        &mut self,
+        alloc: Global,
+        index: usize,
+        kind: Kind,
+        text: &[u8],
+    ) -> Result<Option<Span>, AllocError>
+        requires { index ≤ length self.old.starts }
+        ensures found { IfOk result (λ r. IsFound self.old.bytes (sought_of kind text.now) r) }
+        ensures tried { OnOk result (self.new ≡ once_sought index (sought_of kind text.now) self.old) }
+        ensures err { OnErr result (self.new ≡ self.old) }
+        ensures only { HasCompared (2 * length self.old.bytes) self.old self.new }
+    {
+        let looked = self.search_for(alloc, index, kind, text)?;
+        self.count(looked.compared);
+        Ok(looked.found)
+    }
+
+    /// Searches for a text or a glob, and remembers what is learned.
+    fn search_for(
+        &mut self,
+        alloc: Global,
+        index: usize,
+        kind: Kind,
+        text: &[u8],
+    ) -> Result<Looked, AllocError>
+        requires { index ≤ length self.old.starts }
+        ensures state { OnOk result (self.new ≡ record self.old {
+          starts = remembered index (searched self.old.bytes (known index (sought_of kind text.now) self.old.starts)) self.old.starts;
+        }) }
+        ensures found { IfOk result (λ r. IsFound self.old.bytes (sought_of kind text.now) r.found) }
+        ensures compared { IfOk result (λ r. r.compared ≡ compared_by self.old.bytes (known index (sought_of kind text.now) self.old.starts)) }
+        ensures at_most { IfOk result (λ r. r.compared ≤ 2 * length self.old.bytes) }
+        ensures err { OnErr result (self.new ≡ self.old) }
+    {
+        let bytes = &self.bytes[self.front..];
+        let looked = self.starts.search_for(alloc, index, kind, text, bytes)?;
+        Ok(looked)
+    }
+
+    /// Counts bytes that were compared.
+    fn count(&mut self, compared: usize)
+        ensures value { self.new ≡ record self.old { compared = counted (self.old.compared + compared) } }
+        ensures only { HasCompared compared self.old self.new }
+    {
+        self.compared = self.compared.saturating_add(compared as u64);
+    }
+
+    /// Has an entry for a `-re` pattern, of which nothing is remembered.
+    fn skip(&mut self, alloc: Global, index: usize) -> Result<(), AllocError>
+        requires { index ≤ length self.old.starts }
+        ensures ok { OnOk result ((text : List ℕ) → self.new ≡ once_tried index (Pattern.Regex text) self.old) }
+        ensures err { OnErr result (self.new ≡ self.old) }
+        ensures only { HasCompared (2 * length self.old.bytes) self.old self.new }
+    {
+        self.look(alloc, index, Kind::Text, b"")?;
+        Ok(())
     }
 
     /// Tries the `-re` pattern of an index.
@@ -275,7 +338,7 @@ impl Buffer {
         ensures found { IfOk result (λ found. found ≡ regex_match built.now self.old.bytes) }
         ensures tried { OnOk result (self.new ≡ once_tried index (Pattern.Regex built.now) self.old) }
         ensures err { OnErr result (self.new ≡ self.old) }
-        ensures only { HasCompared 0 self.old self.new }
+        ensures only { HasCompared (2 * length self.old.bytes) self.old self.new }
     {
         let found = if self.lacks(alloc, index, built)? || self.excludes(built) {
             None
@@ -314,48 +377,6 @@ impl Buffer {
     {
         let bytes = &self.bytes[self.front..];
         self.automata.exclude(built.text(), bytes)
-    }
-
-    /// How many places a text that stands in every match of the pattern of this index is known
-    /// to have passed.
-    fn passed(&self, index: usize, text: &[u8]) -> usize
-        ensures passed { IsPassed text.now self.now.bytes result }
-        ensures known { result ≡ known_passed index text.now self.now.starts }
-    {
-        self.starts.passed(index, text)
-    }
-
-    /// Counts what a search has compared, and remembers the places that it has passed.
-    fn note(
-        &mut self,
-        alloc: Global,
-        index: usize,
-        text: &[u8],
-        search: Search,
-    ) -> Result<(), AllocError>
-        requires within { index ≤ length self.old.starts }
-        requires passed { IsPassed text.now self.old.bytes search.passed }
-        ensures ok { OnOk result (self.new ≡ record self.old {
-          compared = counted (self.old.compared + search.compared);
-          starts = remembered index (record { text = text.now; passed = search.passed }) self.old.starts;
-        }) }
-        ensures err { OnErr result (self.new ≡ self.old) }
-        ensures only { HasCompared search.compared self.old self.new }
-    {
-        self.starts.pass(alloc, index, text, search.passed)?;
-        self.compared = self.compared.saturating_add(search.compared as u64);
-        Ok(())
-    }
-
-    /// Remembers nothing of a pattern of which the whole buffer is searched.
-    #[tactic(auto, unfolding(crate::specs::Tries::once_tried))]
-    fn skip(&mut self, alloc: Global, index: usize) -> Result<(), AllocError>
-        requires { index ≤ length self.old.starts }
-        ensures ok { OnOk result ((text : List ℕ) → self.new ≡ once_tried index (Pattern.Regex text) self.old) }
-        ensures err { OnErr result (self.new ≡ self.old) }
-        ensures only { HasCompared 0 self.old self.new }
-    {
-        self.note(alloc, index, b"", Search::of_nothing())
     }
 
     /// Takes the bytes up to the end of a hit out of the buffer and gives them. Where a growth is

@@ -1,35 +1,145 @@
-//! What is remembered of the last patterns: starts at which they can't match any more.
-ghost use Rattle.std.specs.Prelude.{◌≡◌, List, ℕ, [], ◌≤◌, OnErr, OnOk, length, drop, map};
+//! What is remembered of the last patterns: where they can't match any more.
+ghost use Rattle.std.specs.Prelude.{◌≡◌, ◌≤◌, ◌<◌, ◌*◌, IfOk, IsTrue, List, ℕ, OnErr, OnOk, [], drop, false, get_or, length, map};
+ghost use Rattle.dg_match.specs.declared.starts.Start.{Start};
 ghost use Rattle.dg_match.specs.Held.{later};
-ghost use Rattle.dg_match.specs.Starts.{IsPassed, AllPassed};
-ghost use Rattle.dg_match.specs.Tries.{known_passed, remembered};
+ghost use Rattle.dg_match.specs.Searches.{IsFound, compared_by, is_same_sought, nothing_known, searched, sought_of};
+ghost use Rattle.dg_match.specs.Starts.{AllKept, IsKept};
+ghost use Rattle.dg_match.specs.Tries.{known, remembered};
 
-use dg_bytes::{Bytes, is_same};
+use crate::search::{search_glob, search_text};
+use dg_bytes::is_same;
+use dg_glob::{Parts, Span, Trail};
+use memchr::memmem::Finder;
 use std::alloc::{AllocError, Global};
 use std::marker::Model;
 
-/// A text, and how many of the buffer's first places it can't stand at, whatever comes behind.
+/// What a pattern's text is.
+#[derive(Clone, Copy)]
+pub(crate) enum Kind {
+    Text,
+    Glob,
+}
+
+/// What is looked for: a text, or the parts of a glob.
+#[derive(Drop)]
+enum Sought {
+    Text(Finder<'static>),
+    Glob(Parts),
+}
+
+/// What is looked for, how many parts of it are found if it is a glob, and how many of the buffer's
+/// first places it can't stand at, or its next part can't, whatever comes behind.
 #[derive(Drop)]
 struct Start {
-    text: Bytes,
+    sought: Sought,
+    found: usize,
     passed: usize,
 }
 
-impl Start {
-    /// Puts so many places for this text, or changes nothing.
-    fn pass(&mut self, alloc: Global, text: &[u8], passed: usize) -> Result<(), AllocError>
-        ensures ok { OnOk result (self.new ≡ record { text = text.now; passed = passed }) }
-        ensures err { OnErr result (self.new ≡ self.old) }
+/// What a search has found, and how many bytes it has compared.
+#[derive(Clone, Copy)]
+pub(crate) struct Looked {
+    pub(crate) found: Option<Span>,
+    pub(crate) compared: usize,
+}
+
+impl Sought {
+    /// What a pattern of this kind and text looks for.
+    fn of(alloc: Global, kind: Kind, text: &[u8]) -> Result<Sought, AllocError>
+        ensures { IfOk result (λ k. k ≡ sought_of kind text.now) }
     {
-        if !self.text.is(text) {
-            self.text = Bytes::from_slice(alloc, text)?;
+        match kind {
+            Kind::Text => {
+                let finder = Finder::new(text).into_owned(alloc)?;
+                Ok(Sought::Text(finder))
+            }
+            Kind::Glob => {
+                let parts = Parts::new(alloc, text)?;
+                Ok(Sought::Glob(parts))
+            }
         }
-        self.passed = passed;
-        Ok(())
+    }
+
+    /// Whether this is what a pattern of this kind and text looks for.
+    fn is(&self, kind: Kind, text: &[u8]) -> bool
+        ensures { result ≡ is_same_sought self.now (sought_of kind text.now) }
+    {
+        match self {
+            Sought::Text(finder) => match kind {
+                Kind::Text => is_same(finder.needle(), text),
+                Kind::Glob => false,
+            },
+            Sought::Glob(parts) => match kind {
+                Kind::Text => false,
+                Kind::Glob => is_same(parts.glob(), text),
+            },
+        }
     }
 }
 
-/// For the patterns tried last, in their order, a text that stands in each match of the pattern.
+impl Start {
+    /// Nothing is known of it yet.
+    fn of(alloc: Global, kind: Kind, text: &[u8]) -> Result<Start, AllocError>
+        ensures { IfOk result (λ s. s ≡ nothing_known (sought_of kind text.now)) }
+    {
+        let sought = Sought::of(alloc, kind, text)?;
+        Ok(Start {
+            sought,
+            found: 0,
+            passed: 0,
+        })
+    }
+
+    /// Whether this is what is looked for.
+    fn is_of(&self, kind: Kind, text: &[u8]) -> bool
+        ensures { result ≡ is_same_sought self.now.sought (sought_of kind text.now) }
+    {
+        self.sought.is(kind, text)
+    }
+
+    /// Searches the buffer where it isn't known yet that there is no match.
+    fn search(&mut self, bytes: &[u8]) -> Looked
+        requires { IsKept bytes.now self.old }
+        ensures state { self.new ≡ searched bytes.now self.old }
+        ensures compared { result.compared ≡ compared_by bytes.now self.old }
+        ensures at_most { result.compared ≤ 2 * length bytes.now }
+        ensures found { IsFound bytes.now self.old.sought result.found }
+        ensures kept { IsKept bytes.now self.new }
+    {
+        match &self.sought {
+            Sought::Text(finder) => {
+                let search = search_text(bytes, finder, self.passed);
+                self.passed = search.passed;
+                Looked {
+                    found: search.found,
+                    compared: search.compared,
+                }
+            }
+            Sought::Glob(parts) => {
+                let trail = Trail {
+                    found: self.found,
+                    passed: self.passed,
+                };
+                let search = search_glob(bytes, parts, trail);
+                self.found = search.left.found;
+                self.passed = search.left.passed;
+                Looked {
+                    found: search.found,
+                    compared: search.compared,
+                }
+            }
+        }
+    }
+
+    /// Counts the places anew where so many bytes were cut from the buffer's front.
+    fn cut(&mut self, count: usize)
+        ensures { self.new ≡ later count self.old }
+    {
+        self.passed = self.passed.saturating_sub(count);
+    }
+}
+
+/// What is remembered of the patterns tried last, in their order.
 #[derive(Drop)]
 pub(crate) struct Starts {
     entries: Vec<Start>,
@@ -54,47 +164,106 @@ impl Starts {
         }
     }
 
-    /// How many places are passed for the pattern of this index, if it was this text then.
-    pub(crate) fn passed(&self, index: usize, text: &[u8]) -> usize
-        ensures known { result ≡ known_passed index text.now self.now }
-        ensures passed { (bytes : List ℕ) → AllPassed bytes self.now → IsPassed text.now bytes result }
+    /// Whether this is what the pattern of this index looked for.
+    fn holds(&self, index: usize, kind: Kind, text: &[u8]) -> bool
+        ensures yes { IsTrue result → remembered index (known index (sought_of kind text.now) self.now) self.now ≡ self.now }
+        ensures within { IsTrue result → index < length self.now }
+        ensures no { result ≡ false → known index (sought_of kind text.now) self.now ≡ nothing_known (sought_of kind text.now) }
     {
         match self.entries.get(index) {
-            Some(start) if is_same(start.text.as_slice(), text) => start.passed,
-            _ => 0,
+            Some(start) => start.is_of(kind, text),
+            None => false,
         }
     }
 
-    /// Remembers how many places are passed for the pattern of this index, in place of what was
-    /// remembered for it. Where a growth is refused nothing is changed.
-    pub(crate) fn pass(
+    /// Remembers this of the pattern of an index, in place of what was remembered of it, or changes
+    /// nothing.
+    fn put(&mut self, index: usize, start: Start) -> Result<(), AllocError>
+        requires { index ≤ length self.old }
+        ensures ok { OnOk result (self.new ≡ remembered index start self.old) }
+        ensures err { OnErr result (self.new ≡ self.old) }
+    {
+        if let Some(old) = self.entries.get_mut(index) {
+            *old = start;
+            return Ok(());
+        }
+        self.entries.push(start)?;
+        Ok(())
+    }
+
+    /// Has an entry for what the pattern of this index looks for: the one of the last try, if that was
+    /// for the same. Where a growth is refused nothing is changed.
+    fn hold(
         &mut self,
         alloc: Global,
         index: usize,
+        kind: Kind,
         text: &[u8],
-        passed: usize,
     ) -> Result<(), AllocError>
         requires { index ≤ length self.old }
         ensures ok { OnOk result (self.new ≡
-            remembered index (record { text = text.now; passed = passed }) self.old) }
+            remembered index (known index (sought_of kind text.now) self.old) self.old) }
         ensures err { OnErr result (self.new ≡ self.old) }
     {
-        if let Some(start) = self.entries.get_mut(index) {
-            return start.pass(alloc, text, passed);
+        if self.holds(index, kind, text) {
+            return Ok(());
         }
-        let text = Bytes::from_slice(alloc, text)?;
-        self.entries.push(Start { text, passed })?;
-        Ok(())
+        let start = Start::of(alloc, kind, text)?;
+        self.put(index, start)
+    }
+
+    /// Searches the buffer for what the pattern of an index looks for.
+    fn search(&mut self, index: usize, bytes: &[u8]) -> Looked
+        requires within { index < length self.old }
+        requires kept { AllKept bytes.now self.old }
+        ensures state { (s : Start) → s ≡ get_or self.old index s → self.new ≡ remembered index (searched bytes.now s) self.old }
+        ensures compared { (s : Start) → s ≡ get_or self.old index s → result.compared ≡ compared_by bytes.now s }
+        ensures found { (s : Start) → s ≡ get_or self.old index s → IsFound bytes.now s.sought result.found }
+        ensures at_most { result.compared ≤ 2 * length bytes.now }
+        ensures kept { AllKept bytes.now self.new }
+    {
+        if let Some(start) = self.entries.get_mut(index) {
+            return start.search(bytes);
+        }
+        Looked {
+            found: None,
+            compared: 0,
+        }
+    }
+
+    /// Searches the buffer for a text or a glob, and remembers what the search has learned of the
+    /// pattern of this index. Where a growth is refused nothing is changed.
+    pub(crate) fn search_for(
+        &mut self,
+        alloc: Global,
+        index: usize,
+        kind: Kind,
+        text: &[u8],
+        bytes: &[u8],
+    ) -> Result<Looked, AllocError>
+        requires within { index ≤ length self.old }
+        requires kept { AllKept bytes.now self.old }
+        ensures state { OnOk result (self.new ≡
+            remembered index (searched bytes.now (known index (sought_of kind text.now) self.old)) self.old) }
+        ensures compared { IfOk result (λ r. r.compared ≡ compared_by bytes.now (known index (sought_of kind text.now) self.old)) }
+        ensures at_most { IfOk result (λ r. r.compared ≤ 2 * length bytes.now) }
+        ensures found { IfOk result (λ r. IsFound bytes.now (sought_of kind text.now) r.found) }
+        ensures err { OnErr result (self.new ≡ self.old) }
+        ensures kept { AllKept bytes.now self.new }
+    {
+        self.hold(alloc, index, kind, text)?;
+        let looked = self.search(index, bytes);
+        Ok(looked)
     }
 
     /// Counts the places anew where so many bytes were cut from the buffer's front.
     pub(crate) fn cut(&mut self, count: usize)
         ensures value { self.new ≡ map (later count) self.old }
-        ensures passed { (bytes : List ℕ) → count ≤ length bytes → AllPassed bytes self.old →
-            AllPassed (drop count bytes) self.new }
+        ensures passed { (bytes : List ℕ) → count ≤ length bytes → AllKept bytes self.old →
+            AllKept (drop count bytes) self.new }
     {
         for start in self.entries.iter_mut() {
-            start.passed = start.passed.saturating_sub(count);
+            start.cut(count);
         }
     }
 }

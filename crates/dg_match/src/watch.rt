@@ -4,11 +4,10 @@ ghost use Rattle.regex_extract.specs.Needles.{needles_of};
 ghost use Rattle.dg_match.specs.Groups.{regex_match};
 ghost use Rattle.dg_match.specs.Literals.{IsNowhere};
 ghost use Rattle.dg_match.specs.Needs.{NeedsOneOf};
-ghost use Rattle.dg_match.specs.Starts.{AllPassed};
+ghost use Rattle.dg_match.specs.Starts.{AllKept};
 
 use crate::needs::Needs;
-use crate::search::search_text;
-use crate::starts::Starts;
+use crate::starts::{Kind, Starts};
 use std::alloc::{AllocError, Global};
 use std::marker::Model;
 
@@ -48,8 +47,8 @@ impl Watch {
 
     /// Counts the places anew where so many bytes were cut from the buffer's front.
     pub(crate) fn cut(&mut self, count: usize)
-        ensures { (bytes : List ℕ) → count ≤ length bytes → AllPassed bytes self.old →
-            AllPassed (drop count bytes) self.new }
+        ensures { (bytes : List ℕ) → count ≤ length bytes → AllKept bytes self.old →
+            AllKept (drop count bytes) self.new }
     {
         self.starts.cut(count);
     }
@@ -62,10 +61,10 @@ impl Watch {
         index: usize,
         needs: &Needs,
     ) -> Result<bool, AllocError>
-        requires { AllPassed bytes.now self.old }
+        requires { AllKept bytes.now self.old }
         ensures none { IfOk result (λ r. IsTrue r → (text : List ℕ) →
             All (λ s. NeedsOneOf text (needles_of s)) needs.now.sets.items → regex_match text bytes.now ≡ None) }
-        ensures passed { AllPassed bytes.now self.new }
+        ensures passed { AllKept bytes.now self.new }
     {
         self.turn_to(index);
         for texts in needs.sets.iter() {
@@ -93,9 +92,9 @@ impl Watch {
         bytes: &[u8],
         texts: &[Vec<u8>],
     ) -> Result<bool, AllocError>
-        requires { AllPassed bytes.now self.old }
+        requires { AllKept bytes.now self.old }
         ensures nowhere { IfOk result (λ r. IsTrue r → All (λ t. IsNowhere t bytes.now) (map (λ n. n.items) texts.now)) }
-        ensures passed { AllPassed bytes.now self.new }
+        ensures passed { AllKept bytes.now self.new }
     {
         for text in texts {
             if self.finds(alloc, bytes, text.as_slice())? {
@@ -108,13 +107,14 @@ impl Watch {
     /// Whether a text stands in the bytes. Only those behind the places that it is known to have
     /// passed are read.
     fn finds(&mut self, alloc: Global, bytes: &[u8], text: &[u8]) -> Result<bool, AllocError>
-        requires { AllPassed bytes.now self.old }
+        requires { AllKept bytes.now self.old }
         ensures nowhere { IfOk result (λ r. r ≡ false → IsNowhere text.now bytes.now) }
-        ensures passed { AllPassed bytes.now self.new }
+        ensures passed { AllKept bytes.now self.new }
     {
-        let search = search_text(bytes, text, self.starts.passed(self.turn, text));
-        self.starts.pass(alloc, self.turn, text, search.passed)?;
+        let looked = self
+            .starts
+            .search_for(alloc, self.turn, Kind::Text, text, bytes)?;
         self.turn = self.turn.saturating_add(1);
-        Ok(search.found.is_some())
+        Ok(looked.found.is_some())
     }
 }

@@ -28,4 +28,5 @@ returns-in-Some c =
     least_found _ _ c.min-from.result (omega (arith, from)) (passed_fewer _ _ _ _ (omega (arith, from)) c.requires) c.in-Some.place found.0 found.1 in
     let fits = least.place.fits in
     let behind = passed_below _ _ c.args.passed (c.min-from.result + c.in-Some.place) c.requires least.place in
-    (least, least_is _ _ _ least, omega (arith, from, fits, behind), omega (arith, from, fits))
+    let size = c.length_of.ensures in
+    (least, least_is _ _ _ least, omega (arith, from, fits, behind, size), omega (arith, from, fits, size))

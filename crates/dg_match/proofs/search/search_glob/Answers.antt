@@ -1,15 +1,26 @@
-use Rattle.dg_match.proofs.OccursLemmas.{passed_least}
-use Rattle.dg_match.proofs.SpanLemmas.{no_text_no_span}
+use Rattle.std.proofs.Common.{arith}
+use Rattle.dg_glob.proofs.PartLemmas.{trail_begins}
+use Rattle.dg_match.proofs.GlobLemmas.{counted_all, counted_some, left_all, left_some}
 use Rattle.dg_match.proofs.search.search_glob.Goals as goal
 
-pub first_place-requires : goal.first_place-requires
-first_place-requires c = rw c.text_of-text.ensures c.requires
+pub returns-then-whole-clause-known : goal.returns-then-whole-clause-known
+returns-then-whole-clause-known c = trail_begins c.args.parts.now c.args.bytes.now
 
-pub returns-in-Nowhere-clause-found : goal.returns-in-Nowhere-clause-found
-returns-in-Nowhere-clause-found c = no_text_no_span _ _ (rw c.text_of-text.ensures at c.in-Nowhere.ensures.0)
+pub returns-then-whole-clause-left : goal.returns-then-whole-clause-left
+returns-then-whole-clause-left c = left_all c.args.parts.now c.args.bytes.now c.args.trail.found c.args.trail.passed _ _ _ c.follow-left.ensures.value c.count.ensures c.if-whole.true
 
-pub returns-in-Nowhere-clause-passed : goal.returns-in-Nowhere-clause-passed
-returns-in-Nowhere-clause-passed c = rw (← c.text_of-text.ensures) c.passed_by.ensures.passed
+pub returns-then-whole-clause-counted : goal.returns-then-whole-clause-counted
+returns-then-whole-clause-counted c =
+    let all = counted_all c.args.parts.now c.args.bytes.now c.args.trail.found c.args.trail.passed _ _ _ c.follow-left.ensures.value c.count.ensures c.if-whole.true in
+    let read = c.saturating_sub-read.ensures in
+    let both = c.saturating_add.ensures in
+    omega arith
 
-pub returns-in-At-clause-passed : goal.returns-in-At-clause-passed
-returns-in-At-clause-passed c = rw (← c.text_of-text.ensures) (passed_least _ _ _ c.in-At.ensures.0)
+pub returns-clause-left : goal.returns-clause-left
+returns-clause-left c = left_some c.args.parts.now c.args.bytes.now c.args.trail.found c.args.trail.passed _ _ _ c.follow-left.ensures.value c.count.ensures c.if-whole.false
+
+pub returns-clause-counted : goal.returns-clause-counted
+returns-clause-counted c =
+    let some = counted_some c.args.parts.now c.args.bytes.now c.args.trail.found c.args.trail.passed _ _ _ c.follow-left.ensures.value c.count.ensures c.if-whole.false in
+    let read = c.saturating_sub-read.ensures in
+    omega arith

@@ -1,5 +1,5 @@
-use Rattle.dg_match.proofs.TryLemmas.{once_tried_ok}
+use Rattle.dg_match.proofs.TryLemmas.{regex_tried}
 use Rattle.dg_match.proofs.buffer.Buffer.skip.Goals as goal
 
 pub returns-clause-ok : goal.returns-clause-ok
-returns-clause-ok c = once_tried_ok c.note.result c.args.index c.args.self.now c.note.new.self (rw c.of_nothing.ensures at c.note.ensures.ok)
+returns-clause-ok c = λ text. regex_tried c.args.index text c.args.self.now c.look.new.self c.in_ok-look.ensures.tried

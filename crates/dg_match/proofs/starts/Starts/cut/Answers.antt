@@ -5,7 +5,7 @@ use Rattle.dg_match.proofs.starts.Starts.cut.Goals as goal
 pub loop-start-preserved : goal.loop-start-preserved
 loop-start-preserved c =
     let size = ap length (c.deref_mut-start-items.ensures.value ∙ c.self.view_is) in
-    cut_step c.args.count c.loop-start.start-index _ c.args.self.now c.loop-start.start-items c.start-item.result (omega (arith, size, c.loop-start-test.true)) c.loop-start.invariant c.start-item.is c.saturating_sub-start.ensures
+    cut_step c.args.count c.loop-start.start-index c.args.self.now c.loop-start.start-items c.start-item.result c.cut.new.self (omega (arith, size, c.loop-start-test.true)) c.loop-start.invariant c.start-item.is c.cut.ensures
 
 pub returns : goal.returns
 returns c =

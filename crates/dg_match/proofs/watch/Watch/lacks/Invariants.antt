@@ -1,5 +1,5 @@
-use Rattle.dg_match.specs.Starts.{AllPassed}
+use Rattle.dg_match.specs.Starts.{AllKept}
 use Rattle.dg_match.proofs.watch.Watch.lacks.Given as goal
 
 abbrev pub invariant-loop-texts : goal.invariant-loop-texts
-invariant-loop-texts l = AllPassed l.bytes l.self
+invariant-loop-texts l = AllKept l.bytes l.self
