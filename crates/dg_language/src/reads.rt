@@ -1,7 +1,10 @@
 //! The answers that an evaluation has had.
-ghost use Rattle.std.specs.Prelude.{◌≡◌, ◌++◌, ◌∷◌, [], None, Some, OnOk, IfOk, IfSome};
-ghost use Rattle.std.specs.Option.{option_copied};
+ghost use Rattle.std.specs.Prelude.{◌≡◌, ◌++◌, ◌∷◌, [], None, Some, OnOk, IfOk, IfSome, IsTrue};
+ghost use Rattle.std.specs.List.{find};
+ghost use Rattle.std.specs.Option.{option_copied, option_map};
 ghost use Rattle.dg_language.specs.Play.{lookup};
+ghost use Rattle.dg_language.specs.Reads.{are_new, reads_of};
+ghost use Rattle.dg_world.specs.Question.{same_question};
 
 use dg_bytes::Seq;
 use dg_transcript::Entry;
@@ -9,26 +12,86 @@ use dg_world::{Answer, Question, Read, TestId};
 use indexmap::IndexMap;
 use std::alloc::{AllocError, Global};
 use std::marker::Model;
+use std::mem;
 
-/// The questions that were answered, each once, and found by their hashes. A contract sees the list
-/// of them with their answers, in the order in which they came.
+/// How many answers are looked through one by one: most evaluations have no more.
+const NEAR: usize = 16;
+
+/// What is kept of the answers.
+#[derive(Drop)]
+enum Form {
+    /// At most 16, in a row.
+    Few(Vec<Read>),
+    /// More, found by the hashes of their questions.
+    Many(IndexMap<Question, Answer>),
+}
+
+/// The questions that were answered, each once. A contract sees the list of them with their answers, in the order in which
+/// they came.
 pub struct Reads {
-    answers: IndexMap<Question, Answer>,
+    form: Form,
 }
 
 impl Drop for Reads {
     fn drop(self) {
-        let Reads { answers: _ } = self;
+        let Reads { form: _ } = self;
     }
 }
 
 impl Model for Reads {
-    ghost use Rattle.std.specs.Prelude.{List, map};
+    ghost use Rattle.std.specs.Prelude.{List, IsTrue};
     ghost use Rattle.dg_world.specs.declared.question.Read.{Read};
+    ghost use Rattle.dg_language.specs.Reads.{is_once, reads_held};
 
     ghost Value = { List Read };
 
-    ghost view = { λ r. map (λ e. record { question = e.0; answer = e.1 }) r.answers.entries };
+    ghost view = { λ r. reads_held r.form };
+
+    ghost invariant = { λ r. IsTrue (is_once r.form) };
+}
+
+/// The first answer to a question among reads.
+fn answer_among<'a>(reads: &'a [Read], question: &Question) -> Option<&'a Answer>
+    ensures { option_copied result ≡ option_map (λ read. read.answer) (find (λ read. same_question read.question question.now) reads.now) }
+{
+    let read = reads.iter().find(|read| read.question.is(question))?;
+    Some(&read.answer)
+}
+
+/// Notes the answer to a question that had none.
+fn add(
+    answers: &mut IndexMap<Question, Answer>,
+    question: Question,
+    answer: Answer,
+) -> Result<(), AllocError>
+    requires { lookup question (reads_of answers.old.entries) ≡ None }
+    ensures { OnOk result (reads_of answers.new.entries ≡ reads_of answers.old.entries ++ record { question = question; answer = answer } ∷ []) }
+{
+    answers.insert(question, answer)?;
+    Ok(())
+}
+
+/// The same reads, found by the hashes of their questions.
+fn hashed(alloc: Global, reads: Vec<Read>) -> Result<IndexMap<Question, Answer>, AllocError>
+    requires { IsTrue (are_new [] reads.items) }
+    ensures { IfOk result (λ answers. reads_of answers.entries ≡ reads.items) }
+{
+    let mut answers = IndexMap::with_capacity(alloc, reads.len())?;
+    for Read { question, answer } in reads {
+        add(&mut answers, question, answer)?;
+    }
+    Ok(answers)
+}
+
+/// The same reads as a list.
+fn listed(answers: IndexMap<Question, Answer>) -> Result<Seq<Read>, AllocError>
+    ensures { IfOk result (λ reads. reads ≡ reads_of answers.entries) }
+{
+    let mut reads = Vec::with_capacity(*answers.allocator(), answers.len())?;
+    for (question, answer) in answers {
+        reads.push(Read { question, answer })?;
+    }
+    Ok(Seq::from_vec(reads))
 }
 
 impl Reads {
@@ -37,7 +100,7 @@ impl Reads {
         ensures { result ≡ [] }
     {
         Reads {
-            answers: IndexMap::new(alloc),
+            form: Form::Few(Vec::new(alloc)),
         }
     }
 
@@ -45,16 +108,30 @@ impl Reads {
     pub fn answer_to(&self, question: &Question) -> Option<&Answer>
         ensures { option_copied result ≡ lookup question.now self.now }
     {
-        self.answers.get(question)
+        match &self.form {
+            Form::Few(reads) => answer_among(reads.as_slice(), question),
+            Form::Many(answers) => answers.get(question),
+        }
+    }
+
+    /// The question that was answered last, and its answer.
+    fn last(&self) -> Option<(&Question, &Answer)>
+        ensures { IfSome result (λ last. lookup last.0.now self.now ≡ Some last.1.now) }
+    {
+        match &self.form {
+            Form::Few(reads) => {
+                let last = reads.last()?;
+                Some((&last.question, &last.answer))
+            }
+            Form::Many(answers) => answers.get_index(answers.len().saturating_sub(1)),
+        }
     }
 
     /// The entry at a place of a session of a test, where that was answered last.
     pub fn last_entry(&self, test: &TestId, session: u32, place: u32) -> Option<&Entry>
         ensures { IfSome result (λ e. lookup (Question.Entry (record { test = test.now; session = session; place = place })) self.now ≡ Some (Answer.Entry e.now)) }
     {
-        let (question, answer) = self
-            .answers
-            .get_index(self.answers.len().saturating_sub(1))?;
+        let (question, answer) = self.last()?;
         let Question::Entry(at) = question else {
             return None;
         };
@@ -73,7 +150,18 @@ impl Reads {
         requires { lookup question self.old ≡ None }
         ensures { OnOk result (self.new ≡ self.old ++ record { question = question; answer = answer } ∷ []) }
     {
-        self.answers.insert(question, answer)?;
+        match &mut self.form {
+            Form::Few(reads) if reads.len() < NEAR => {
+                reads.push(Read { question, answer })?;
+            }
+            Form::Few(reads) => {
+                let alloc = *reads.allocator();
+                let mut answers = hashed(alloc, mem::replace(reads, Vec::new(alloc)))?;
+                add(&mut answers, question, answer)?;
+                self.form = Form::Many(answers);
+            }
+            Form::Many(answers) => add(answers, question, answer)?,
+        }
         Ok(())
     }
 
@@ -81,11 +169,10 @@ impl Reads {
     pub fn into_reads(self) -> Result<Seq<Read>, AllocError>
         ensures { IfOk result (λ reads. reads ≡ self) }
     {
-        let Reads { answers } = self;
-        let mut reads = Vec::with_capacity(*answers.allocator(), answers.len())?;
-        for (question, answer) in answers {
-            reads.push(Read { question, answer })?;
+        let Reads { form } = self;
+        match form {
+            Form::Few(reads) => Ok(Seq::from_vec(reads)),
+            Form::Many(answers) => listed(answers),
         }
-        Ok(Seq::from_vec(reads))
     }
 }
