@@ -1,5 +1,5 @@
 //! What an evaluation has made so far.
-ghost use Rattle.std.specs.Prelude.{◌≡◌, ◌<◌, ◌≤◌, ◌++◌, ℕ, List, None, Some, Ok, Err, OnOk, IfOk, IfSome, MatchResult, length, nat_lt};
+ghost use Rattle.std.specs.Prelude.{◌≡◌, ◌<◌, ◌≤◌, ◌++◌, ℕ, List, None, Some, Ok, Err, OnOk, IfOk, IfSome, MatchResult, length, nat_lt, true};
 ghost use Rattle.std.specs.Option.{option_copied};
 ghost use Rattle.std.specs.FinMap as map;
 ghost use Rattle.dg_scope.specs.Scopes.{value_limit, value_of, with_value};
@@ -277,6 +277,16 @@ impl State {
         if !self.is_to_begin(name) {
             return Ok(Touch::Ready);
         }
+        Ok(self.touch_first(alloc, name)?)
+    }
+
+    /// Makes a global that has not begun ready for its first use.
+    #[cold]
+    #[inline(never)]
+    fn touch_first(&mut self, alloc: Global, name: &[u8]) -> Result<Touch, AllocError>
+        requires { is_to_begin name.now self.old ≡ true }
+        ensures { IfOk result (Touches name.now self.old self.new) }
+    {
         let global = global_name(name);
         let question = Question::Variable(Bytes::from_slice(alloc, global)?);
         let Some(answer) = self.answer_to(&question) else {
@@ -324,6 +334,9 @@ impl State {
     pub fn value_in_use(&self, name: &[u8]) -> Option<&Bytes>
         ensures { option_copied result ≡ value_in_use name.now self.now }
     {
+        if let Some(value) = self.variables.own(name) {
+            return Some(value);
+        }
         if self.is_to_begin(name) {
             return None;
         }

@@ -66,20 +66,24 @@ pub(crate) fn own_value<'a>(names: &'a Table<Slot>, name: &[u8]) -> Option<&'a B
     }
 }
 
-/// Exchanges the value that a name has in a scope of its own for another, if it has one.
+/// Exchanges the value that a name has in a scope of its own for another, if it has one. A link is put back.
+#[tactic(auto, using(crate::proofs::Exchanges::map_twice, crate::proofs::Exchanges::map_same, crate::proofs::Exchanges::map_has))]
 pub(crate) fn exchange_own(
     alloc: Global,
     names: &mut Table<Slot>,
     name: &[u8],
     value: &mut Bytes,
 ) -> bool
-    requires { is_link (map.get names.old name.now) ≡ false }
     ensures found { result ≡ is_some (held (map.get names.old name.now)) }
     ensures exchanged { IsTrue result → (held (map.get names.old name.now) ≡ Some value.new) × (names.new ≡ map.insert names.old name.now (Held value.old)) }
     ensures absent { IsFalse result → (names.new ≡ names.old) × (value.new ≡ value.old) }
 {
     let mut slot = Slot::Held(mem::replace(value, Bytes::new(alloc)));
-    let found = names.exchange(name, &mut slot);
+    let mut found = names.exchange(name, &mut slot);
+    if let Slot::Link = &slot {
+        names.exchange(name, &mut slot);
+        found = false;
+    }
     if let Slot::Held(text) = slot {
         *value = text;
     }

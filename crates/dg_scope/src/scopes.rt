@@ -102,7 +102,7 @@ impl Scopes {
     /// The value of a name that is no global's where evaluation is now, as far as one look tells: none for a name that begins
     /// with `::` or ends as an element's does.
     #[tactic(auto, using(crate::proofs::Links::plain_is_no_global))]
-    fn own(&self, name: &[u8]) -> Option<&Bytes>
+    pub fn own(&self, name: &[u8]) -> Option<&Bytes>
         ensures local { IfSome result (λ _. means_global self.now name.now ≡ false) }
         ensures value { IfSome result (λ value. value_of self.now name.now ≡ Some value.now) }
     {
@@ -159,6 +159,9 @@ impl Scopes {
             return Err(ScopeFault::TooLong);
         }
         value.keep(alloc)?;
+        if self.exchange_here(alloc, name, &mut value) {
+            return Ok(());
+        }
         let is_global = self.is_global(name);
         match &mut self.current {
             Scope::Local(names) if !is_global => names.insert(alloc, name, Slot::Held(value))?,
@@ -279,12 +282,28 @@ impl Scopes {
         }
     }
 
+    /// Exchanges the value of a name that is no global's where evaluation is now for another, if it is set and as far as one
+    /// look tells.
+    #[tactic(auto, using(crate::proofs::Links::plain_is_no_global))]
+    fn exchange_here(&mut self, alloc: Global, name: &[u8], value: &mut Bytes) -> bool
+        ensures exchanged { IsTrue result → (value_of self.old name.now ≡ Some value.new) × (self.new ≡ with_value self.old name.now value.old) }
+        ensures absent { IsFalse result → (self.new ≡ self.old) × (value.new ≡ value.old) }
+    {
+        match &mut self.current {
+            Scope::Local(names) if is_plain(name) => exchange_own(alloc, names, name, value),
+            _ => false,
+        }
+    }
+
     /// Exchanges the value of a name for another, if it is set.
     fn exchange(&mut self, alloc: Global, name: &[u8], value: &mut Bytes) -> bool
         ensures found { result ≡ is_some (value_of self.old name.now) }
         ensures exchanged { IsTrue result → (value_of self.old name.now ≡ Some value.new) × (self.new ≡ with_value self.old name.now value.old) }
         ensures absent { IsFalse result → (self.new ≡ self.old) × (value.new ≡ value.old) }
     {
+        if self.exchange_here(alloc, name, value) {
+            return true;
+        }
         let is_global = self.is_global(name);
         match &mut self.current {
             Scope::Local(names) if !is_global => exchange_own(alloc, names, name, value),
