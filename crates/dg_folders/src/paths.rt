@@ -4,11 +4,16 @@ ghost use Rattle.dg_folders.specs.Paths.{beside, in_folder, is_tool_folder, sum_
 
 use std::alloc::{AllocError, Global};
 
+/// How many bytes a path has room for beside its folder and its name: a slash, and a short ending.
+const ENDING: usize = 8;
+
 /// A name in a folder.
 pub fn in_folder(alloc: Global, folder: &str, name: &str) -> Result<String, AllocError>
     ensures { IfOk result (λ path. string_bytes path ≡ in_folder folder.now name.now) }
 {
-    let mut path = String::from_str(alloc, folder)?;
+    let names = folder.len().saturating_add(name.len());
+    let mut path = String::with_capacity(alloc, names.saturating_add(ENDING))?;
+    path.push_str(folder)?;
     path.push_str("/")?;
     path.push_str(name)?;
     Ok(path)

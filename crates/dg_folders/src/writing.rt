@@ -69,6 +69,18 @@ fn has_bytes<R: Files + AllocGlobal>(rt: &R, path: &str, bytes: &[u8]) -> bool {
     }
 }
 
+/// Writes a file in a folder that may not be there yet. The folders are made once the file could not be.
+fn replace_in_folder<R: Files + AllocGlobal>(rt: &R, path: &str, bytes: &[u8]) -> io::Result<()> {
+    match replace(rt, path, bytes) {
+        Err(error) if error.kind() == ErrorKind::NotFound => {}
+        written => return written,
+    }
+    if let Some(folder) = Path::new(path).parent() {
+        fs::create_dir_all(rt, folder)?;
+    }
+    replace(rt, path, bytes)
+}
+
 /// Writes a transcript, and makes the folders that it stands in. A file that has this text already is left as it is.
 pub fn write_transcript<R: Files + AllocGlobal>(
     rt: &R,
@@ -78,10 +90,8 @@ pub fn write_transcript<R: Files + AllocGlobal>(
     if has_bytes(rt, path, text) {
         return Ok(());
     }
-    if let Some(folder) = Path::new(path).parent() {
-        if let Err(error) = fs::create_dir_all(rt, folder) {
-            return Err(RunFault::of_write(rt.alloc(), path, &error));
-        }
+    match replace_in_folder(rt, path, text) {
+        Ok(()) => Ok(()),
+        Err(error) => Err(RunFault::of_write(rt.alloc(), path, &error)),
     }
-    write_in_place(rt, path, text)
 }
