@@ -99,11 +99,11 @@ impl EntryPlace {
         })
     }
 
-    /// Whether these are the same place.
+    /// Whether these are the same place. Most differ in their places, and the names of tests take longest to compare.
     fn is(&self, other: &EntryPlace) -> bool
         ensures { result ≡ same_place self.now other.now }
     {
-        self.test == other.test && self.session == other.session && self.place == other.place
+        self.place == other.place && self.session == other.session && self.test == other.test
     }
 }
 
