@@ -20,11 +20,8 @@ impl Opened {
         requires { (0 < limit) × (limit ≤ 262144) }
         ensures { IfOk result (λ o. length o.cells.items ≡ limit) }
     {
-        let mut cells = Vec::with_capacity(alloc, limit)?;
-        for place in 0..limit {
-            prove!(cells.len() == place);
-            cells.push(OnceBox::new(alloc))?;
-        }
+        let mut cells = Vec::new(alloc);
+        cells.resize_with(limit, || OnceBox::new(alloc))?;
         Ok(Opened { cells })
     }
 
