@@ -2,6 +2,8 @@
 #![tactic(auto)]
 
 mod judged;
+mod lines;
+mod page;
 mod report;
 mod summary;
 mod tally;

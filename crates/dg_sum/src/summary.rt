@@ -2,7 +2,7 @@
 ghost use Rattle.std.specs.Prelude.{◌≡◌, ◌++◌, OnOk, length};
 ghost use Rattle.dg_sum.specs.Report.{tabs, count_text, plain_counts, known_counts, open_counts, counts_text, board_summary, summary};
 
-use dg_bytes::Bytes;
+use crate::page::Page;
 use dg_results::Tally;
 use itoa::Buffer;
 use std::alloc::AllocError;
@@ -10,7 +10,7 @@ use std::alloc::AllocError;
 /// Writes a text between two others.
 #[tactic(auto, using(crate::proofs::TextLemmas::then))]
 pub(crate) fn write_between(
-    out: &mut Bytes,
+    out: &mut Page,
     before: &[u8],
     text: &[u8],
     after: &[u8],
@@ -31,7 +31,7 @@ fn tabs(name: &[u8]) -> &'static [u8]
 
 /// Writes a count above zero.
 #[tactic(auto, using(crate::proofs::TextLemmas::then), unfolding(crate::specs::Report::count_text))]
-fn write_count(out: &mut Bytes, name: &[u8], count: usize) -> Result<(), AllocError>
+fn write_count(out: &mut Page, name: &[u8], count: usize) -> Result<(), AllocError>
     ensures { OnOk result (out.new ≡ out.old ++ count_text name.now count) }
 {
     if count == 0 {
@@ -46,7 +46,7 @@ fn write_count(out: &mut Bytes, name: &[u8], count: usize) -> Result<(), AllocEr
 
 /// Writes the counts above zero.
 #[tactic(auto, using(crate::proofs::TextLemmas::then), unfolding(crate::specs::Report::counts_text))]
-fn write_counts(out: &mut Bytes, tally: &Tally) -> Result<(), AllocError>
+fn write_counts(out: &mut Page, tally: &Tally) -> Result<(), AllocError>
     ensures { OnOk result (out.new ≡ out.old ++ counts_text tally.now) }
 {
     write_plain_counts(out, tally)?;
@@ -56,7 +56,7 @@ fn write_counts(out: &mut Bytes, tally: &Tally) -> Result<(), AllocError>
 
 /// Writes how many passed or failed.
 #[tactic(auto, using(crate::proofs::TextLemmas::then))]
-fn write_plain_counts(out: &mut Bytes, tally: &Tally) -> Result<(), AllocError>
+fn write_plain_counts(out: &mut Page, tally: &Tally) -> Result<(), AllocError>
     ensures { OnOk result (out.new ≡ out.old ++ plain_counts tally.now) }
 {
     write_count(out, b"expected passes", tally.passes)?;
@@ -66,7 +66,7 @@ fn write_plain_counts(out: &mut Bytes, tally: &Tally) -> Result<(), AllocError>
 
 /// Writes how many were known to fail.
 #[tactic(auto, using(crate::proofs::TextLemmas::then))]
-fn write_known_counts(out: &mut Bytes, tally: &Tally) -> Result<(), AllocError>
+fn write_known_counts(out: &mut Page, tally: &Tally) -> Result<(), AllocError>
     ensures { OnOk result (out.new ≡ out.old ++ known_counts tally.now) }
 {
     write_count(out, b"expected failures", tally.expected_failures)?;
@@ -76,7 +76,7 @@ fn write_known_counts(out: &mut Bytes, tally: &Tally) -> Result<(), AllocError>
 
 /// Writes how many have no outcome.
 #[tactic(auto, using(crate::proofs::TextLemmas::then))]
-fn write_open_counts(out: &mut Bytes, tally: &Tally) -> Result<(), AllocError>
+fn write_open_counts(out: &mut Page, tally: &Tally) -> Result<(), AllocError>
     ensures { OnOk result (out.new ≡ out.old ++ open_counts tally.now) }
 {
     write_count(out, b"unresolved testcases", tally.unresolved)?;
@@ -87,7 +87,7 @@ fn write_open_counts(out: &mut Bytes, tally: &Tally) -> Result<(), AllocError>
 /// Writes the summary of a board.
 #[tactic(auto, using(crate::proofs::TextLemmas::then), unfolding(crate::specs::Report::board_summary))]
 pub(crate) fn write_board_summary(
-    out: &mut Bytes,
+    out: &mut Page,
     tool: &[u8],
     board: &[u8],
     tally: &Tally,
@@ -102,7 +102,7 @@ pub(crate) fn write_board_summary(
 
 /// Writes the summary over all boards.
 #[tactic(auto, using(crate::proofs::TextLemmas::then), unfolding(crate::specs::Report::summary))]
-pub(crate) fn write_summary(out: &mut Bytes, tool: &[u8], tally: &Tally) -> Result<(), AllocError>
+pub(crate) fn write_summary(out: &mut Page, tool: &[u8], tally: &Tally) -> Result<(), AllocError>
     ensures { OnOk result (out.new ≡ out.old ++ summary tool.now tally.now) }
 {
     write_between(out, b"\n\t\t=== ", tool, b" Summary ===\n\n")?;
