@@ -68,7 +68,6 @@ Follow [] t n = ⊤
 Follow (part ∷ parts) t n = (k : ℕ) × ((n ≤ k) × ((k + length part ≤ length t) × ((stands part (drop k t) ≡ true) × Follow parts t (k + length part))))
 
 -- Each match of the glob, in the text or in a longer one that begins with it, has its parts but the first few from the n-th
--- place on, and not before it begins. So where they don't stand there, there is no match, and no match begins at a place
--- before the n-th where the first part would have to stand.
+-- place on, and not before it begins. So where they don't stand there, there is no match.
 abbrev pub IsTrail : List ℕ → ℕ → List ℕ → ℕ → Type 0
 IsTrail p found t n = (more : List ℕ) (s e : ℕ) → IsSpan p (t ++ more) s e → Follow (drop found (parts_of p)) (t ++ more) (max n s)
