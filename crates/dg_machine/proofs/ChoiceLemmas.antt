@@ -1,5 +1,5 @@
 -- The clauses of `if`, and the tests of loops.
-use Rattle.std.proofs.Common.{◌≡◌, ◌≢◌, ℕ, suc, zero, ◌+◌, ◌-◌, ◌^◌, ◌<◌, ◌≤◌, ◌⊎◌, inl, inr, true, false, List, [], ◌∷◌, refl, arith}
+use Rattle.std.proofs.Common.{◌≡◌, ◌≢◌, ℕ, suc, zero, ◌+◌, ◌-◌, ◌^◌, ◌<◌, ◌≤◌, ◌⊎◌, inl, inr, true, false, List, [], ◌∷◌, length, refl, arith}
 use Rattle.std.specs.Prelude.{Option}
 use Rattle.dg_language.specs.declared.clause.Clause.{Clause}
 use Rattle.dg_language.specs.Play.{Ends}
@@ -12,11 +12,18 @@ use Rattle.dg_machine.specs.declared.frame.Frame.{Frame}
 use Rattle.dg_machine.specs.Meaning.{frame_weight, stack_weight, weight}
 use Rattle.dg_machine.proofs.MachineLemmas.{tick-step, tick-none}
 
+empty : (xs : List Clause) → length xs ≡ 0 → xs ≡ []
+empty [] h = refl
+empty (x ∷ xs) h = absurd (omega (arith, h))
+
 -- no clause is left, and one is
 module _ (nested : Nested) (left : List Clause) (otherwise : Option (List ℕ)) (s : State) (k : Then) where
   pub choose-none : left ≡ [] → choose nested left otherwise s k ≡ do_otherwise nested otherwise s k
   unfolding choose
   choose-none e = rw e refl
+
+  pub choose-over : length left ≡ 0 → choose nested left otherwise s k ≡ do_otherwise nested otherwise s k
+  choose-over h = choose-none (empty left h)
 
   pub choose-next : (c : Clause) (cs : List Clause) → left ≡ c ∷ cs
       → choose nested left otherwise s k

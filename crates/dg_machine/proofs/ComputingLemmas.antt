@@ -1,17 +1,20 @@
 -- Operands, and instructions that may fail.
 use Rattle.std.proofs.Common.{◌≡◌, ℕ, ◌≤◌, List, [], ◌∷◌, length, ap, sym, ◌∙◌, refl, arith}
-use Rattle.std.specs.Prelude.{Option, Some, None, MatchOption}
+use Rattle.std.specs.Prelude.{Option, Some, None, Ok, Err, MatchOption}
 use Rattle.dg_words.specs.Piece.{Piece}
 use Rattle.dg_expr.specs.Code.{run}
+use Rattle.dg_expr.specs.Operator.{value_of}
+use Rattle.dg_expr.specs.declared.operator.Infix.{Infix}
 use Rattle.dg_expr.specs.declared.code.Instruction.{Instruction}
 use Rattle.dg_expr.specs.declared.code.Instruction.TheVariants as code
+use Rattle.dg_language.specs.declared.code.Code.TheVariants.{Done}
 use Rattle.dg_language.specs.declared.substitution.Purpose.{Purpose}
 use Rattle.dg_language.specs.declared.substitution.Purpose.TheVariants.{Load}
 use Rattle.dg_language.specs.Language.{used, evaluate}
 use Rattle.dg_language.specs.declared.substitution.Substitution.{Substitution}
 use Rattle.dg_language.specs.Control.{head_or_empty}
-use Rattle.dg_language.specs.Expressions.{host, operand_steps}
-use Rattle.dg_language.specs.Evaluation.{Then, if_done}
+use Rattle.dg_language.specs.Expressions.{host, operand_steps, or_fault}
+use Rattle.dg_language.specs.Evaluation.{Then, fail, if_done}
 use Rattle.dg_language.specs.State.{State}
 use Rattle.dg_machine.specs.declared.computing.Computed.{Computed}
 use Rattle.dg_machine.specs.declared.computing.Computed.TheVariants.{Value, Failed, Operand}
@@ -21,10 +24,10 @@ use Rattle.dg_machine.specs.Choosing.{calculating, calculating_with, instructing
 use Rattle.dg_machine.specs.Computing.{Does, Instructs, Computes}
 use Rattle.dg_machine.specs.Meaning.{making_on}
 use Rattle.dg_machine.specs.Texts.{Makes}
-use Rattle.dg_machine.proofs.ExpressionLemmas.{run-now}
+use Rattle.dg_machine.proofs.ExpressionLemmas.{run-none, run-now, two-value, two-fault}
 use Rattle.dg_machine.proofs.GatherLemmas.{gather-none}
 
-nothing : (xs : List Substitution) → length xs ≤ 0 → xs ≡ []
+pub nothing : (xs : List Substitution) → length xs ≤ 0 → xs ≡ []
 nothing [] h = refl
 nothing (x ∷ xs) h = absurd (omega arith)
 
@@ -72,3 +75,18 @@ module _ (s : State) (first now last : Calculation) (same : (k : Then) → calcu
       let count = ap length e in
       let kept = ap length h.3 in
       ((λ k. instructs-now k ∙ h.0 k), h.1, h.2, omega (arith, count, kept, fewer))
+
+-- one operator between two operands that make values by themselves
+module _ (c : Calculation) (s : State) (a b : List Piece) (op : Infix) (x y : List ℕ) (e : c.left ≡ code.Push a ∷ code.Push b ∷ code.Apply op ∷ []) (z : c.passed ≤ 0)
+    (l : Makes s (operand_steps a) x) (r : Makes s (operand_steps b) y) (k : Then) where
+  both-made : calculating c s k ≡ run (host (evaluate c.depth) k) (y ∷ x ∷ c.values) 0 (code.Apply op ∷ []) s (k Done)
+  both-made =
+      run-now (evaluate c.depth) k c.values (code.Push b ∷ code.Apply op ∷ []) s c.passed c.left (code.Push a) e z
+      ∙ operand-value (record c { left = code.Push b ∷ code.Apply op ∷ [] }) s a x l k
+      ∙ operand-value (record c { values = x ∷ c.values; passed = 0; left = code.Apply op ∷ [] }) s b y r k
+
+  pub between-value : (v : List ℕ) → Ok v ≡ or_fault (value_of op x y) x y → calculating c s k ≡ k Done v s
+  between-value v h = both-made ∙ two-value (evaluate c.depth) k (y ∷ x ∷ c.values) [] s op v h ∙ run-none (evaluate c.depth) k (v ∷ c.values) [] s 0 [] refl
+
+  pub between-fault : (m : List ℕ) → Err m ≡ or_fault (value_of op x y) x y → calculating c s k ≡ fail m s k
+  between-fault m h = both-made ∙ two-fault (evaluate c.depth) k (y ∷ x ∷ c.values) [] s op m h

@@ -39,6 +39,7 @@ use Rattle.dg_machine.specs.contracts.machine.Machine as Machine
 use Rattle.dg_machine.specs.contracts.patterns.Prepared as Prepared
 use Rattle.dg_machine.specs.contracts.instructions.Formula as Formula
 use Rattle.dg_machine.specs.contracts.instructions.Instructions as Instructions
+use Rattle.dg_machine.specs.contracts.instructions.Condition as Condition
 use Rattle.dg_machine.specs.contracts.script.Body as Body
 use Rattle.dg_machine.specs.contracts.script.Commands as Commands
 use Rattle.dg_machine.specs.contracts.script.Script as Script
@@ -86,8 +87,11 @@ Rounds-send = search (sendable, bytes.the_send, seq.the_send, queue.the_send, Bo
 Calculation-send : IsSend Calculation.the_field.row
 Calculation-send = search (sendable, bytes.the_send, stack.the_send, Instructions-send) depth 20
 
+Condition-send : IsSend Condition.the_row
+Condition-send = let kept = Arc-send Formula.the_row Formula-send Formula-sync in search (sendable, bytes.the_send) depth 20
+
 Repetition-send : IsSend Repetition.the_field.row
-Repetition-send = search (sendable, bytes.the_send, stage.the_field_send, Body-send) depth 20
+Repetition-send = search (sendable, bytes.the_send, stage.the_field_send, Body-send, Condition-send) depth 20
 
 Prepared-send : IsSend Prepared.the_row
 Prepared-send = search (sendable, seq.the_send, pair.the_field_send, Pattern-send) depth 20

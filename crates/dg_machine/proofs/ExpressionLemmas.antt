@@ -20,6 +20,8 @@ use Rattle.dg_language.specs.State.{State}
 use Rattle.dg_language.specs.Evaluation.{Ending, Then, Nested, cut, fail}
 use Rattle.dg_language.specs.Expressions.{host, fault_message, value_of_tree, calculate, code_in, or_fault, or_no_truth, judged, do_expr, behind_spaces, written}
 use Rattle.dg_language.proofs.TouchLemmas.{within-short, within-long}
+use Rattle.dg_language.specs.Language.{evaluate}
+use Rattle.dg_machine.specs.Choosing.{calculating}
 use Rattle.dg_machine.specs.declared.frame.Calculation.{Calculation}
 use Rattle.dg_machine.specs.declared.frame.Control.TheVariants.{Go}
 use Rattle.dg_machine.specs.declared.frame.Frame.{Frame}
@@ -71,6 +73,11 @@ module _ (nested : Nested) (k : Then) where
       → settle (host nested k) r x y s f ≡ f v s
   settle-value (Ok u) x y v s f e = let same : u ≡ v = cc in rw same refl
   settle-value (Err fault) x y v s f e = cc
+
+-- an expression of which nothing is computed yet
+pub begun-calculates : (c : Calculation) (o : Option (List Instruction)) (text : List ℕ) (d : ℕ) (s : State) (k : Then) → o ≡ code_in (tree_in text) → o ≡ Some c.left
+    → c ≡ record { values = []; passed = 0; left = c.left; depth = d } → calculating c s k ≡ calculate (evaluate d) text s k
+begun-calculates c o text d s k e f g = ap (λ (x : Calculation). calculating x s k) g ∙ calculate-code (evaluate d) k text c.left s (sym f ∙ e)
 
 -- the truth of a value outside of an expression
 pub judged-fault : (o : Option Bool) (v m : List ℕ) (s : State) (k : Then) (f : Bool → Play Ending) → Err m ≡ or_no_truth o v → judged o v s k f ≡ fail m s k

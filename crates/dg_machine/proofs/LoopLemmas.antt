@@ -1,5 +1,5 @@
 -- The rounds of a loop over values, and what is caught.
-use Rattle.std.proofs.Common.{◌≡◌, ◌≢◌, ℕ, suc, zero, ◌+◌, ◌-◌, ◌^◌, ◌<◌, ◌≤◌, ◌⊎◌, inl, inr, List, [], ◌∷◌, get_or, drop, length, ap, sym, refl, ◌∙◌, arith}
+use Rattle.std.proofs.Common.{◌≡◌, ◌≢◌, ℕ, suc, zero, ◌+◌, ◌-◌, ◌*◌, ◌^◌, ◌<◌, ◌≤◌, ◌⊎◌, inl, inr, List, [], ◌∷◌, get_or, drop, length, ap, sym, refl, ◌∙◌, arith}
 use Rattle.std.proofs.lemmas.List.{drop_more, drop_all}
 use Rattle.std.specs.Prelude.{Some, Ok, codes}
 use Rattle.dg_language.specs.declared.ask.Ask.{Ask}
@@ -126,9 +126,18 @@ pub weight-frame : (s : State) (f : Frame) (fs : List Frame) → s.steps < 10000
 unfolding weight stack_weight stepped
 weight-frame s f fs h g = omega arith
 
+-- and for a round of so many names
+pub weight-round : (s : State) (fs : List Frame) (n : ℕ) → s.steps < 100000 → n < 2 ^ 64 → weight Go (stepped s) fs + 9 + 4 * (n - 0) ≤ weight Go s fs + 5
+unfolding weight stepped
+weight-round s fs n h g = omega arith
+
 pub weight-assigned : (n v : List ℕ) (s : State) (f : Frame) (fs : List Frame) → weight Go (assigned n v s) (f ∷ fs) ≡ weight Go s fs + frame_weight f
 unfolding weight stack_weight assigned
 weight-assigned n v s f fs = omega arith
+
+pub weight-given : (n v : List ℕ) (s : State) (fs : List Frame) → weight Go (assigned n v s) fs ≡ weight Go s fs
+unfolding weight assigned
+weight-given n v s fs = refl
 
 pub known-assigned : (n v : List ℕ) (s : State) → (assigned n v s).known ≡ s.known
 unfolding assigned

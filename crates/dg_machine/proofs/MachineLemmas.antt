@@ -4,7 +4,8 @@ use Rattle.std.proofs.lemmas.Bool.{lt-ltb}
 use Rattle.std.specs.Prelude.{nat_lt, codes}
 use Rattle.dg_results.specs.declared.verdict.Line.{Line}
 use Rattle.dg_results.specs.Lines.{lines_of, abort_lines}
-use Rattle.dg_language.specs.declared.code.Code.TheVariants.{Done, Failed}
+use Rattle.dg_language.specs.declared.code.Code.{Code}
+use Rattle.dg_language.specs.declared.code.Code.TheVariants.{Done, Failed, Returned, Broken, Continued, ExpContinued}
 use Rattle.dg_language.specs.declared.close.Close.TheVariants.{Aborted, OutOfSteps}
 use Rattle.dg_language.specs.Play.{Play, Ends}
 use Rattle.dg_language.specs.State.{State, stepped}
@@ -70,6 +71,20 @@ pub sequence-done : (d : ℕ) (cs : List Command) (v : List ℕ) (s : State) (k 
 unfolding sequence
 sequence-done d cs v s k e = rw e refl
 
+through-done : (d : ℕ) (k : Then) (c : Code) (v : List ℕ) (s : State) → if_done (λ w t. sequence (evaluate d) [] w t k) k c v s ≡ k c v s
+unfolding sequence
+through-done d k Done v s = refl
+through-done d k Failed v s = refl
+through-done d k Returned v s = refl
+through-done d k Broken v s = refl
+through-done d k Continued v s = refl
+through-done d k ExpContinued v s = refl
+
+-- commands that are all taken change nothing of what ends inside of them
+pub all_back-over : (d : ℕ) (cs : List Command) (fs : List Frame) → cs ≡ [] → all_back (Sequence cs d ∷ fs) ≡ all_back fs
+unfolding all_back back
+all_back-over d cs fs e = rw e (λ i c v s. through-done d (all_back fs) c v s i)
+
 -- the next command can't be read
 pub sequence-unreadable : (d : ℕ) (fault : WordFault) (cs more : List Command) (v : List ℕ) (s : State) (k : Then) → cs ≡ Unreadable fault ∷ more
     → sequence (evaluate d) cs v s k ≡ fail (fault_text fault) s k
@@ -122,6 +137,11 @@ Goes-comes Moved play play' known w w' m h e l = (h.0 ∙ sym e, h.1, (let g : w
 Goes-comes (Stands q) play play' known w w' m h e l = absurd h
 Goes-comes (Over v) play play' known w w' m h e l = (e ∙ h.0, h.1)
 Goes-comes Lost play play' known w w' m h e l = h
+
+-- a step that is taken pays for a test
+pub weight-tick : (s : State) (fs : List Frame) (n : ℕ) → s.steps < 100000 → n ≤ 2 ^ 249 → weight Go (stepped s) fs + n ≤ weight Go s fs + 5
+unfolding weight stepped
+weight-tick s fs n h g = omega arith
 
 evaluate-zero : (t : List ℕ) (s : State) (k : Then) → evaluate 0 t s k ≡ cut (codes "too many nested evaluations") s
 unfolding evaluate

@@ -10,7 +10,7 @@ use Rattle.dg_language.specs.declared.code.Code.TheVariants.{Done}
 use Rattle.dg_language.specs.Play.{Play, Asks}
 use Rattle.dg_language.specs.State.{State, assigned, learn, with_begun, linked, unassigned}
 use Rattle.dg_language.specs.Evaluation.{Ending, Then, fail, list_in, on, or_message, wrong_count}
-use Rattle.dg_language.specs.Variables.{touch, all_linked, unset_all, unset_one, store, append_elements, add_number, addend, or_empty, with_appended, do_append, do_lappend, do_incr}
+use Rattle.dg_language.specs.Variables.{touch, all_linked, unset_all, unset_one, store, append_elements, add_number, addend, increased, or_empty, or_zero, with_appended, with_sum, do_append, do_lappend, do_incr}
 use Rattle.dg_language.proofs.TouchLemmas.{within-short}
 use Rattle.dg_machine.specs.declared.frame.Frame.{Frame}
 use Rattle.dg_machine.specs.declared.frame.Control.TheVariants.{Go, Ended}
@@ -18,6 +18,7 @@ use Rattle.dg_machine.specs.declared.frame.Pace.{Pace}
 use Rattle.dg_machine.specs.declared.machine.Machine.{Machine}
 use Rattle.dg_machine.specs.Meaning.{all_back, weight, weight_of, stack_weight, frame_weight, Goes, Readies, RunsAs}
 use Rattle.dg_machine.proofs.ReadyLemmas.{ready-goes}
+use Rattle.dg_machine.proofs.StepLemmas.{Goes-runs}
 
 -- a command that is another one has run as it
 pub runs-as : (old new : Machine) (f g : State → Then → Play Ending) (p : Pace) → RunsAs g old new p → f ≡ g → RunsAs f old new p
@@ -40,6 +41,16 @@ module _ (args : List (List ℕ)) (n : List ℕ) (vs : List (List ℕ)) (e : arg
   pub incr-of : (by : List ℕ) → addend vs ≡ Some by → do_incr args ≡ (λ s k. touch n s (λ t. add_number n by t k))
   unfolding do_incr
   incr-of by h = rw e (ap (λ o. λ s k. on o (fail (wrong_count (codes "incr")) s k) (λ x. touch n s (λ t. add_number n x t k))) h)
+
+-- a number more than the value of a variable in use
+pub added-in-use : (n by v : List ℕ) (old new : Machine) (p : Pace) → ((f : State → Play Ending) → touch n old.state f ≡ f old.state) → value_of old.state.variables n ≡ Some v
+    → Goes (with_sum n (increased v by) old.state (all_back old.stack)) old.state.known (weight_of old + 2) new p
+    → RunsAs (λ s k. touch n s (λ t. add_number n by t k)) old new p
+unfolding add_number
+added-in-use n by v old new p free is went =
+    Goes-runs p (with_sum n (increased v by) old.state (all_back old.stack)) (touch n old.state (λ t. add_number n by t (all_back old.stack)))
+    (λ s. touch n s (λ t. add_number n by t (all_back old.stack))) old.state.known (weight_of old + 2) old new went
+    (free (λ t. add_number n by t (all_back old.stack)) ∙ ap (λ o. with_sum n (increased (or_zero o) by) old.state (all_back old.stack)) is) refl (omega arith)
 
 -- elements that go behind those of a list, where the whole is not too long
 pub elements-stored : (n old : List ℕ) (vs xs : List (List ℕ)) (s : State) (k : Then) → vs ≢ [] → elements_of old ≡ Ok xs

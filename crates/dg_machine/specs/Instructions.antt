@@ -1,5 +1,11 @@
 -- What is taken off the instructions that are left of an expression.
 use Rattle.std.specs.Prelude.{◌≡◌, ℕ, ◌+◌, List, [], ◌∷◌, drop, Option, Some, None}
+use Rattle.std.specs.Arc.{arc_value}
+use Rattle.std.specs.declared.sync.Arc.{Arc}
+use Rattle.std.specs.declared.alloc.Global.{Global}
+use Rattle.dg_expr.specs.Reading.{tree_in}
+use Rattle.dg_expr.specs.declared.operator.Infix.{Infix}
+use Rattle.dg_language.specs.Expressions.{code_in}
 use Rattle.dg_words.specs.Piece.{Piece}
 use Rattle.dg_expr.specs.declared.code.Instruction.{Instruction}
 use Rattle.dg_expr.specs.declared.code.Instruction.TheVariants.{Push, ApplyOne, Apply, And, Or, Truth, Unless, Skip}
@@ -14,6 +20,16 @@ use Rattle.dg_machine.specs.declared.instructions.Taken.TheVariants.{Value, Oper
 abbrev pub left_of : Option (List Instruction) → ℕ → List Instruction
 left_of None at = []
 left_of (Some code) at = drop at code
+
+-- the code that is kept of a text, if it is
+abbrev pub IsCode : List ℕ → Option (Arc (Option (List Instruction)) Global) → Type 0
+IsCode text None = Unit {0}
+IsCode text (Some code) = arc_value code ≡ code_in (tree_in text)
+
+-- one operator, between two operands that make these values by themselves
+abbrev pub IsBetween : State → List Instruction → List ℕ → Infix → List ℕ → Type 0
+IsBetween s code left op right =
+    (a : List Piece) × ((b : List Piece) × ((code ≡ Push a ∷ Push b ∷ Apply op ∷ []) × Makes s (operand_steps a) left × Makes s (operand_steps b) right))
 
 -- An operand that these steps make is taken: as the value that they make by themselves, or with them.
 abbrev pub IsOperand : State → List Substitution → Taken → Type 0

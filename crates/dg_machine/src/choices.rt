@@ -7,7 +7,8 @@ ghost use Rattle.dg_machine.specs.declared.frame.Control.{Control};
 ghost use Rattle.dg_machine.specs.Choosing.{choosing};
 ghost use Rattle.dg_machine.specs.Meaning.{all_back, weight_of, Goes};
 
-use crate::frame::{Choice, Frame, Pace};
+use crate::computing::{Computed, compute_on};
+use crate::frame::{Calculation, Choice, Frame, Pace};
 use crate::machine::Machine;
 use dg_bytes::Bytes;
 use dg_forms::{clauses_of, concatenated, split, switched, truth_in};
@@ -57,8 +58,42 @@ impl Machine {
             otherwise,
             depth,
         };
-        self.stack.push(Frame::Choosing { choice })?;
-        Ok(self.calculate(alloc, &condition, depth)?)
+        let formula = self.formulas.reading(alloc, &condition)?;
+        let Some(mut calculation) = Calculation::of(alloc, formula, depth) else {
+            return Ok(self.no_expression(alloc, &condition)?);
+        };
+        match compute_on(alloc, &self.state, &mut calculation)? {
+            Computed::Value(value) => Ok(self.decide_now(alloc, choice, value)?),
+            computed => {
+                self.stack.push(Frame::Choosing { choice })?;
+                Ok(self.come_to(alloc, calculation, computed)?)
+            }
+        }
+    }
+
+    /// An `if` goes on, once the value of a condition is there: further clauses wait for the next move.
+    #[tactic(auto, unfolding(crate::specs::Meaning::rest, crate::specs::Meaning::back, crate::specs::Meaning::all_back, crate::specs::Meaning::weight, crate::specs::Meaning::stack_weight))]
+    fn decide_now(
+        &mut self,
+        alloc: Global,
+        choice: Choice,
+        value: Bytes,
+    ) -> Result<Pace, AllocError>
+        requires { self.old.control ≡ Control.Go }
+        ensures { IfOk result (λ p. Goes (choosing choice (all_back self.old.stack) Code.Done value self.old.state) self.old.state.known (weight_of self.old + 2 + 2 ^ 140 + 2 ^ 140 * length choice.left) self.new p) }
+    {
+        match truth_in(alloc, value.as_slice())? {
+            Ok(true) => Ok(self.enter(alloc, choice.body, choice.depth)?),
+            Ok(false) => {
+                if choice.left.len() == 0 {
+                    return Ok(self.otherwise(alloc, choice.otherwise, choice.depth)?);
+                }
+                self.stack.push(Frame::Choosing { choice })?;
+                self.end(Code::Done, value);
+                Ok(Pace::Moved)
+            }
+            Err(message) => Ok(self.fail(alloc, message)?),
+        }
     }
 
     /// An `if` goes on, once the value of a condition is there.

@@ -1,5 +1,5 @@
 //! The instructions of an expression, as far as they need no evaluation.
-ghost use Rattle.std.specs.Prelude.{◌≡◌, ◌∷◌, List, IfOk, OnOk, MatchOption, Some, None};
+ghost use Rattle.std.specs.Prelude.{◌≡◌, ◌∷◌, List, IfOk, IfSome, OnOk, MatchOption, Some, None};
 ghost use Rattle.dg_expr.specs.Code.{below, top};
 ghost use Rattle.dg_expr.specs.Truth.{truth_of};
 ghost use Rattle.dg_expr.specs.declared.code.Instruction.{Instruction as Step};
@@ -60,6 +60,7 @@ fn put(calculation: &mut Calculation, value: Bytes, passed: usize) -> Result<(),
 }
 
 /// An operator before its operand.
+#[inline(never)]
 fn apply_one(
     alloc: Global,
     calculation: &mut Calculation,
@@ -97,6 +98,7 @@ fn apply(
 }
 
 /// The left operand of `&&`: where it is false the right one is passed over.
+#[inline(never)]
 fn and(
     alloc: Global,
     calculation: &mut Calculation,
@@ -119,6 +121,7 @@ fn and(
 }
 
 /// The left operand of `||`: where it is true the right one is passed over.
+#[inline(never)]
 fn or(
     alloc: Global,
     calculation: &mut Calculation,
@@ -141,6 +144,7 @@ fn or(
 }
 
 /// The truth of the top takes its place.
+#[inline(never)]
 fn tell(alloc: Global, calculation: &mut Calculation) -> Result<Option<Bytes>, AllocError>
     ensures { IfOk result (Does Step.Truth calculation.old calculation.new) }
 {
@@ -155,6 +159,7 @@ fn tell(alloc: Global, calculation: &mut Calculation) -> Result<Option<Bytes>, A
 }
 
 /// A condition: where it is false its first branch is passed over.
+#[inline(never)]
 fn unless(
     alloc: Global,
     calculation: &mut Calculation,
@@ -176,6 +181,7 @@ fn unless(
 }
 
 /// An operand is put on top, unless its words need an evaluation.
+#[inline(never)]
 fn load(
     alloc: Global,
     state: &State,
@@ -236,8 +242,43 @@ fn instruct(
     }
 }
 
+/// What an expression comes to that is one operator between two operands that are values by themselves.
+fn compute_at_once(
+    alloc: Global,
+    state: &State,
+    calculation: &Calculation,
+) -> Result<Option<Computed>, AllocError>
+    ensures { IfOk result (λ o. IfSome o (Computes state.now calculation.now calculation.now)) }
+{
+    if calculation.passed > 0 {
+        return Ok(None);
+    }
+    let Some((left, op, right)) = calculation.left.between(state) else {
+        return Ok(None);
+    };
+    match value_between(alloc, op, left.as_slice(), right.as_slice())? {
+        Ok(value) => Ok(Some(Computed::Value(value))),
+        Err(message) => Ok(Some(Computed::Failed(message))),
+    }
+}
+
 /// Does the instructions of an expression, up to its end, to one that fails or to an operand that needs an evaluation.
 pub(crate) fn compute_on(
+    alloc: Global,
+    state: &State,
+    calculation: &mut Calculation,
+) -> Result<Computed, AllocError>
+    ensures { IfOk result (Computes state.now calculation.old calculation.new) }
+{
+    if let Some(computed) = compute_at_once(alloc, state, calculation)? {
+        return Ok(computed);
+    }
+    Ok(compute_in_steps(alloc, state, calculation)?)
+}
+
+/// The same, an instruction at a time.
+#[inline(never)]
+fn compute_in_steps(
     alloc: Global,
     state: &State,
     calculation: &mut Calculation,

@@ -1,15 +1,16 @@
 //! How an expression is computed.
-ghost use Rattle.std.specs.Prelude.{◌≡◌, ◌+◌, ◌*◌, ◌^◌, ◌<◌, ◌∷◌, IfOk, length};
-ghost use Rattle.dg_language.specs.Evaluation.{if_done};
-ghost use Rattle.dg_language.specs.Expressions.{calculate, do_expr, written};
+ghost use Rattle.std.specs.Prelude.{◌≡◌, ◌+◌, ◌*◌, ◌^◌, ◌<◌, ◌∷◌, [], IfOk, length};
+ghost use Rattle.dg_expr.specs.declared.fault.ExprFault.TheVariants.{Syntax};
+ghost use Rattle.dg_language.specs.Evaluation.{fail, if_done};
+ghost use Rattle.dg_language.specs.Expressions.{calculate, do_expr, fault_message, written};
 ghost use Rattle.dg_language.specs.Language.{evaluate};
 ghost use Rattle.dg_machine.specs.declared.frame.Control.{Control};
 ghost use Rattle.dg_machine.specs.Choosing.{calculating, calculating_with};
+ghost use Rattle.dg_machine.specs.Computing.{Computes};
 ghost use Rattle.dg_machine.specs.Meaning.{all_back, weight_of, Goes};
 
 use crate::computing::{Computed, compute_on};
-use crate::frame::{Calculation, Frame, Pace, Stack};
-use crate::instructions::Instructions;
+use crate::frame::{Calculation, Frame, Pace};
 use crate::machine::Machine;
 use dg_bytes::Bytes;
 use dg_forms::{in_decimal, split, syntax_error, with_spaces};
@@ -18,32 +19,6 @@ use dg_scope::LONGEST_VALUE;
 use std::alloc::{AllocError, Global};
 
 impl Machine {
-    /// The expression that a text spells begins to be computed.
-    #[tactic(auto, unfolding(crate::specs::Meaning::rest, crate::specs::Meaning::go, crate::specs::Meaning::weight, crate::specs::Meaning::stack_weight))]
-    pub(crate) fn calculate(
-        &mut self,
-        alloc: Global,
-        text: &Bytes,
-        depth: u32,
-    ) -> Result<Pace, AllocError>
-        requires { self.old.control ≡ Control.Go }
-        ensures { IfOk result (λ p. Goes (calculate (evaluate depth) text.now self.old.state (all_back self.old.stack)) self.old.state.known (weight_of self.old + 2 ^ 139) self.new p) }
-    {
-        let formula = self.formulas.reading(alloc, text)?;
-        let Some(left) = Instructions::of(formula) else {
-            let message = syntax_error(alloc, text.as_slice())?;
-            return Ok(self.fail(alloc, message)?);
-        };
-        let _count = left.len();
-        let calculation = Calculation {
-            values: Stack::new(alloc),
-            passed: 0,
-            left,
-            depth,
-        };
-        Ok(self.compute(alloc, calculation)?)
-    }
-
     /// An expression goes on, up to its end or to an operand that needs an evaluation.
     #[tactic(auto, unfolding(crate::specs::Meaning::rest, crate::specs::Meaning::go, crate::specs::Meaning::back, crate::specs::Meaning::all_back, crate::specs::Meaning::weight, crate::specs::Meaning::stack_weight))]
     pub(crate) fn compute(
@@ -54,7 +29,22 @@ impl Machine {
         requires { self.old.control ≡ Control.Go }
         ensures { IfOk result (λ p. Goes (calculating calculation self.old.state (all_back self.old.stack)) self.old.state.known (weight_of self.old + 8 + 2 ^ 67 * length calculation.left) self.new p) }
     {
-        match compute_on(alloc, &self.state, &mut calculation)? {
+        let computed = compute_on(alloc, &self.state, &mut calculation)?;
+        Ok(self.come_to(alloc, calculation, computed)?)
+    }
+
+    /// An expression has come to its end, to an error, or to an operand that needs an evaluation.
+    #[tactic(auto, unfolding(crate::specs::Meaning::rest, crate::specs::Meaning::go, crate::specs::Meaning::back, crate::specs::Meaning::all_back, crate::specs::Meaning::weight, crate::specs::Meaning::stack_weight))]
+    pub(crate) fn come_to(
+        &mut self,
+        alloc: Global,
+        calculation: Calculation,
+        computed: Computed,
+    ) -> Result<Pace, AllocError>
+        requires { self.old.control ≡ Control.Go }
+        ensures { IfOk result (λ p. (first : Calculation) → Computes self.old.state first calculation computed → Goes (calculating first self.old.state (all_back self.old.stack)) self.old.state.known (weight_of self.old + 8 + 2 ^ 67 * length first.left) self.new p) }
+    {
+        match computed {
             Computed::Value(value) => {
                 self.end(Code::Done, value);
                 Ok(Pace::Moved)
@@ -67,6 +57,17 @@ impl Machine {
                 Ok(Pace::Moved)
             }
         }
+    }
+
+    /// A text spells no expression.
+    #[cold]
+    #[inline(never)]
+    pub(crate) fn no_expression(&mut self, alloc: Global, text: &Bytes) -> Result<Pace, AllocError>
+        requires { self.old.control ≡ Control.Go }
+        ensures { IfOk result (λ p. Goes (fail (fault_message Syntax text.now []) self.old.state (all_back self.old.stack)) self.old.state.known (weight_of self.old + 2) self.new p) }
+    {
+        let message = syntax_error(alloc, text.as_slice())?;
+        Ok(self.fail(alloc, message)?)
     }
 
     /// What an operand is made of has ended.
@@ -131,7 +132,20 @@ impl Machine {
             let closing = self.cut(alloc, b"value too long")?;
             return Ok(Pace::Over(closing));
         }
-        self.stack.push(Frame::Writing)?;
-        Ok(self.calculate(alloc, &text, depth)?)
+        let formula = self.formulas.reading(alloc, &text)?;
+        let Some(mut calculation) = Calculation::of(alloc, formula, depth) else {
+            return Ok(self.no_expression(alloc, &text)?);
+        };
+        match compute_on(alloc, &self.state, &mut calculation)? {
+            Computed::Value(value) => {
+                let value = in_decimal(alloc, value)?;
+                self.end(Code::Done, value);
+                Ok(Pace::Moved)
+            }
+            computed => {
+                self.stack.push(Frame::Writing)?;
+                Ok(self.come_to(alloc, calculation, computed)?)
+            }
+        }
     }
 }

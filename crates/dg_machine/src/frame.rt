@@ -1,9 +1,10 @@
 //! What stands round an evaluation.
-ghost use Rattle.std.specs.Prelude.{◌≡◌, ◌<◌, ◌^◌, [], ◌∷◌, length, IfOk, OnOk, MatchOption};
+ghost use Rattle.std.specs.Prelude.{◌≡◌, ◌<◌, ◌^◌, [], ◌∷◌, length, IfOk, OnOk, IfSome, MatchOption, Some, None};
+ghost use Rattle.std.specs.Arc.{arc_value};
 ghost use Rattle.dg_language.specs.Play.{plain};
 
 use crate::boxed::Boxed;
-use crate::instructions::Instructions;
+use crate::instructions::{Condition, Formula, Instructions};
 use crate::patterns::Prepared;
 use crate::script::{Body, Script};
 use dg_bytes::{Bytes, Seq};
@@ -13,6 +14,7 @@ use dg_transcript::{Action, Entry};
 use dg_world::Question;
 use std::alloc::{AllocError, Global};
 use std::marker::Model;
+use std::sync::Arc;
 
 /// Words in the making.
 #[derive(Drop)]
@@ -72,6 +74,23 @@ pub(crate) struct Calculation {
     pub depth: u32,
 }
 
+impl Calculation {
+    /// An expression of which nothing is computed yet, if its text spells one.
+    pub fn of(alloc: Global, formula: Arc<Formula>, depth: u32) -> Option<Calculation>
+        ensures begun { MatchOption result (arc_value formula ≡ None) (λ c. (arc_value formula ≡ Some c.left) × (c ≡ record { values = []; passed = 0; left = c.left; depth = depth })) }
+        ensures counted { IfSome result (λ c. length c.left < 2 ^ 64) }
+    {
+        let left = Instructions::of(formula)?;
+        let _count = left.len();
+        Some(Calculation {
+            values: Stack::new(alloc),
+            passed: 0,
+            left,
+            depth,
+        })
+    }
+}
+
 /// An `if` whose condition is computed.
 #[derive(Drop)]
 pub(crate) struct Choice {
@@ -99,7 +118,7 @@ pub(crate) enum Stage {
 #[derive(Drop)]
 pub(crate) struct Repetition {
     pub stage: Stage,
-    pub test: Bytes,
+    pub test: Condition,
     /// The third script of `for`.
     pub next: Option<Body>,
     pub body: Body,

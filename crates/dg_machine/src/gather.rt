@@ -9,7 +9,7 @@ ghost use Rattle.dg_machine.specs.Meaning.{all_back, weight_of, making_on, makin
 
 use crate::frame::{Frame, Making, Pace};
 use crate::machine::Machine;
-use crate::texts::{add_text, make_texts};
+use crate::texts::{add_text, has_room, make_texts};
 use crate::variables::push_all;
 use dg_bytes::{Bytes, TryCopy};
 use dg_forms::{cannot_read, elements_in};
@@ -260,5 +260,39 @@ impl Machine {
             }
             Some(step) => Ok(self.gather_step(alloc, making, step, depth)?),
         }
+    }
+
+    /// The words are used if all are made, or else go on being made.
+    pub(crate) fn go_on(
+        &mut self,
+        alloc: Global,
+        making: Making,
+        depth: u32,
+    ) -> Result<Pace, AllocError>
+        requires { self.old.control ≡ Control.Go }
+        ensures { IfOk result (λ p. Comes (making_on making depth self.old.state (all_back self.old.stack)) self.old.state.known (weight_of self.old + budget making.purpose + 4 + 4 * length making.left) self.new p) }
+    {
+        if making.left.len() == 0 {
+            return Ok(self.use_words(alloc, making, depth)?);
+        }
+        Ok(self.gather(alloc, making, depth)?)
+    }
+
+    /// A value is added to what is made of a word, and the words go on being made at once.
+    pub(crate) fn add_and_gather(
+        &mut self,
+        alloc: Global,
+        mut making: Making,
+        value: Bytes,
+        depth: u32,
+    ) -> Result<Pace, AllocError>
+        requires { self.old.control ≡ Control.Go }
+        ensures { IfOk result (λ p. Comes (making_with making depth value self.old.state (all_back self.old.stack)) self.old.state.known (weight_of self.old + budget making.purpose + 5 + 4 * length making.left) self.new p) }
+    {
+        if !has_room(&making.text, &value) {
+            return Ok(self.add_value(alloc, making, value, depth)?);
+        }
+        add_text(&mut making.text, value)?;
+        Ok(self.gather(alloc, making, depth)?)
     }
 }

@@ -1,18 +1,22 @@
 //! The code of expressions, which is read once.
-ghost use Rattle.std.specs.Prelude.{◌≡◌, length, map, IfOk};
+ghost use Rattle.std.specs.Prelude.{◌≡◌, List, length, map, IfOk, IfSome};
+ghost use Rattle.std.specs.Bool.{OnTrue};
 ghost use Rattle.std.specs.Arc.{arc_value};
 ghost use Rattle.dg_expr.specs.Reading.{tree_in};
+ghost use Rattle.dg_expr.specs.declared.code.Instruction.{Instruction as Step};
+ghost use Rattle.dg_words.specs.Piece.{Piece};
 ghost use Rattle.dg_language.specs.Expressions.{code_in};
-ghost use Rattle.dg_machine.specs.Instructions.{Begins, IsOperand, Takes};
+ghost use Rattle.dg_machine.specs.Instructions.{Begins, IsBetween, IsOperand, Takes};
 ghost use Rattle.dg_machine.specs.Steps.{operand_in};
 
+use crate::script::KEPT;
 use crate::steps::{kept_steps, queued};
 use crate::texts::one_value;
-use dg_bytes::{Bytes, Seq};
+use dg_bytes::{Bytes, Seq, TryCopy};
 use dg_expr::{Infix, Instruction, Prefix};
 use dg_forms::{code_of, operand_of};
 use dg_language::{Queue, State, Substitution};
-use dg_shelf::Reading;
+use dg_shelf::{Reading, Shelf};
 use std::alloc::{AllocError, Global};
 use std::marker::Model;
 use std::sync::Arc;
@@ -71,6 +75,67 @@ impl Reading for Formula {
     }
 }
 
+/// An expression that is computed again and again. Unless it is long its code is read once. A contract
+/// sees the text.
+#[derive(Drop)]
+pub(crate) struct Condition {
+    text: Bytes,
+    formula: Option<Arc<Formula>>,
+}
+
+impl Model for Condition {
+    ghost use Rattle.std.specs.Prelude.{ℕ, List};
+    ghost use Rattle.dg_machine.specs.Instructions.{IsCode};
+
+    ghost Value = { List ℕ };
+
+    ghost view = { λ c. c.text };
+
+    ghost invariant = { λ c. IsCode c.text c.formula };
+}
+
+impl Condition {
+    /// A text. `AllocError` if there is no room for it, or for its code.
+    pub fn new(
+        alloc: Global,
+        formulas: &mut Shelf<Formula>,
+        text: &Bytes,
+    ) -> Result<Condition, AllocError>
+        ensures { IfOk result (λ c. c ≡ text.now) }
+    {
+        let formula = if text.len() > KEPT {
+            None
+        } else {
+            Some(formulas.reading(alloc, text)?)
+        };
+        Ok(Condition {
+            text: text.copy(alloc)?,
+            formula,
+        })
+    }
+
+    /// The text.
+    pub fn text(&self) -> &Bytes
+        ensures { result.now ≡ self.now }
+    {
+        &self.text
+    }
+
+    /// The code of the expression.
+    pub fn formula(
+        &self,
+        alloc: Global,
+        formulas: &mut Shelf<Formula>,
+    ) -> Result<Arc<Formula>, AllocError>
+        ensures { IfOk result (λ f. arc_value f ≡ code_in (tree_in self.now)) }
+    {
+        match &self.formula {
+            Some(formula) => Ok(Arc::try_clone(formula)?),
+            None => Ok(formulas.reading(alloc, &self.text)?),
+        }
+    }
+}
+
 /// An instruction that is taken; where it puts an operand on the stack its value, or else the steps in which that is made.
 #[derive(Drop)]
 pub(crate) enum Taken {
@@ -107,10 +172,51 @@ impl Model for Instructions {
 fn take_operand(alloc: Global, state: &State, steps: &[Substitution]) -> Result<Taken, AllocError>
     ensures { IfOk result (IsOperand state.now steps.now) }
 {
-    match one_value(alloc, state, steps)? {
-        Some(value) => Ok(Taken::Value(value)),
+    match one_value(state, steps) {
+        Some(value) => Ok(Taken::Value(value.copy(alloc)?)),
         None => Ok(Taken::Operand(queued(alloc, steps)?)),
     }
+}
+
+/// Whether an instruction puts an operand on the stack.
+fn pushes(instruction: &Instruction) -> bool
+    ensures { OnTrue result ((pieces : List Piece) × (instruction.now ≡ Step.Push pieces)) }
+{
+    matches!(instruction, Instruction::Push(_))
+}
+
+/// The operator between two operands that an instruction applies, if it does.
+fn operator_in(instruction: &Instruction) -> Option<Infix>
+    ensures { IfSome result (λ op. instruction.now ≡ Step.Apply op) }
+{
+    match instruction {
+        Instruction::Apply(op) => Some(*op),
+        _ => None,
+    }
+}
+
+/// The operands and the operator, where these instructions are one operator between two operands that are values by themselves.
+fn between<'a>(
+    state: &'a State,
+    code: &'a [Instruction],
+    steps: &'a [Seq<Substitution>],
+) -> Option<(&'a Bytes, Infix, &'a Bytes)>
+    requires { steps.now ≡ map operand_in code.now }
+    ensures { IfSome result (λ r. IsBetween state.now code.now r.0.now r.1 r.2.now) }
+{
+    if code.len() != 3 || !pushes(&code[0]) || !pushes(&code[1]) {
+        return None;
+    }
+    let Some(op) = operator_in(&code[2]) else {
+        return None;
+    };
+    let Some(left) = one_value(state, steps[0].as_slice()) else {
+        return None;
+    };
+    let Some(right) = one_value(state, steps[1].as_slice()) else {
+        return None;
+    };
+    Some((left, op, right))
 }
 
 /// The instruction at a place, if there is one.
@@ -157,6 +263,18 @@ impl Instructions {
         match &self.formula.code {
             Some(code) => code.len().saturating_sub(self.at),
             None => 0,
+        }
+    }
+
+    /// The operands and the operator, where one operator between two operands that are values by themselves is all there is.
+    pub fn between<'a>(&'a self, state: &'a State) -> Option<(&'a Bytes, Infix, &'a Bytes)>
+        ensures { IfSome result (λ r. IsBetween state.now self.now r.0.now r.1 r.2.now) }
+    {
+        match &self.formula.code {
+            Some(code) if self.at == 0 => {
+                between(state, code.as_slice(), self.formula.steps.as_slice())
+            }
+            _ => None,
         }
     }
 

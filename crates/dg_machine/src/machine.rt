@@ -166,7 +166,7 @@ impl Machine {
         Ok(Pace::Moved)
     }
 
-    /// The words of a command are made, in front of the commands that are left.
+    /// The words of a command are made, in front of the commands that are left, if any are.
     #[tactic(auto, unfolding(crate::specs::Meaning::all_back, crate::specs::Meaning::back))]
     fn begin_command(
         &mut self,
@@ -180,8 +180,11 @@ impl Machine {
         ensures counted { OnOk result (length making.left < 2 ^ 64) }
     {
         let _count = making.left.len();
+        if commands.is_over() {
+            return Ok(self.go_on(alloc, making, depth)?);
+        }
         self.stack.push(Frame::Sequence { commands, depth })?;
-        let pace = self.gather(alloc, making, depth)?;
+        let pace = self.go_on(alloc, making, depth)?;
         Ok(pace)
     }
 
@@ -238,6 +241,22 @@ impl Machine {
             depth: depth - 1,
         })?;
         Ok(Pace::Moved)
+    }
+
+    /// The evaluation of a text begins as `begin` has it, and its first command runs.
+    pub(crate) fn begin_now(
+        &mut self,
+        alloc: Global,
+        commands: Script,
+        depth: u32,
+    ) -> Result<Pace, AllocError>
+        requires { self.old.control ≡ Control.Go }
+        ensures { IfOk result (λ p. (text : List ℕ) → commands ≡ commands_at text 0 → Comes (evaluate depth text self.old.state (all_back self.old.stack)) self.old.state.known (weight_of self.old + 4) self.new p) }
+    {
+        if depth == 0 {
+            return Ok(self.begin(alloc, commands, depth)?);
+        }
+        Ok(self.sequence(alloc, commands, Bytes::new(alloc), depth - 1)?)
     }
 
     /// The commands of a text. Unless it is long they are read once, as long as they are kept.

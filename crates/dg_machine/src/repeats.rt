@@ -1,13 +1,16 @@
 //! The loops over a condition: `while` and `for`.
 ghost use Rattle.std.specs.Prelude.{◌≡◌, ◌+◌, ◌*◌, ◌^◌, ◌<◌, ◌∷◌, [], IfOk, MatchOption, None, length};
 ghost use Rattle.dg_language.specs.Choosing.{do_for, do_while};
+ghost use Rattle.dg_language.specs.Expressions.{calculate};
 ghost use Rattle.dg_language.specs.Language.{evaluate};
 ghost use Rattle.dg_machine.specs.declared.frame.Control.{Control};
 ghost use Rattle.dg_machine.specs.declared.frame.Stage.{Stage};
 ghost use Rattle.dg_machine.specs.Choosing.{next_script, next_test, repeat_if, repeating, stage_weight};
-ghost use Rattle.dg_machine.specs.Meaning.{all_back, weight_of, Goes};
+ghost use Rattle.dg_machine.specs.Meaning.{all_back, weight_of, Comes, Goes};
 
-use crate::frame::{Frame, Pace, Repetition, Stage};
+use crate::computing::{Computed, compute_on};
+use crate::frame::{Calculation, Frame, Pace, Repetition, Stage};
+use crate::instructions::Condition;
 use crate::machine::Machine;
 use crate::script::Body;
 use dg_bytes::{Bytes, TryCopy};
@@ -20,7 +23,7 @@ impl Machine {
     #[tactic(auto, unfolding(crate::specs::Meaning::back, crate::specs::Meaning::all_back))]
     fn next_test(&mut self, alloc: Global, mut repetition: Repetition) -> Result<Pace, AllocError>
         requires { self.old.control ≡ Control.Go }
-        ensures { IfOk result (λ p. Goes (next_test repetition self.old.state (all_back self.old.stack)) self.old.state.known (weight_of self.old + 5) self.new p) }
+        ensures { IfOk result (λ p. Comes (next_test repetition self.old.state (all_back self.old.stack)) self.old.state.known (weight_of self.old + 5) self.new p) }
     {
         if repetition.left == 0 || !self.state.has_step() {
             let closing = self.out_of_steps(alloc)?;
@@ -29,10 +32,29 @@ impl Machine {
         self.state.take_step();
         repetition.left -= 1;
         repetition.stage = Stage::Test;
-        let test = repetition.test.copy(alloc)?;
-        let depth = repetition.depth;
-        self.stack.push(Frame::Repeating { repetition })?;
-        Ok(self.calculate(alloc, &test, depth)?)
+        Ok(self.test(alloc, repetition)?)
+    }
+
+    /// The test of a loop is computed, and its body begins if the condition holds.
+    #[tactic(auto, unfolding(crate::specs::Meaning::back, crate::specs::Meaning::all_back))]
+    fn test(&mut self, alloc: Global, repetition: Repetition) -> Result<Pace, AllocError>
+        requires go { self.old.control ≡ Control.Go }
+        requires stage { repetition.stage ≡ Stage.Test }
+        ensures { IfOk result (λ p. Comes (calculate (evaluate repetition.depth) repetition.test self.old.state (repeating repetition Stage.Test (all_back self.old.stack))) self.old.state.known (weight_of self.old + 2 ^ 139) self.new p) }
+    {
+        let formula = repetition.test.formula(alloc, &mut self.formulas)?;
+        let Some(mut calculation) = Calculation::of(alloc, formula, repetition.depth) else {
+            return Ok(self.no_expression(alloc, repetition.test.text())?);
+        };
+        match compute_on(alloc, &self.state, &mut calculation)? {
+            Computed::Value(value) => {
+                Ok(self.behind_test(alloc, repetition, Code::Done, value)?)
+            }
+            computed => {
+                self.stack.push(Frame::Repeating { repetition })?;
+                Ok(self.come_to(alloc, calculation, computed)?)
+            }
+        }
     }
 
     /// The body of a loop begins, if its condition holds.
@@ -44,7 +66,7 @@ impl Machine {
         holds: bool,
     ) -> Result<Pace, AllocError>
         requires { self.old.control ≡ Control.Go }
-        ensures { IfOk result (λ p. Goes (repeat_if repetition holds self.old.state (all_back self.old.stack)) self.old.state.known (weight_of self.old + 32) self.new p) }
+        ensures { IfOk result (λ p. Comes (repeat_if repetition holds self.old.state (all_back self.old.stack)) self.old.state.known (weight_of self.old + 32) self.new p) }
     {
         if !holds {
             self.end(Code::Done, Bytes::new(alloc));
@@ -54,14 +76,14 @@ impl Machine {
         let commands = repetition.body.script(alloc)?;
         let depth = repetition.depth;
         self.stack.push(Frame::Repeating { repetition })?;
-        Ok(self.begin(alloc, commands, depth)?)
+        Ok(self.begin_now(alloc, commands, depth)?)
     }
 
     /// What comes behind the body of a loop: the third script of `for`, or the next test.
     #[tactic(auto, unfolding(crate::specs::Meaning::back, crate::specs::Meaning::all_back, crate::specs::Meaning::weight, crate::specs::Meaning::stack_weight))]
     fn next_script(&mut self, alloc: Global, mut repetition: Repetition) -> Result<Pace, AllocError>
         requires { self.old.control ≡ Control.Go }
-        ensures { IfOk result (λ p. Goes (next_script repetition self.old.state (all_back self.old.stack)) self.old.state.known (weight_of self.old + 16) self.new p) }
+        ensures { IfOk result (λ p. Comes (next_script repetition self.old.state (all_back self.old.stack)) self.old.state.known (weight_of self.old + 16) self.new p) }
     {
         let Some(next) = &repetition.next else {
             return Ok(self.next_test(alloc, repetition)?);
@@ -70,7 +92,7 @@ impl Machine {
         let depth = repetition.depth;
         repetition.stage = Stage::Next;
         self.stack.push(Frame::Repeating { repetition })?;
-        Ok(self.begin(alloc, commands, depth)?)
+        Ok(self.begin_now(alloc, commands, depth)?)
     }
 
     /// A loop goes on behind its first script.
@@ -83,7 +105,7 @@ impl Machine {
         value: Bytes,
     ) -> Result<Pace, AllocError>
         requires { self.old.control ≡ Control.Go }
-        ensures { IfOk result (λ p. Goes (repeating repetition Stage.Start (all_back self.old.stack) code value self.old.state) self.old.state.known (weight_of self.old + 8) self.new p) }
+        ensures { IfOk result (λ p. Comes (repeating repetition Stage.Start (all_back self.old.stack) code value self.old.state) self.old.state.known (weight_of self.old + 8) self.new p) }
     {
         match code {
             Code::Done => Ok(self.next_test(alloc, repetition)?),
@@ -103,7 +125,7 @@ impl Machine {
         value: Bytes,
     ) -> Result<Pace, AllocError>
         requires { self.old.control ≡ Control.Go }
-        ensures { IfOk result (λ p. Goes (repeating repetition Stage.Test (all_back self.old.stack) code value self.old.state) self.old.state.known (weight_of self.old + 32) self.new p) }
+        ensures { IfOk result (λ p. Comes (repeating repetition Stage.Test (all_back self.old.stack) code value self.old.state) self.old.state.known (weight_of self.old + 32) self.new p) }
     {
         match code {
             Code::Done => match truth_in(alloc, value.as_slice())? {
@@ -126,7 +148,7 @@ impl Machine {
         value: Bytes,
     ) -> Result<Pace, AllocError>
         requires { self.old.control ≡ Control.Go }
-        ensures { IfOk result (λ p. Goes (repeating repetition Stage.Body (all_back self.old.stack) code value self.old.state) self.old.state.known (weight_of self.old + 16) self.new p) }
+        ensures { IfOk result (λ p. Comes (repeating repetition Stage.Body (all_back self.old.stack) code value self.old.state) self.old.state.known (weight_of self.old + 16) self.new p) }
     {
         match code {
             Code::Done | Code::Continued => Ok(self.next_script(alloc, repetition)?),
@@ -145,7 +167,7 @@ impl Machine {
         value: Bytes,
     ) -> Result<Pace, AllocError>
         requires { self.old.control ≡ Control.Go }
-        ensures { IfOk result (λ p. Goes (repeating repetition Stage.Next (all_back self.old.stack) code value self.old.state) self.old.state.known (weight_of self.old + 8) self.new p) }
+        ensures { IfOk result (λ p. Comes (repeating repetition Stage.Next (all_back self.old.stack) code value self.old.state) self.old.state.known (weight_of self.old + 8) self.new p) }
     {
         match code {
             Code::Done => Ok(self.next_test(alloc, repetition)?),
@@ -165,7 +187,7 @@ impl Machine {
         value: Bytes,
     ) -> Result<Pace, AllocError>
         requires { self.old.control ≡ Control.Go }
-        ensures { IfOk result (λ p. Goes (repeating repetition repetition.stage (all_back self.old.stack) code value self.old.state) self.old.state.known (weight_of self.old + stage_weight repetition.stage) self.new p) }
+        ensures { IfOk result (λ p. Comes (repeating repetition repetition.stage (all_back self.old.stack) code value self.old.state) self.old.state.known (weight_of self.old + stage_weight repetition.stage) self.new p) }
     {
         match repetition.stage {
             Stage::Start => Ok(self.behind_start(alloc, repetition, code, value)?),
@@ -176,7 +198,7 @@ impl Machine {
     }
 
     /// `while test body`.
-    #[tactic(auto, unfolding(dg_language::specs::Choosing::do_while))]
+    #[tactic(auto, unfolding(dg_language::specs::Choosing::do_while, crate::specs::Meaning::rest, crate::specs::Meaning::back, crate::specs::Meaning::all_back, crate::specs::Meaning::weight, crate::specs::Meaning::stack_weight))]
     pub(crate) fn repeat_while(
         &mut self,
         alloc: Global,
@@ -184,20 +206,22 @@ impl Machine {
         depth: u32,
     ) -> Result<Pace, AllocError>
         requires { self.old.control ≡ Control.Go }
-        ensures { IfOk result (λ p. Goes (do_while (evaluate depth) args.now self.old.state (all_back self.old.stack)) self.old.state.known (weight_of self.old + 5) self.new p) }
+        ensures { IfOk result (λ p. Goes (do_while (evaluate depth) args.now self.old.state (all_back self.old.stack)) self.old.state.known (weight_of self.old + 16) self.new p) }
     {
         let Some((test, body)) = two(args) else {
             return Ok(self.wrong_count(alloc, b"while")?);
         };
         let repetition = Repetition {
             stage: Stage::Start,
-            test: test.copy(alloc)?,
+            test: Condition::new(alloc, &mut self.formulas, test)?,
             next: None,
             body: Body::new(alloc, body)?,
             left: STEPS,
             depth,
         };
-        Ok(self.next_test(alloc, repetition)?)
+        self.stack.push(Frame::Repeating { repetition })?;
+        self.end(Code::Done, Bytes::new(alloc));
+        Ok(Pace::Moved)
     }
 
     /// `for start test next body`.
@@ -216,7 +240,7 @@ impl Machine {
         };
         let repetition = Repetition {
             stage: Stage::Start,
-            test: test.copy(alloc)?,
+            test: Condition::new(alloc, &mut self.formulas, test)?,
             next: Some(Body::new(alloc, next)?),
             body: Body::new(alloc, body)?,
             left: STEPS,

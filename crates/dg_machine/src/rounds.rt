@@ -4,7 +4,7 @@ ghost use Rattle.dg_language.specs.State.{assigned};
 ghost use Rattle.dg_language.specs.Evaluation.{within};
 ghost use Rattle.dg_language.specs.Control.{each, give_each, head_or_empty, behind_first};
 ghost use Rattle.dg_machine.specs.declared.frame.Control.{Control};
-ghost use Rattle.dg_machine.specs.Meaning.{all_back, weight_of, looping, next_round, round_body, Comes, Goes};
+ghost use Rattle.dg_machine.specs.Meaning.{all_back, weight_of, looping, next_round, round_body, Comes};
 
 use crate::frame::{Frame, Pace, Rounds};
 use crate::machine::Machine;
@@ -22,7 +22,7 @@ impl Machine {
         mut rounds: Rounds,
     ) -> Result<Pace, AllocError>
         requires { self.old.control ≡ Control.Go }
-        ensures { IfOk result (λ p. Goes (next_round rounds rounds.values self.old.state (all_back self.old.stack)) self.old.state.known (weight_of self.old + 5) self.new p) }
+        ensures { IfOk result (λ p. Comes (next_round rounds rounds.values self.old.state (all_back self.old.stack)) self.old.state.known (weight_of self.old + 5) self.new p) }
     {
         if rounds.values.len() == 0 {
             self.end(Code::Done, Bytes::new(alloc));
@@ -36,21 +36,20 @@ impl Machine {
         let _count = rounds.names.len();
         rounds.left -= 1;
         rounds.given = Some(0);
-        self.stack.push(Frame::Looping { rounds })?;
-        Ok(Pace::Moved)
+        Ok(self.give_next(alloc, rounds, 0)?)
     }
 
     /// The body of a loop begins.
     #[tactic(auto, unfolding(crate::specs::Meaning::back, crate::specs::Meaning::all_back, crate::specs::Meaning::weight, crate::specs::Meaning::stack_weight))]
     fn begin_body(&mut self, alloc: Global, mut rounds: Rounds) -> Result<Pace, AllocError>
         requires { self.old.control ≡ Control.Go }
-        ensures { IfOk result (λ p. Goes (round_body rounds rounds.values self.old.state (all_back self.old.stack)) self.old.state.known (weight_of self.old + 9) self.new p) }
+        ensures { IfOk result (λ p. Comes (round_body rounds rounds.values self.old.state (all_back self.old.stack)) self.old.state.known (weight_of self.old + 9) self.new p) }
     {
         rounds.given = None;
         let commands = rounds.body.script(alloc)?;
         let depth = rounds.depth;
         self.stack.push(Frame::Looping { rounds })?;
-        let pace = self.begin(alloc, commands, depth)?;
+        let pace = self.begin_now(alloc, commands, depth)?;
         Ok(pace)
     }
 
@@ -65,7 +64,7 @@ impl Machine {
     ) -> Result<Pace, AllocError>
         requires go { self.old.control ≡ Control.Go }
         requires at_name { at < length rounds.names }
-        ensures { IfOk result (λ p. Goes (within (length (head_or_empty rounds.values)) self.old.state (give_each (drop (at + 1) rounds.names) (behind_first rounds.values) (assigned name.now (head_or_empty rounds.values) self.old.state) (λ values t. round_body rounds values t (all_back self.old.stack)))) self.old.state.known (weight_of self.old + 9 + 4 * (length rounds.names - at)) self.new p) }
+        ensures { IfOk result (λ p. Comes (within (length (head_or_empty rounds.values)) self.old.state (give_each (drop (at + 1) rounds.names) (behind_first rounds.values) (assigned name.now (head_or_empty rounds.values) self.old.state) (λ values t. round_body rounds values t (all_back self.old.stack)))) self.old.state.known (weight_of self.old + 9 + 4 * (length rounds.names - at)) self.new p) }
     {
         let value = take_first(alloc, &mut rounds.values);
         if value.len() > LONGEST_VALUE {
@@ -73,6 +72,9 @@ impl Machine {
             return Ok(Pace::Over(closing));
         }
         self.state.assign(alloc, name, value)?;
+        if at + 1 >= rounds.names.len() {
+            return Ok(self.begin_body(alloc, rounds)?);
+        }
         rounds.given = Some(at + 1);
         self.stack.push(Frame::Looping { rounds })?;
         Ok(Pace::Moved)

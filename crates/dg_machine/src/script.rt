@@ -1,6 +1,7 @@
 //! The commands of a text, read one after another, and texts whose commands are read once.
 ghost use Rattle.std.specs.Prelude.{◌≡◌, ◌++◌, ◌∷◌, [], ◌≤◌, ◌<◌, ℕ, drop, length, map, IfOk, MatchOption};
 ghost use Rattle.std.specs.Arc.{arc_value};
+ghost use Rattle.std.specs.Bool.{OnTrue};
 ghost use Rattle.dg_language.specs.Evaluation.{Then};
 ghost use Rattle.dg_language.specs.Language.{commands_at};
 ghost use Rattle.dg_language.specs.declared.substitution.Purpose.{Purpose};
@@ -240,6 +241,16 @@ impl Script {
         Script {
             source: Source::Kept(commands),
             at: 0,
+        }
+    }
+
+    /// Whether no command is left, where that is known.
+    pub fn is_over(&self) -> bool
+        ensures { OnTrue result (self.now ≡ []) }
+    {
+        match &self.source {
+            Source::Text(_) => false,
+            Source::Kept(commands) => self.at >= commands.all.len(),
         }
     }
 

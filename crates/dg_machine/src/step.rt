@@ -141,10 +141,10 @@ impl Machine {
         value: Bytes,
     ) -> Result<Pace, AllocError>
         requires { self.old.control ≡ Control.Go }
-        ensures { IfOk result (λ p. Goes (if_done (λ v s. making_with making depth v s (all_back self.old.stack)) (all_back self.old.stack) code value self.old.state) self.old.state.known (weight_of self.old + budget making.purpose + 5 + 4 * length making.left) self.new p) }
+        ensures { IfOk result (λ p. Comes (if_done (λ v s. making_with making depth v s (all_back self.old.stack)) (all_back self.old.stack) code value self.old.state) self.old.state.known (weight_of self.old + budget making.purpose + 5 + 4 * length making.left) self.new p) }
     {
         match code {
-            Code::Done => Ok(self.add_value(alloc, making, value, depth)?),
+            Code::Done => Ok(self.add_and_gather(alloc, making, value, depth)?),
             Code::Failed | Code::Returned | Code::Broken | Code::Continued | Code::ExpContinued => {
                 Ok(self.go_up(code, value))
             }
@@ -173,7 +173,7 @@ impl Machine {
         value: Bytes,
     ) -> Result<Pace, AllocError>
         requires { self.old.control ≡ Control.Go }
-        ensures { IfOk result (λ p. Goes (loop_after (λ s. next_round rounds rounds.values s (all_back self.old.stack)) (all_back self.old.stack) code value self.old.state) self.old.state.known (weight_of self.old + 5) self.new p) }
+        ensures { IfOk result (λ p. Comes (loop_after (λ s. next_round rounds rounds.values s (all_back self.old.stack)) (all_back self.old.stack) code value self.old.state) self.old.state.known (weight_of self.old + 5) self.new p) }
     {
         match code {
             Code::Done | Code::Continued => Ok(self.next_round(alloc, rounds)?),

@@ -1,11 +1,11 @@
 //! Words that are made of texts, and of the values of variables that are in use: nothing is asked or evaluated for them.
-ghost use Rattle.std.specs.Prelude.{◌≡◌, ◌+◌, ◌≤◌, ◌<◌, ◌∷◌, ◌++◌, [], ℕ, List, IfOk, OnOk, IfSome, Some, length};
+ghost use Rattle.std.specs.Prelude.{◌≡◌, ◌+◌, ◌≤◌, ◌<◌, ◌∷◌, ◌++◌, [], ℕ, List, IfOk, OnOk, IfSome, Some, drop, length};
 ghost use Rattle.std.specs.Bool.{OnTrue, OnFalse};
 ghost use Rattle.dg_language.specs.Evaluation.{Then};
 ghost use Rattle.dg_language.specs.Touch.{value_in_use};
 ghost use Rattle.dg_language.specs.declared.substitution.Substitution.{Substitution as Step};
 ghost use Rattle.dg_machine.specs.Meaning.{making_on};
-ghost use Rattle.dg_machine.specs.Texts.{Makes, going_on};
+ghost use Rattle.dg_machine.specs.Texts.{IsText, Makes, going_on};
 
 use crate::frame::Making;
 use crate::steps::queued;
@@ -27,7 +27,7 @@ pub(crate) fn add_text(text: &mut Bytes, value: Bytes) -> Result<(), AllocError>
 }
 
 /// Whether a text is no longer than a value may be, once this is added.
-fn has_room(text: &Bytes, added: &Bytes) -> bool
+pub(crate) fn has_room(text: &Bytes, added: &Bytes) -> bool
     ensures short { OnTrue result (length text.now + length added.now ≤ 1048576) }
     ensures long { OnFalse result (1048576 < length text.now + length added.now) }
 {
@@ -140,7 +140,7 @@ pub(crate) fn begun_with(
     ensures purpose { IfOk result (λ m. m.purpose ≡ purpose) }
 {
     let mut making = Making::begun(alloc, purpose, Queue::new(Vec::new(alloc)));
-    let mut at = 0;
+    let mut at = take_words(alloc, state, &mut making, steps)?;
     'steps: while at < steps.len() {
         if !take_text(alloc, state, &mut making, &steps[at])? {
             break;
@@ -158,21 +158,63 @@ fn ends_word(step: &Substitution) -> bool
     matches!(step, Substitution::WordEnds)
 }
 
-/// The one word that these steps make, where it is one text, or the value of one variable that is in use.
-pub(crate) fn one_value(
+/// The value of one step, where that is a text, or a variable that is in use.
+fn one_text<'a>(state: &'a State, step: &'a Substitution) -> Option<&'a Bytes>
+    ensures { IfSome result (λ v. IsText state.now step.now v.now) }
+{
+    match step {
+        Substitution::Literal(text) => Some(text),
+        Substitution::Variable(name) => state.value_in_use(name.as_slice()),
+        _ => None,
+    }
+}
+
+/// The same, unless it is longer than a value may be.
+fn short_text<'a>(state: &'a State, step: &'a Substitution) -> Option<&'a Bytes>
+    ensures text { IfSome result (λ v. IsText state.now step.now v.now) }
+    ensures short { IfSome result (λ v. length v.now ≤ 1048576) }
+{
+    let Some(value) = one_text(state, step) else {
+        return None;
+    };
+    if value.len() > LONGEST_VALUE {
+        return None;
+    }
+    Some(value)
+}
+
+/// Takes words that are one text each, or the value of one variable that is in use. How many steps were taken.
+fn take_words(
     alloc: Global,
     state: &State,
+    making: &mut Making,
     steps: &[Substitution],
-) -> Result<Option<Bytes>, AllocError>
-    ensures { IfOk result (λ o. IfSome o (Makes state.now steps.now)) }
+) -> Result<usize, AllocError>
+    requires { making.old.text ≡ [] }
+    ensures same { IfOk result (λ at. (depth : ℕ) (k : Then) → going_on making.new (drop at steps.now) depth state.now k ≡ going_on making.old steps.now depth state.now k) }
+    ensures within { IfOk result (λ at. at ≤ length steps.now) }
+    ensures purpose { OnOk result (making.new.purpose ≡ making.old.purpose) }
+{
+    let mut at = 0;
+    'words: while steps.len() - at >= 2 {
+        if !ends_word(&steps[at + 1]) {
+            break;
+        }
+        let Some(value) = short_text(state, &steps[at]) else {
+            break;
+        };
+        making.made.push(value.copy(alloc)?)?;
+        at += 2;
+    }
+    Ok(at)
+}
+
+/// The one word that these steps make, where it is one text, or the value of one variable that is in use.
+pub(crate) fn one_value<'a>(state: &'a State, steps: &'a [Substitution]) -> Option<&'a Bytes>
+    ensures { IfSome result (λ v. Makes state.now steps.now v.now) }
 {
     if steps.len() != 2 || !ends_word(&steps[1]) {
-        return Ok(None);
+        return None;
     }
-    let before = Bytes::new(alloc);
-    match &steps[0] {
-        Substitution::Literal(text) if has_room(&before, text) => Ok(Some(text.copy(alloc)?)),
-        Substitution::Variable(name) => Ok(value_with_room(alloc, state, name, &before)?),
-        _ => Ok(None),
-    }
+    short_text(state, &steps[0])
 }

@@ -4,7 +4,7 @@ ghost use Rattle.std.specs.List.{concat};
 ghost use Rattle.std.specs.Option.{option_copied};
 ghost use Rattle.dg_expr.specs.Truth.{truth_text};
 ghost use Rattle.dg_scope.specs.Scopes.{value_of};
-ghost use Rattle.dg_language.specs.Variables.{append_elements, add_number, or_empty, or_zero, store, touch, unset_all, unset_names, unset_one, do_append, do_global, do_incr, do_info, do_lappend, do_set, do_unset, do_variable};
+ghost use Rattle.dg_language.specs.Variables.{append_elements, add_number, or_empty, or_zero, store, touch, unset_all, unset_names, unset_one, with_sum, increased, do_append, do_global, do_incr, do_info, do_lappend, do_set, do_unset, do_variable};
 ghost use Rattle.dg_machine.specs.declared.frame.Control.{Control};
 ghost use Rattle.dg_machine.specs.Meaning.{all_back, weight_of, Comes, Goes, RunsAs};
 
@@ -114,6 +114,20 @@ impl Machine {
         ensures { IfOk result (λ p. Goes (add_number name.now by.now self.old.state (all_back self.old.stack)) self.old.state.known (weight_of self.old + 2) self.new p) }
     {
         let old = or_zero(alloc, self.state.value_of(name))?;
+        Ok(self.add_to(alloc, name, old, by)?)
+    }
+
+    /// A number more than this text, as the value of a variable that can be used.
+    fn add_to(
+        &mut self,
+        alloc: Global,
+        name: &[u8],
+        old: Bytes,
+        by: &[u8],
+    ) -> Result<Pace, AllocError>
+        requires { self.old.control ≡ Control.Go }
+        ensures { IfOk result (λ p. Goes (with_sum name.now (increased old by.now) self.old.state (all_back self.old.stack)) self.old.state.known (weight_of self.old + 2) self.new p) }
+    {
         match increased(alloc, old.as_slice(), by)? {
             Ok(sum) => {
                 let pace = self.store(alloc, name, sum)?;
@@ -230,6 +244,10 @@ impl Machine {
             let pace = self.wrong_count(alloc, b"incr")?;
             return Ok(pace);
         };
+        if let Some(value) = self.state.value_in_use(name.as_slice()) {
+            let old = value.copy(alloc)?;
+            return Ok(self.add_to(alloc, name.as_slice(), old, by)?);
+        }
         if let Some(pace) = self.ready(alloc, name.as_slice())? {
             return Ok(pace);
         }

@@ -3,7 +3,7 @@ use Rattle.dg_expr.specs.Truth.{truth_of}
 use Rattle.dg_machine.specs.Choosing.{repeat_if}
 use Rattle.dg_machine.specs.Meaning.{all_back}
 use Rattle.dg_machine.proofs.ExpressionLemmas.{judged-fault}
-use Rattle.dg_machine.proofs.MachineLemmas.{Goes-along}
+use Rattle.dg_machine.proofs.MachineLemmas.{Goes-comes}
 use Rattle.dg_machine.proofs.machine.Machine.behind_test.Goals as goal
 
 pub returns-in_ok-fail-in-Err : goal.returns-in_ok-fail-in-Err
@@ -13,5 +13,5 @@ returns-in_ok-fail-in-Err c =
     let k = all_back c.args.self.now.stack in
     let fault = rw c.as_slice.ensures at (sym c.in-Err.is ∙ c.in_ok-holds-in-Done.ensures) in
     rw c.in-Done.is
-    (Goes-along _ _ _ _ _ _ _ _ c.in_ok-fail-in-Err.ensures
-    (judged-fault (truth_of v) v c.in-Err.message s k (λ holds. repeat_if c.args.repetition holds s k) fault) refl (omega arith))
+    (Goes-comes _ _ _ _ _ _ _ c.in_ok-fail-in-Err.ensures
+    (judged-fault (truth_of v) v c.in-Err.message s k (λ holds. repeat_if c.args.repetition holds s k) fault) (omega arith))

@@ -1,7 +1,10 @@
-use Rattle.std.proofs.Common.{◌<◌, ◌≤◌, ◌∙◌, refl, subst, arith}
-use Rattle.dg_machine.specs.Meaning.{back, all_back}
+use Rattle.std.proofs.Common.{◌<◌, ◌≤◌, ◌∙◌, refl, sym, subst, arith}
+use Rattle.dg_language.specs.Expressions.{written, in_decimal}
+use Rattle.dg_language.specs.declared.code.Code.TheVariants.{Done}
+use Rattle.dg_machine.specs.Meaning.{back, all_back, rest, weight}
 use Rattle.dg_machine.proofs.MachineLemmas.{Goes-along, weight-cons}
-use Rattle.dg_machine.proofs.ExpressionLemmas.{expr-long, expr-short}
+use Rattle.dg_machine.proofs.GatherLemmas.{fail-through}
+use Rattle.dg_machine.proofs.ExpressionLemmas.{begun-calculates, calculate-none, expr-long, expr-short}
 use Rattle.dg_machine.proofs.machine.Machine.expr.Goals as goal
 
 pub returns-then-len-gt-LONGEST_VALUE : goal.returns-then-len-gt-LONGEST_VALUE
@@ -10,10 +13,37 @@ returns-then-len-gt-LONGEST_VALUE c =
     let long = rw text at (subst (λ n. 1048576 < n) c.len.ensures c.if-len-gt-LONGEST_VALUE.true) in
     rw c.cut.ensures.same (expr-long _ _ _ _ c.in-Some.ensures _ _ long ∙ c.in_ok-closing.ensures.ends, refl)
 
+pub returns-in_default-of : goal.returns-in_default-of
+returns-in_default-of c =
+    let text = rw c.as_slice.ensures at c.in_ok-text.ensures in
+    let short = rw text at (subst (λ n. n ≤ 1048576) c.len.ensures c.if-len-gt-LONGEST_VALUE.false) in
+    let none = sym (rw c.in_default-of.is at c.of.ensures.begun) ∙ c.in_ok-formula.ensures in
+    let code = rw text at none in
+    let went = rw text at c.in_ok-no_expression.ensures in
+    Goes-along _ _ _ _ _ _ _ _ went
+    (expr-short _ _ _ _ c.in-Some.ensures _ _ short ∙ calculate-none _ _ _ _ code ∙ fail-through _ _ _ _) refl (omega arith)
+
+pub returns-in-Value : goal.returns-in-Value
+unfolding rest weight
+returns-in-Value c =
+    let text = rw c.as_slice.ensures at c.in_ok-text.ensures in
+    let short = rw text at (subst (λ n. n ≤ 1048576) c.len.ensures c.if-len-gt-LONGEST_VALUE.false) in
+    let begun = rw c.in-Some-of.is at c.of.ensures.begun in
+    let code = rw text at c.in_ok-formula.ensures in
+    let value = rw c.in-Value.is at c.in_ok-computed.ensures in
+    let k = written (all_back c.args.self.now.stack) in
+    rw (c.end.ensures, c.in_ok-value-in-Value.ensures, c.requires)
+    (sym (expr-short _ _ _ _ c.in-Some.ensures _ _ short ∙ sym (begun-calculates _ _ _ _ _ k code begun.0 begun.1) ∙ value k), refl, omega arith)
+
 pub returns : goal.returns
 unfolding all_back back
 returns c =
     let text = rw c.as_slice.ensures at c.in_ok-text.ensures in
     let short = rw text at (subst (λ n. n ≤ 1048576) c.len.ensures c.if-len-gt-LONGEST_VALUE.false) in
-    let went = rw (c.in_ok-push.ensures, text, c.requires) at c.in_ok-calculate.ensures in
-    rw c.requires (Goes-along _ _ _ _ _ _ _ _ went (expr-short _ _ _ _ c.in-Some.ensures _ _ short) refl (rw weight-cons (omega arith)))
+    let begun = rw c.in-Some-of.is at c.of.ensures.begun in
+    let counted = rw c.in-Some-of.is at c.of.ensures.counted in
+    let code = rw text at c.in_ok-formula.ensures in
+    let went = rw (c.in_ok-push-in_default-2.ensures, c.requires) at (c.in_ok-come_to-in_default-2.ensures c.in-Some-of.calculation c.in_ok-computed.ensures) in
+    rw c.requires
+    (Goes-along _ _ _ _ _ _ _ _ went (expr-short _ _ _ _ c.in-Some.ensures _ _ short ∙ sym (begun-calculates _ _ _ _ _ _ code begun.0 begun.1)) refl
+    (rw weight-cons (omega (arith, counted))))

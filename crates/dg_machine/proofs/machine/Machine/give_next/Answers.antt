@@ -1,14 +1,15 @@
 use Rattle.std.proofs.Common.{◌≤◌, ◌<◌, refl, ap, length, arith}
 use Rattle.dg_machine.specs.declared.machine.Machine.{Machine}
 use Rattle.dg_machine.specs.Meaning.{rest, go}
-use Rattle.dg_machine.proofs.MachineLemmas.{Goes-comes}
-use Rattle.dg_machine.proofs.LoopLemmas.{give-done, give-asks, give-over, give-ready, weight-readied, Goes-on}
+use Rattle.dg_machine.proofs.MachineLemmas.{Comes-known}
+use Rattle.dg_machine.proofs.GatherLemmas.{Comes-along}
+use Rattle.dg_machine.proofs.LoopLemmas.{give-done, give-asks, give-over, give-ready, weight-readied}
 use Rattle.dg_machine.proofs.machine.Machine.give_next.Goals as goal
 
 pub returns-then-at-len : goal.returns-then-at-len
 returns-then-at-len c =
     let past : length c.args.rounds.names ≤ c.args.at = omega (arith, c.len.ensures, c.if-at-len.true) in
-    Goes-comes _ _ _ _ _ _ _ c.in_ok-pace.ensures (give-done _ _ _ _ _ past) (omega arith)
+    Comes-along _ _ _ _ _ _ _ c.in_ok-pace.ensures (give-done _ _ _ _ _ past) (omega arith)
 
 pub returns-in_ok-push-in-Some-Stands : goal.returns-in_ok-push-in-Some-Stands
 unfolding rest go
@@ -32,4 +33,4 @@ returns-in_ok-pace-in-None c =
     let stack = ap (λ (m : Machine). m.stack) ready.1 in
     let went = rw (control, stack, c.as_slice-in-None.ensures) at c.in_ok-pace-in-None.ensures in
     let same = weight-readied c.args.self.now.state c.ready.new.self.state c.args.self.now.control c.args.self.now.stack (ap (λ (m : Machine). m.state) ready.1) in
-    Goes-on _ _ _ _ _ _ _ _ went (give-ready _ _ _ here c.in_ok-name.ensures _ _ _ _ ready.0) (ap (λ (m : Machine). m.state.known) ready.1) (rw same (omega arith))
+    Comes-along _ _ _ _ _ _ _ (Comes-known _ _ _ _ _ _ went (ap (λ (m : Machine). m.state.known) ready.1)) (give-ready _ _ _ here c.in_ok-name.ensures _ _ _ _ ready.0) (rw same (omega arith))

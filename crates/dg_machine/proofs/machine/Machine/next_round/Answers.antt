@@ -1,7 +1,8 @@
 use Rattle.std.proofs.Common.{◌≡◌, ◌≤◌, ◌<◌, ◌⊎◌, inl, inr, ◌∙◌, refl, sym, length, arith}
-use Rattle.dg_machine.specs.Meaning.{go, rest, weight}
-use Rattle.dg_machine.proofs.MachineLemmas.{known-stepped, no-step, step-left}
-use Rattle.dg_machine.proofs.LoopLemmas.{each-done, each-cut, each-next, weight-frame}
+use Rattle.dg_machine.specs.Meaning.{rest, weight}
+use Rattle.dg_machine.proofs.MachineLemmas.{Comes-known, known-stepped, no-step, step-left}
+use Rattle.dg_machine.proofs.GatherLemmas.{Comes-along}
+use Rattle.dg_machine.proofs.LoopLemmas.{each-done, each-cut, each-next, weight-round}
 use Rattle.dg_machine.proofs.machine.Machine.next_round.Goals.{then-rounds-eq0-via-then-rounds-eq0, then-rounds-eq0-via-else-rounds-eq0+then-not-has_step}
 use Rattle.dg_machine.proofs.machine.Machine.next_round.Goals as goal
 
@@ -22,9 +23,10 @@ returns-then-rounds-eq0 c =
     rw c.out_of_steps.ensures.same (each-cut _ _ _ _ _ _ _ some h ∙ c.in_ok-closing.ensures.ends, refl)
 
 pub returns : goal.returns
-unfolding rest go
 returns c =
     let some : 0 < length c.args.rounds.values = omega (arith, c.len.ensures, c.if-len-eq0.false) in
     let h = step-left c.args.self.now.state _ c.has_step.ensures c.if-not-has_step.false in
-    rw (c.in_ok-push.ensures, c.take_step.ensures, c.requires)
-    (each-next _ _ _ _ _ _ _ some c.if-rounds-eq0.false h, known-stepped _, weight-frame _ _ _ h (rw (← c.len-count.ensures) (omega arith)))
+    let went = rw (c.take_step.ensures, c.requires) at c.in_ok-give_next.ensures in
+    rw c.requires
+    (Comes-along _ _ _ _ _ _ _ (Comes-known _ _ _ _ _ _ went (known-stepped _)) (sym (each-next _ _ _ _ _ _ _ some c.if-rounds-eq0.false h))
+    (weight-round _ _ _ h (rw (← c.len-count.ensures) (omega arith))))

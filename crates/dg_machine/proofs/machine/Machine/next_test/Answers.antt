@@ -1,7 +1,7 @@
 use Rattle.std.proofs.Common.{◌≡◌, ◌≤◌, ◌⊎◌, inl, inr, ◌∙◌, refl, arith}
-use Rattle.dg_machine.specs.Meaning.{back, all_back}
-use Rattle.dg_machine.proofs.MachineLemmas.{Goes-along, known-stepped, no-step, step-left}
-use Rattle.dg_machine.proofs.ChoiceLemmas.{repeat-cut, repeat-next, weight-tested}
+use Rattle.dg_machine.proofs.MachineLemmas.{Comes-known, known-stepped, no-step, step-left, weight-tick}
+use Rattle.dg_machine.proofs.GatherLemmas.{Comes-along}
+use Rattle.dg_machine.proofs.ChoiceLemmas.{repeat-cut, repeat-next}
 use Rattle.dg_machine.proofs.machine.Machine.next_test.Goals.{then-repetition-eq0-via-then-repetition-eq0, then-repetition-eq0-via-else-repetition-eq0+then-not-has_step}
 use Rattle.dg_machine.proofs.machine.Machine.next_test.Goals as goal
 
@@ -15,8 +15,8 @@ returns-then-repetition-eq0 c =
     rw c.out_of_steps.ensures.same (repeat-cut _ _ _ _ _ _ _ h ∙ c.in_ok-closing.ensures.ends, refl)
 
 pub returns : goal.returns
-unfolding all_back back
 returns c =
     let h = step-left c.args.self.now.state _ c.has_step.ensures c.if-not-has_step.false in
-    let went = rw (c.in_ok-push.ensures, c.take_step.ensures, c.in_ok-test.ensures, c.requires) at c.in_ok-calculate.ensures in
-    rw c.requires (Goes-along _ _ _ _ _ _ _ _ went (repeat-next _ _ _ _ _ _ _ c.if-repetition-eq0.false h) (known-stepped _) (weight-tested _ _ _ h (omega arith)))
+    let went = rw (c.take_step.ensures, c.requires) at c.in_ok-test.ensures in
+    rw c.requires
+    (Comes-along _ _ _ _ _ _ _ (Comes-known _ _ _ _ _ _ went (known-stepped _)) (repeat-next _ _ _ _ _ _ _ c.if-repetition-eq0.false h) (weight-tick _ _ _ h (omega arith)))

@@ -1,7 +1,7 @@
 use Rattle.std.proofs.Common.{[], ◌∙◌, sym, ap, length, arith}
 use Rattle.dg_machine.proofs.ComputingLemmas.{instructs-computes}
 use Rattle.dg_machine.proofs.ExpressionLemmas.{run-none, run-now, run-passed}
-use Rattle.dg_machine.proofs.computing.compute_on.Goals as goal
+use Rattle.dg_machine.proofs.computing.compute_in_steps.Goals as goal
 
 pub instructions-preserved-then-calculation-gt0 : goal.instructions-preserved-then-calculation-gt0
 instructions-preserved-then-calculation-gt0 c =

@@ -1,7 +1,7 @@
 use Rattle.std.proofs.Common.{◌≡◌, ◌≤◌, length}
 use Rattle.dg_language.specs.Evaluation.{Then}
 use Rattle.dg_machine.specs.Choosing.{calculating}
-use Rattle.dg_machine.proofs.computing.compute_on.Given as goal
+use Rattle.dg_machine.proofs.computing.compute_in_steps.Given as goal
 
 abbrev pub invariant-instructions : goal.invariant-instructions
 invariant-instructions l =
