@@ -250,12 +250,6 @@ unheld-more c ts i t l h e p =
     ap (λ k. k ++ unheld c t) p ∙ ap (λ u. filter (λ u. not (is_held c.world c.shelf u)) (take i ts) ++ unheld c u) e
     ∙ sym (filter_more (λ u. not (is_held c.world c.shelf u)) ts i t h)
 
--- a held test with the verdict of its record
-pub judged-held : (c : CoreView) (t : TestId) (r : RecordView) (j : Judged) → is_held c.world c.shelf t ≡ true → Some r ≡ kept c.shelf t → IsTrueRecord r.test r.reads r.verdict
-    → j.test ≡ t → j.verdict ≡ r.verdict → IsJudged c.world t j
-judged-held c t r j h k y e v =
-    (e, verdict-held c.world c.shelf t r h (sym k) y (kept-test c.shelf t r (sym k)) ∙ ap Some (sym v))
-
 -- a held test has a kept record
 pub held-some : (w : WorldView) (s : List RecordView) (t : TestId) → is_held w s t ≡ true → kept s t ≡ None → ⊥
 held-some w s t h n = true≢false (sym h ∙ ap (holds_if_kept w) n)

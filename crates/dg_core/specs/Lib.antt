@@ -1,6 +1,7 @@
 pub mod Grown
 pub mod Scratch
 pub mod Core
+pub mod Lineup
 pub mod Turning
 pub mod Reply
 pub mod Turns

@@ -1,8 +1,9 @@
 //! A world with the records that are kept of it.
 ghost use Rattle.std.specs.Prelude.{◌≡◌, ◌⊎◌, ◌++◌, [], List, Ok, Err, Some, true, IfOk, IfErr, OnOk, OnErr, IsTrue};
 ghost use Rattle.dg_world.specs.declared.question.Read.{Read};
-ghost use Rattle.dg_index.specs.Kept.{is_held};
+ghost use Rattle.dg_index.specs.Kept.{is_held, place_of};
 ghost use Rattle.dg_index.specs.Marks.{counted};
+ghost use Rattle.dg_core.specs.Lineup.{adds_at_most, place_in, IsLineup, IsPlace};
 ghost use Rattle.dg_core.specs.Turning.{AsksInTurn, JudgesOne, JudgesAll, JudgesSome};
 ghost use Rattle.dg_core.specs.Core.{kept_of, committed, committed_live, IsAskedOf, core_of, new_core, pending, settled, edited_core, unheld, with_judged, IsPartlySettled};
 ghost use Rattle.dg_core.specs.Scratch.{scratch, all_judged, IsJudged};
@@ -14,6 +15,7 @@ ghost use Rattle.dg_records.specs.Truth.{answers_of};
 ghost use Rattle.dg_world.specs.World.{look, selected, takes_memory};
 
 use crate::evaluate::evaluate;
+use crate::lineup::Lineup;
 use crate::reply::Reply;
 use dg_bytes::{Bytes, Seq, TryCopy};
 use dg_eval::JobFault;
@@ -37,9 +39,11 @@ pub enum CoreFault {
     Memory,
 }
 
-/// A world, one record for each test that had one, the number of reads compared, and that of evaluations begun.
+/// A world, one record for each test that had one, the number of reads compared, and that of evaluations begun. Beside them
+/// the lineup of the last report may stand, which no contract sees.
 pub struct Core {
     kept: Kept,
+    lineup: Option<Lineup>,
     evaluations: u64,
 }
 
@@ -48,17 +52,22 @@ impl Drop for Core {
     fn drop(self) {
         let Core {
             kept: _,
+            lineup: _,
             evaluations: _,
         } = self;
     }
 }
 
 impl Model for Core {
+    ghost use Rattle.std.specs.Prelude.{IfSome};
     ghost use Rattle.dg_core.specs.Core.{CoreView, core_of};
+    ghost use Rattle.dg_core.specs.Lineup.{IsLineup};
 
     ghost Value = { CoreView };
 
     ghost view = { λ c. core_of c.kept c.evaluations };
+
+    ghost invariant = { λ c. IfSome c.lineup (IsLineup c.kept.world c.kept.shelf) };
 }
 
 impl Core {
@@ -68,6 +77,7 @@ impl Core {
     {
         Ok(Core {
             kept: Kept::new(alloc)?,
+            lineup: None,
             evaluations: 0,
         })
     }
@@ -80,7 +90,13 @@ impl Core {
         ensures memory { (result ≡ Err Refusal.Memory) → IsTrue (takes_memory self.old.world edit) }
         ensures err { OnErr result (self.new ≡ self.old) }
     {
-        self.kept.edit(alloc, edit)
+        let files = self.kept.world().file_count();
+        let may_stay = adds_at_most(&edit);
+        self.kept.edit(alloc, edit)?;
+        if !may_stay || self.kept.world().file_count() != files {
+            self.lineup = None;
+        }
+        Ok(())
     }
 
     /// The selected tests: board by board in the selection's order, and on each the scripts in byte order of their names.
@@ -96,6 +112,7 @@ impl Core {
         ensures ok { IfOk result (IsAskedOf self.old self.new question.now) }
         ensures err { OnErr result (self.new ≡ self.old) }
     {
+        self.lineup = None;
         self.kept.ask(alloc, question)
     }
 
@@ -114,6 +131,7 @@ impl Core {
         ensures err { OnErr result (self.new ≡ self.old) }
         ensures back { IfErr result (λ r. r ≡ newest) }
     {
+        self.lineup = None;
         self.kept.commit(alloc, newest)
     }
 
@@ -131,6 +149,7 @@ impl Core {
         ensures err { OnErr result (self.new ≡ self.old) }
         ensures back { IfErr result (λ r. (r.1 ≡ newest) × (r.2 ≡ transcript)) }
     {
+        self.lineup = None;
         self.kept.commit_live(alloc, newest, transcript)
     }
 
@@ -149,73 +168,118 @@ impl Core {
         self.kept.compared()
     }
 
-    /// Adds a test to others, unless it is held.
+    /// The lineup of the last report, where the same tests are selected still and each had a record, or a new one.
+    fn line_up(&self, alloc: Global) -> Result<Lineup, AllocError>
+        ensures { IfOk result (IsLineup self.now.world self.now.shelf) }
+    {
+        if let Some(lineup) = &self.lineup
+            && lineup.is_whole()
+        {
+            return lineup.copy(alloc);
+        }
+        Lineup::of(alloc, &self.kept)
+    }
+
+    /// Keeps a lineup for the next report.
+    fn keep_lineup(&mut self, lineup: Lineup)
+        requires { IsLineup self.old.world self.old.shelf lineup }
+        ensures { self.new ≡ self.old }
+    {
+        self.lineup = Some(lineup);
+    }
+
+    /// The place of the record of a test, which stands here in a lineup.
+    fn place_of(&self, lineup: &Lineup, at: usize, test: &TestId) -> Option<usize>
+        requires { IsPlace self.now.shelf test.now (place_in lineup.now at) }
+        ensures { result ≡ place_of self.now.shelf test.now }
+    {
+        match lineup.place(at) {
+            Some(place) => Some(place),
+            None => self.kept.place_of(test),
+        }
+    }
+
+    /// Whether a test, which stands here in a lineup, has a kept record that holds.
+    fn is_held(&self, lineup: &Lineup, at: usize, test: &TestId) -> bool
+        requires { IsPlace self.now.shelf test.now (place_in lineup.now at) }
+        ensures { result ≡ is_held self.now.world self.now.shelf test.now }
+    {
+        match self.place_of(lineup, at, test) {
+            Some(place) => self.kept.is_held_at(place),
+            None => false,
+        }
+    }
+
+    /// Adds a test, which stands here in a lineup, to others, unless it is held.
     fn add_unheld(
         &self,
         alloc: Global,
         pending: &mut Seq<TestId>,
+        lineup: &Lineup,
+        at: usize,
         test: &TestId,
-        place: usize,
     ) -> Result<(), AllocError>
+        requires { IsPlace self.now.shelf test.now (place_in lineup.now at) }
         ensures { OnOk result (pending.new ≡ pending.old ++ unheld self.now test.now) }
     {
-        if !self.kept.is_held(test, place) {
+        if !self.is_held(lineup, at, test) {
             pending.push(test.copy(alloc)?)?;
         }
         Ok(())
     }
 
     /// Those of the selected tests that are not held, in order.
-    fn pending(&self, alloc: Global, tests: &[TestId]) -> Result<Seq<TestId>, AllocError>
-        requires { tests.now ≡ selected self.now.world }
+    fn pending(&self, alloc: Global, lineup: &Lineup) -> Result<Seq<TestId>, AllocError>
+        requires { IsLineup self.now.world self.now.shelf lineup.now }
         ensures { IfOk result (λ l. l ≡ pending self.now) }
     {
         let mut pending = Seq::new(alloc);
-        for (place, test) in tests.iter().enumerate() {
-            self.add_unheld(alloc, &mut pending, test, place)?;
+        let tests = lineup.tests();
+        for (at, test) in tests.iter().enumerate() {
+            self.add_unheld(alloc, &mut pending, lineup, at, test)?;
         }
         Ok(pending)
     }
 }
 
 impl Core {
-    /// A test that is held, with the verdict of its record.
-    fn judged_test<'a>(&'a self, test: &'a TestId, place: usize) -> Judged<'a>
-        requires { is_held self.now.world self.now.shelf test.now ≡ true }
+    /// A test, which stands here in a lineup and is held, with the verdict of its record.
+    fn judged_test(&self, lineup: &Lineup, at: usize, test: &TestId) -> Judged<'_>
+        requires place { IsPlace self.now.shelf test.now (place_in lineup.now at) }
+        requires held { is_held self.now.world self.now.shelf test.now ≡ true }
         ensures { IsJudged self.now.world test.now result }
     {
-        let Some(record) = self.kept.record(test, place) else {
+        let Some(place) = self.place_of(lineup, at, test) else {
             unreachable!()
         };
-        let verdict = record.verdict();
-        Judged { test, verdict }
+        let Some(judged) = self.kept.judged_at(place) else {
+            unreachable!()
+        };
+        judged
     }
 
     /// Each selected test with the verdict of its record, where every one is held.
-    fn judged<'a>(
-        &'a self,
-        alloc: Global,
-        tests: &'a [TestId],
-    ) -> Result<Vec<Judged<'a>>, AllocError>
+    fn judged(&self, alloc: Global, lineup: &Lineup) -> Result<Vec<Judged<'_>>, AllocError>
         requires held { pending self.now ≡ [] }
-        requires tests { tests.now ≡ selected self.now.world }
+        requires lineup { IsLineup self.now.world self.now.shelf lineup.now }
         ensures { IfOk result (λ l. all_judged (answers_of self.now.world) (selected self.now.world) ≡ Some l.items) }
     {
         let mut judged = Vec::new(alloc);
-        for (place, test) in tests.iter().enumerate() {
-            judged.push(self.judged_test(test, place))?;
+        let tests = lineup.tests();
+        for (at, test) in tests.iter().enumerate() {
+            judged.push(self.judged_test(lineup, at, test))?;
         }
         Ok(judged)
     }
 
     /// The report and the status, where every selected test is held.
     #[tactic(auto, unfolding(crate::specs::Scratch::scratch))]
-    fn sum(&self, alloc: Global, tests: &[TestId]) -> Result<(Bytes, u8), AllocError>
+    fn sum(&self, alloc: Global, lineup: &Lineup) -> Result<(Bytes, u8), AllocError>
         requires held { pending self.now ≡ [] }
-        requires tests { tests.now ≡ selected self.now.world }
+        requires lineup { IsLineup self.now.world self.now.shelf lineup.now }
         ensures { IfOk result (λ r. scratch self.now.world ≡ Some (r.0, r.1)) }
     {
-        let judged = self.judged(alloc, tests)?;
+        let judged = self.judged(alloc, lineup)?;
         let text = sum_text(alloc, self.kept.world().selection(), judged.as_slice())?;
         Ok((text, exit_status(judged.as_slice())))
     }
@@ -225,12 +289,12 @@ impl Core {
     pub fn report(&self, alloc: Global) -> Result<Reply, AllocError>
         ensures { IfOk result (Replies self.now) }
     {
-        let tests = self.selected(alloc)?;
-        let pending = self.pending(alloc, tests.as_slice())?;
+        let lineup = Lineup::of(alloc, &self.kept)?;
+        let pending = self.pending(alloc, &lineup)?;
         if !pending.is_empty() {
             return Ok(Reply::Pending(pending));
         }
-        let (text, status) = self.sum(alloc, tests.as_slice())?;
+        let (text, status) = self.sum(alloc, &lineup)?;
         Ok(Reply::Sum(text, status))
     }
 
@@ -244,6 +308,7 @@ impl Core {
         ensures judges { OnOk result (JudgesOne (kept_of self.old) test.now (kept_of self.new)) }
         ensures stopped { OnErr result ((reads : List Read) × AsksInTurn (kept_of self.old) reads (kept_of self.new)) }
     {
+        self.lineup = None;
         self.evaluations = self.evaluations.saturating_add(1);
         let judged = match evaluate(alloc, &mut self.kept, test) {
             Ok(judged) => judged,
@@ -274,13 +339,40 @@ impl Core {
         ensures stopped { OnErr result (JudgesSome self.old self.new) }
     {
         let _begun = self.evaluations();
-        let tests = self.selected(alloc)?;
-        let pending = self.pending(alloc, tests.as_slice())?;
+        let lineup = self.line_up(alloc)?;
+        let sum = self.settle_by(alloc, &lineup)?;
+        self.keep_lineup(lineup);
+        Ok(sum)
+    }
+
+    /// The same, by a lineup of the world.
+    fn settle_by(&mut self, alloc: Global, lineup: &Lineup) -> Result<(Bytes, u8), CoreFault>
+        requires { IsLineup self.old.world self.old.shelf lineup.now }
+        ensures sum { IfOk result (λ r. scratch self.new.world ≡ Some (r.0, r.1)) }
+        ensures grown { IsGrown self.old.world self.new.world }
+        ensures settles { OnOk result (self.new ≡ settled self.new.world self.new.compared self.old) }
+        ensures kept { OnErr result (IsPartlySettled self.old self.new) }
+        ensures why { IfErr result (Tells self.old self.new.world) }
+        ensures judges { OnOk result (JudgesAll (kept_of self.old) (pending self.old) (kept_of self.new)) }
+        ensures stopped { OnErr result (JudgesSome self.old self.new) }
+    {
+        let _begun = self.evaluations();
+        let pending = self.pending(alloc, lineup)?;
         for test in pending.as_slice() {
             self.judge(alloc, test)?;
         }
-        let sum = self.sum(alloc, tests.as_slice())?;
+        let sum = self.sum(alloc, lineup)?;
         Ok(sum)
+    }
+}
+
+/// Whether an edit leaves the selection as it is, and takes no file away.
+fn adds_at_most(edit: &Edit) -> bool
+    ensures { result ≡ adds_at_most edit.now }
+{
+    match edit {
+        Edit::PutFile(_, _) | Edit::PutTranscript(_, _, _) | Edit::DropTranscript(_, _) => true,
+        Edit::RemoveFile(_) | Edit::Select(_) => false,
     }
 }
 

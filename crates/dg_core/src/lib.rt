@@ -4,6 +4,7 @@
 mod evaluate;
 mod judging_core;
 mod law;
+mod lineup;
 mod reply;
 
 pub use crate::judging_core::{Core, CoreFault};

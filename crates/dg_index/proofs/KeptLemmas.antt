@@ -1,9 +1,9 @@
 -- What kept records keep.
 use Rattle.std.proofs.Common.{◌≡◌, ◌∙◌, ◌+◌, ◌++◌, ℕ, zero, suc, Bool, true, false, cond, List, [], ◌∷◌, length, refl, ap, sym, subst, arith}
-use Rattle.std.specs.Prelude.{Option, Some, None, Result, Ok, nat_eq, ◌<◌, ◌^◌, not, option_map, unwrap_or, position, ◌&&◌}
-use Rattle.std.specs.List.{list_all, IsDistinct}
+use Rattle.std.specs.Prelude.{Option, Some, None, Result, Ok, nat_eq, ◌<◌, ◌^◌, not, option_map, slice_get, unwrap_or, position, ◌&&◌}
+use Rattle.std.specs.List.{list_all, position_or_len, IsDistinct}
 use Rattle.std.specs.Borrow.{Bor}
-use Rattle.std.specs.Map.{lookup, keys_of}
+use Rattle.std.specs.Map.{keys_of}
 use Rattle.std.proofs.lemmas.Bool.{and_parts, and_from, false≢true}
 use Rattle.std.proofs.lemmas.List.Sums.{sum_by-cons}
 use Rattle.indexmap.specs.IndexMap.{insert_entry, set_value_at}
@@ -16,12 +16,12 @@ use Rattle.dg_world.specs.declared.question.Read.{Read}
 use Rattle.dg_world.specs.declared.refusal.Refusal.{Refusal}
 use Rattle.dg_world.specs.declared.test_id.TestId.{TestId}
 use Rattle.dg_records.specs.Truth.{RecordView, is_given}
-use Rattle.dg_records.specs.Shelf.{kept, with_record}
+use Rattle.dg_records.specs.Shelf.{with_record}
 use Rattle.dg_records.proofs.ShelfLemmas.{same_test-true, same_test-refl}
 use Rattle.dg_index.specs.Topic.{is_on, topic_of}
-use Rattle.dg_index.specs.Marks.{MarkedView, is_stale, is_clear, marks_in, looked, looked_again, all_looked, shelf_of, reads_on, reads_of, counted}
+use Rattle.dg_index.specs.Marks.{MarkedView, judged_of, is_stale, is_clear, marks_in, looked, looked_again, all_looked, shelf_of, reads_on, reads_of, counted}
 use Rattle.dg_index.specs.Index.{IndexView, readers_of, is_among, NamesMore, NamesReads, NamesAll, NoneElseReads, Finds}
-use Rattle.dg_index.specs.Kept.{IsKept, AllMarked, is_keyed, is_held, holds_if_kept, changed, after_asking, committed_live, then_committed}
+use Rattle.dg_index.specs.Kept.{IsKept, AllMarked, is_keyed, holds_if_kept, place_of, changed, after_asking, committed_live, then_committed}
 use Rattle.dg_index.specs.declared.topic.Topic.{Topic}
 use Rattle.dg_index.specs.declared.topic.Topic.TheVariants as topic
 use Rattle.dg_transcript.specs.declared.entry.Entry.{Entry}
@@ -32,26 +32,68 @@ use Rattle.dg_index.proofs.LookingLemmas.{looked-all, none_looked, none_read}
 abbrev pub Entries : Type 0
 Entries = List (TestId × MarkedView)
 
--- the record of a test
-pub kept-lookup : (es : Entries) (t : TestId) → list_all is_keyed es ≡ true → kept (shelf_of es) t ≡ option_map (λ m. m.record_of) (lookup (same_test t) es)
-kept-lookup [] t h = refl
-kept-lookup (e ∷ es) t h =
+-- a key is the test of its record
+same_key : (e : TestId × MarkedView) (t : TestId) → is_keyed e ≡ true → same_test t e.1.record_of.test ≡ same_test t e.0
+same_key e t h = sym (ap (same_test t) (same_test-true e.0 e.1.record_of.test h))
+
+-- the place of a test's record is that of its key
+place-found : (es : Entries) (t : TestId) → list_all is_keyed es ≡ true → position_or_len (same_test t) (keys_of es) < length es
+    → place_of (shelf_of es) t ≡ Some (position_or_len (same_test t) (keys_of es))
+place-found [] t h l = absurd (omega (arith, l))
+place-found (e ∷ es) t h l =
     let p = and_parts _ _ h in
-    let key : same_test t e.1.record_of.test ≡ same_test t e.0 = sym (ap (same_test t) (same_test-true e.0 e.1.record_of.test p.0)) in
-    ap (λ b. cond b (Some e.1.record_of) (kept (shelf_of es) t)) key ∙ ap (cond (same_test t e.0) (Some e.1.record_of)) (kept-lookup es t p.1) ∙ step (same_test t e.0)
+    step (same_test t e.0) refl (same_key e t p.0) l (place-found es t p.1)
   where
-    step : (b : Bool) → cond b (Some e.1.record_of) (option_map (λ m. m.record_of) (lookup (same_test t) es)) ≡ option_map (λ m. m.record_of) (cond b (Some e.1) (lookup (same_test t) es))
-    step true = refl
-    step false = refl
+    step : (b : Bool) → same_test t e.0 ≡ b → same_test t e.1.record_of.test ≡ same_test t e.0
+        → cond (not b) (1 + position_or_len (same_test t) (keys_of es)) 0 < length (e ∷ es)
+        → (position_or_len (same_test t) (keys_of es) < length es → place_of (shelf_of es) t ≡ Some (position_or_len (same_test t) (keys_of es)))
+        → place_of (shelf_of (e ∷ es)) t ≡ Some (cond (not b) (1 + position_or_len (same_test t) (keys_of es)) 0)
+    step true here key g ih = ap (λ b. cond b (Some 0) (option_map suc (place_of (shelf_of es) t))) (key ∙ here)
+    step false here key g ih =
+        ap (λ b. cond b (Some 0) (option_map suc (place_of (shelf_of es) t))) (key ∙ here) ∙ ap (option_map suc) (ih (omega (arith, g))) ∙ ap Some (omega arith)
+
+place-missing : (es : Entries) (t : TestId) → list_all is_keyed es ≡ true → position_or_len (same_test t) (keys_of es) ≡ length es → place_of (shelf_of es) t ≡ None
+place-missing [] t h l = refl
+place-missing (e ∷ es) t h l =
+    let p = and_parts _ _ h in
+    step (same_test t e.0) refl (same_key e t p.0) l (place-missing es t p.1)
+  where
+    step : (b : Bool) → same_test t e.0 ≡ b → same_test t e.1.record_of.test ≡ same_test t e.0
+        → cond (not b) (1 + position_or_len (same_test t) (keys_of es)) 0 ≡ length (e ∷ es)
+        → (position_or_len (same_test t) (keys_of es) ≡ length es → place_of (shelf_of es) t ≡ None)
+        → place_of (shelf_of (e ∷ es)) t ≡ None
+    step true here key g ih = absurd (omega (arith, g))
+    step false here key g ih =
+        ap (λ b. cond b (Some 0) (option_map suc (place_of (shelf_of es) t))) (key ∙ here) ∙ ap (option_map suc) (ih (omega (arith, g)))
+
+pub place-keyed : (es : Entries) (t : TestId) → list_all is_keyed es ≡ true → position (same_test t) (keys_of es) ≡ place_of (shelf_of es) t
+place-keyed es t h = step (position (same_test t) (keys_of es)) refl
+  where
+    step : (o : Option ℕ) → position (same_test t) (keys_of es) ≡ o → o ≡ place_of (shelf_of es) t
+    step None e = sym (place-missing es t h (Missing-position (same_test t) es e).or_len)
+    step (Some i) e =
+        let f = Found-position (same_test t) es i e in
+        ap Some (sym f.or_len) ∙ sym (place-found es t h (subst (λ n. n < length es) (sym f.or_len) f.within))
+
+-- the record at a place
+pub shelf-at : (es : Entries) (i : ℕ) → slice_get (shelf_of es) i ≡ option_map (λ e. e.1.record_of) (slice_get es i)
+shelf-at [] i = refl
+shelf-at (e ∷ es) zero = refl
+shelf-at (e ∷ es) (suc i) = shelf-at es i
+
+-- its test with its lines
+pub judged-at : (es : Entries) (i : ℕ) → option_map judged_of (slice_get (shelf_of es) i) ≡ option_map (λ e. judged_of e.1.record_of) (slice_get es i)
+judged-at [] i = refl
+judged-at (e ∷ es) zero = refl
+judged-at (e ∷ es) (suc i) = judged-at es i
 
 -- and its marks
-marked-lookup : (w : WorldView) (es : Entries) (test : TestId → Bool) (m : MarkedView) → AllMarked w es → Some m ≡ lookup test es → m.marks ≡ marks_in w m.record_of.reads
-marked-lookup w [] test m all h = cc
-marked-lookup w (e ∷ es) test m all h = step (test e.0) h (marked-lookup w es test m all.1)
-  where
-    step : (b : Bool) → Some m ≡ cond b (Some e.1) (lookup test es) → (Some m ≡ lookup test es → m.marks ≡ marks_in w m.record_of.reads) → m.marks ≡ marks_in w m.record_of.reads
-    step true g ih = let same : m ≡ e.1 = cc in subst (λ (x : MarkedView). x.marks ≡ marks_in w x.record_of.reads) (sym same) all.0
-    step false g ih = ih g
+marks-at : (w : WorldView) (es : Entries) (i : ℕ) (e : TestId × MarkedView) → AllMarked w es → slice_get es i ≡ Some e → e.1.marks ≡ marks_in w e.1.record_of.reads
+marks-at w [] i e all h = cc
+marks-at w (x ∷ xs) zero e all h =
+    let same : x ≡ e = cc in
+    subst (λ (y : TestId × MarkedView). y.1.marks ≡ marks_in w y.1.record_of.reads) same all.0
+marks-at w (x ∷ xs) (suc i) e all h = marks-at w xs i e all.1 h
 
 -- no mark is raised where the record holds
 clear-holds : (w : WorldView) (rs : List Read) → is_clear (marks_in w rs) ≡ list_all (λ read. is_given (look w read.question) read.answer) rs
@@ -63,13 +105,14 @@ clear-holds w (r ∷ rs) = step (is_given (look w r.question) r.answer) (clear-h
     step true ih = ih
     step false ih = refl
 
-pub held-found : (w : WorldView) (es : Entries) (index : IndexView) (t : TestId) (m : MarkedView) → IsKept w es index → Some m ≡ lookup (same_test t) es → is_clear m.marks ≡ is_held w (shelf_of es) t
-held-found w es index t m k h =
-    ap is_clear (marked-lookup w es (same_test t) m k.marked h) ∙ clear-holds w m.record_of.reads
-    ∙ sym (ap (holds_if_kept w) (kept-lookup es t k.keyed ∙ ap (option_map (λ (x : MarkedView). x.record_of)) (sym h)))
+pub held-at : (w : WorldView) (es : Entries) (index : IndexView) (i : ℕ) (e : TestId × MarkedView) → IsKept w es index → slice_get es i ≡ Some e
+    → is_clear e.1.marks ≡ holds_if_kept w (slice_get (shelf_of es) i)
+held-at w es index i e k at =
+    ap is_clear (marks-at w es i e k.marked at) ∙ clear-holds w e.1.record_of.reads
+    ∙ sym (ap (holds_if_kept w) (shelf-at es i ∙ ap (option_map (λ (x : TestId × MarkedView). x.1.record_of)) at))
 
-pub held-none : (w : WorldView) (es : Entries) (index : IndexView) (t : TestId) → IsKept w es index → None ≡ lookup (same_test t) es → false ≡ is_held w (shelf_of es) t
-held-none w es index t k h = sym (ap (holds_if_kept w) (kept-lookup es t k.keyed ∙ ap (option_map (λ (x : MarkedView). x.record_of)) (sym h)))
+pub none-at : (w : WorldView) (es : Entries) (i : ℕ) → slice_get es i ≡ None → false ≡ holds_if_kept w (slice_get (shelf_of es) i)
+none-at w es i at = sym (ap (holds_if_kept w) (shelf-at es i ∙ ap (option_map (λ (x : TestId × MarkedView). x.1.record_of)) at))
 
 -- reads at a place that the index doesn't name for a topic
 unread : (index : IndexView) (t : Topic) (place : ℕ) (rs : List Read) → NamesReads index place rs → is_among (readers_of index t) place ≡ false → reads_on t rs ≡ 0

@@ -126,11 +126,11 @@ selection-look w s (Entry place) other = refl
 selection-look w s (Pattern text) other = refl
 
 -- an edit that was not refused was made
-made : {A : Type 0} (b : Bool) (refusal : Refusal) (r : Result A Refusal) (v : A) → cond b (Err refusal) r ≡ Ok v → r ≡ Ok v
+pub made : {A : Type 0} (b : Bool) (refusal : Refusal) (r : Result A Refusal) (v : A) → cond b (Err refusal) r ≡ Ok v → r ≡ Ok v
 made true refusal r v h = cc
 made false refusal r v h = h
 
-made_where : {A : Type 0} (b : Bool) (refusal : Refusal) (r : Result A Refusal) (v : A) → cond b r (Err refusal) ≡ Ok v → r ≡ Ok v
+pub made_where : {A : Type 0} (b : Bool) (refusal : Refusal) (r : Result A Refusal) (v : A) → cond b r (Err refusal) ≡ Ok v → r ≡ Ok v
 made_where true refusal r v h = h
 made_where false refusal r v h = cc
 
@@ -158,7 +158,7 @@ made-look : (w u v : WorldView) (q : Question) (r : Result WorldView Refusal) �
 made-look w u v q r h g same = ap (λ x. look x q) (sym (is_made u v r g h)) ∙ same
 
 -- the bytes of a test are its board and its script
-named_test : (board script : List ℕ) (f : TestView → Result WorldView Refusal) (v : WorldView) → for_test (test_of board script) f ≡ Ok v → f (record { board = board; script = script }) ≡ Ok v
+pub named_test : (board script : List ℕ) (f : TestView → Result WorldView Refusal) (v : WorldView) → for_test (test_of board script) f ≡ Ok v → f (record { board = board; script = script }) ≡ Ok v
 named_test board script f v h = step (is_single_part board && is_name script) h
   where
     step : (b : Bool) → for_test (cond b (Some (record { board = board; script = script })) None) f ≡ Ok v → f (record { board = board; script = script }) ≡ Ok v

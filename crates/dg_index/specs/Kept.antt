@@ -1,5 +1,5 @@
 -- A world with the records that are kept of it, and how many of their reads were compared with it.
-use Rattle.std.specs.Prelude.{◌≡◌, ℕ, Bool, false, IsTrue, Option, Some, None, List, [], ◌∷◌, length, Result, Ok, Err}
+use Rattle.std.specs.Prelude.{◌≡◌, ℕ, suc, Bool, false, cond, IsTrue, Option, option_map, Some, None, List, [], ◌∷◌, length, Result, Ok, Err}
 use Rattle.std.specs.List.{list_all}
 use Rattle.dg_transcript.specs.declared.entry.Entry.{Entry}
 use Rattle.dg_world.specs.Test.{same_test}
@@ -34,6 +34,11 @@ holds_if_kept w (Some r) = holds w r
 -- a test is held if its kept record holds
 abbrev pub is_held : WorldView → List RecordView → TestId → Bool
 is_held w shelf t = holds_if_kept w (kept shelf t)
+
+-- the place of a test's record, if it has one
+abbrev pub place_of : List RecordView → TestId → Option ℕ
+place_of [] t = None
+place_of (r ∷ rs) t = cond (same_test t r.test) (Some 0) (option_map suc (place_of rs t))
 
 -- what a change of the world makes, where each read of a topic is compared, or its refusal
 abbrev pub changed : KeptView → Topic → Result WorldView Refusal → Result KeptView Refusal

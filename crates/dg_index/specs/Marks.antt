@@ -5,8 +5,13 @@ use Rattle.dg_world.specs.World.{WorldView, look}
 use Rattle.dg_world.specs.declared.question.Read.{Read}
 use Rattle.dg_world.specs.declared.test_id.TestId.{TestId}
 use Rattle.dg_records.specs.Truth.{RecordView, is_given}
+use Rattle.dg_sum.specs.Judged.{Judged}
 use Rattle.dg_index.specs.declared.topic.Topic.{Topic}
 use Rattle.dg_index.specs.Topic.{is_on}
+
+-- the test of a record with its lines
+abbrev pub judged_of : RecordView → Judged
+judged_of r = record { test = r.test; verdict = r.verdict }
 
 -- a record, and a mark for each of its reads
 pub record MarkedView : Type 0 where

@@ -1,10 +1,8 @@
 //! A world with its kept records, of which an edit compares only the reads that it touches.
-ghost use Rattle.std.specs.Prelude.{◌≡◌, ◌⊎◌, Ok, Err, IfOk, IfErr, OnOk, OnErr, IsTrue};
-ghost use Rattle.std.specs.Map.{lookup};
-ghost use Rattle.std.specs.Option.{option_copied};
-ghost use Rattle.dg_index.specs.Kept.{committed, committed_live, edited_kept, is_held, new_kept, IsAskedOf};
-ghost use Rattle.dg_records.specs.Shelf.{kept};
-ghost use Rattle.dg_world.specs.Test.{same_test};
+ghost use Rattle.std.specs.Prelude.{◌≡◌, ◌⊎◌, Ok, Err, IfOk, IfErr, IfSome, OnOk, OnErr, IsTrue, option_map, slice_get};
+ghost use Rattle.dg_index.specs.Kept.{committed, committed_live, edited_kept, holds_if_kept, new_kept, place_of, IsAskedOf};
+ghost use Rattle.dg_index.specs.Marks.{judged_of};
+ghost use Rattle.dg_records.specs.Truth.{IsTrueRecord};
 ghost use Rattle.dg_world.specs.World.{takes_memory};
 
 use crate::index::Index;
@@ -14,27 +12,12 @@ use crate::placing::{make_room, place};
 use crate::topic::Topic;
 use dg_bytes::TryCopy;
 use dg_records::Record;
+use dg_sum::Judged;
 use dg_transcript::Transcript;
 use dg_world::{Answer, Edit, Question, Refusal, TestId, World};
 use indexmap::IndexMap;
 use std::alloc::{AllocError, Global};
 use std::marker::Model;
-
-/// The marked record of a test, which is looked for at a place first.
-fn marked_of<'a>(
-    records: &'a IndexMap<TestId, Marked>,
-    test: &TestId,
-    place: usize,
-) -> Option<&'a Marked>
-    ensures { option_copied result ≡ lookup (same_test test.now) records.now.entries }
-{
-    if let Some((at, marked)) = records.get_index(place)
-        && at.is(test)
-    {
-        return Some(marked);
-    }
-    records.get(test)
-}
 
 /// A world, one record for each test that had one, and the number of reads that were compared with the world.
 pub struct Kept {
@@ -94,23 +77,31 @@ impl Kept {
         self.compared
     }
 
-    /// The record of a test. It is looked for at a place of the records first, which changes nothing of the answer: those of
-    /// tests that were judged in their order stand in it.
-    pub fn record(&self, test: &TestId, place: usize) -> Option<&Record>
-        ensures { option_copied result ≡ kept self.now.shelf test.now }
+    /// The place of a test's record among those that are kept, which it keeps from then on.
+    pub fn place_of(&self, test: &TestId) -> Option<usize>
+        ensures { result ≡ place_of self.now.shelf test.now }
     {
-        match marked_of(&self.records, test, place) {
-            Some(marked) => Some(marked.kept()),
+        self.records.get_index_of(test)
+    }
+
+    /// The test of the record at a place with its lines, which are those that it has wherever the answers that were read are
+    /// given.
+    pub fn judged_at(&self, place: usize) -> Option<Judged<'_>>
+        ensures judged { result ≡ option_map judged_of (slice_get self.now.shelf place) }
+        ensures is_true { IfSome (slice_get self.now.shelf place) (λ r. IsTrueRecord r.test r.reads r.verdict) }
+    {
+        match self.records.get_index(place) {
+            Some((_, marked)) => Some(marked.judged()),
             None => None,
         }
     }
 
-    /// Whether a test has a kept record that holds in the world. It compares nothing, and looks at a place first as `record`.
-    pub fn is_held(&self, test: &TestId, place: usize) -> bool
-        ensures { result ≡ is_held self.now.world self.now.shelf test.now }
+    /// Whether the record at a place holds in the world. It compares nothing.
+    pub fn is_held_at(&self, place: usize) -> bool
+        ensures { result ≡ holds_if_kept self.now.world (slice_get self.now.shelf place) }
     {
-        match marked_of(&self.records, test, place) {
-            Some(marked) => marked.is_clear(),
+        match self.records.get_index(place) {
+            Some((_, marked)) => marked.is_clear(),
             None => false,
         }
     }

@@ -1,45 +1,57 @@
 //! Records with their marks.
 ghost use Rattle.std.specs.Prelude.{◌≡◌, true, false, length, replicate, IfOk, IfErr};
-ghost use Rattle.dg_index.specs.Marks.{is_clear, looked_again, marks_in, reads_on};
+ghost use Rattle.dg_index.specs.Marks.{is_clear, judged_of, looked_again, marks_in, reads_on};
+ghost use Rattle.dg_records.specs.Truth.{IsTrueRecord};
 
 use crate::marks::Marks;
 use crate::topic::Topic;
 use dg_records::Record;
+use dg_sum::{Block, Judged};
 use dg_world::{Read, TestId, World};
 use std::alloc::Global;
 use std::marker::Model;
 
-/// A record, and a mark for each of its reads, which is raised where the answer was another when it was last compared.
+/// A record, and a mark for each of its reads, which is raised where the answer was another when it was last compared. Beside
+/// it stands what reports have of it.
 pub struct Marked {
     kept: Record,
     marks: Marks,
+    block: Block,
 }
 
 impl Drop for Marked {
     fn drop(self) {
-        let Marked { kept: _, marks: _ } = self;
+        let Marked {
+            kept: _,
+            marks: _,
+            block: _,
+        } = self;
     }
 }
 
 impl Model for Marked {
     ghost use Rattle.std.specs.Prelude.{◌≡◌, length};
-    ghost use Rattle.dg_index.specs.Marks.{MarkedView};
+    ghost use Rattle.dg_sum.specs.Block.{block_of};
+    ghost use Rattle.dg_index.specs.Marks.{MarkedView, judged_of};
 
     ghost Value = { MarkedView };
 
     ghost view = { λ m. record { record_of = m.kept; marks = m.marks } };
 
-    ghost invariant = { λ m. length m.marks ≡ length m.kept.reads };
+    ghost invariant = { λ m. (length m.marks ≡ length m.kept.reads) × (m.block ≡ block_of (judged_of m.kept)) };
 }
 
 impl Marked {
-    /// A record with no mark raised, or the record back where there is no room for marks.
+    /// A record with no mark raised, or the record back where there is no room for what stands beside it.
     pub fn new(alloc: Global, kept: Record) -> Result<Marked, Record>
         ensures ok { IfOk result (λ m. m ≡ record { record_of = kept; marks = replicate (length kept.reads) false }) }
         ensures back { IfErr result (λ r. r ≡ kept) }
     {
+        let Ok(block) = Block::of(alloc, kept.test(), kept.verdict()) else {
+            return Err(kept);
+        };
         match Marks::new(alloc, kept.reads().len()) {
-            Ok(marks) => Ok(Marked { kept, marks }),
+            Ok(marks) => Ok(Marked { kept, marks, block }),
             Err(_) => Err(kept),
         }
     }
@@ -55,8 +67,21 @@ impl Marked {
     pub fn into_kept(self) -> Record
         ensures { result ≡ self.record_of }
     {
-        let Marked { kept, marks: _ } = self;
+        let Marked {
+            kept,
+            marks: _,
+            block: _,
+        } = self;
         kept
+    }
+
+    /// The test with its lines, which are those that it has wherever the answers that were read are given.
+    pub fn judged(&self) -> Judged<'_>
+        ensures judged { result ≡ judged_of self.now.record_of }
+        ensures is_true { IsTrueRecord self.now.record_of.test self.now.record_of.reads self.now.record_of.verdict }
+    {
+        let verdict = self.kept.verdict();
+        Judged::new(self.kept.test(), verdict, &self.block)
     }
 
     /// Whether no mark is raised.

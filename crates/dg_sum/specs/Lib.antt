@@ -1,3 +1,4 @@
 pub mod Judged
 pub mod Report
 pub mod Lines
+pub mod Block

@@ -4,19 +4,23 @@ ghost use Rattle.std.specs.List.{flat_map};
 ghost use Rattle.dg_sum.specs.Lines.{some_unexpected, test_text};
 ghost use Rattle.dg_sum.specs.Report.{line_text};
 
-use crate::judged::Judged;
 use crate::page::Page;
 use crate::summary::write_between;
 use dg_results::{Line, Verdict};
+use dg_world::TestId;
 use std::alloc::AllocError;
 
 /// Writes a test's script and its lines.
 #[tactic(auto, using(crate::proofs::TextLemmas::then))]
-pub(crate) fn write_test(out: &mut Page, judged: &Judged<'_>) -> Result<(), AllocError>
-    ensures { OnOk result (out.new ≡ out.old ++ test_text judged.now) }
+pub(crate) fn write_test(
+    out: &mut Page,
+    test: &TestId,
+    verdict: &Verdict,
+) -> Result<(), AllocError>
+    ensures { OnOk result (out.new ≡ out.old ++ test_text (record { test = test.now; verdict = verdict.now })) }
 {
-    write_between(out, b"Running ", judged.test.script().as_slice(), b" ...\n")?;
-    write_lines(out, judged.verdict.lines())
+    write_between(out, b"Running ", test.script().as_slice(), b" ...\n")?;
+    write_lines(out, verdict.lines())
 }
 
 /// Writes the lines of a test.

@@ -6,7 +6,6 @@ ghost use Rattle.dg_sum.specs.Lines.{some_unexpected};
 ghost use Rattle.dg_sum.specs.Report.{script_text, lines_on, lines_of_board, board_summary, board_text, scheduled, report, status};
 
 use crate::judged::Judged;
-use crate::lines::{has_unexpected, write_test};
 use crate::page::Page;
 use crate::summary::{write_between, write_board_summary, write_summary};
 use crate::tally::no_lines;
@@ -52,7 +51,7 @@ pub fn exit_status(judged: &[Judged<'_>]) -> u8
 fn is_some_unexpected(judged: &[Judged<'_>]) -> bool
     ensures { result ≡ list_any (λ j. some_unexpected j.verdict) judged.now }
 {
-    judged.iter().any(|one| has_unexpected(one.verdict))
+    judged.iter().any(|one| one.block().is_unexpected)
 }
 
 /// Writes the boards in order.
@@ -134,9 +133,10 @@ fn write_script(out: &mut Page, board: &Bytes, judged: &Judged<'_>) -> Result<Ta
     ensures text { OnOk result (out.new ≡ out.old ++ script_text board.now judged.now) }
     ensures tally { IfOk result (λ t. t ≡ tally_of (lines_on board.now judged.now)) }
 {
-    if !is_same(judged.test.board().as_slice(), board.as_slice()) {
+    if !is_same(judged.test().board().as_slice(), board.as_slice()) {
         return Ok(no_lines());
     }
-    write_test(out, judged)?;
-    Ok(judged.verdict.tally())
+    let block = judged.block();
+    out.extend(block.text.as_slice())?;
+    Ok(block.tally)
 }

@@ -3,9 +3,10 @@ use crate::calls::results::judged;
 use crate::calls::text::text;
 use dg_bytes::{Bytes, Seq};
 use dg_results::Verdict;
-use dg_sum::{Judged, exit_status, sum_text};
+use dg_sum::{Block, Judged, exit_status, sum_text};
 use dg_world::{Refusal, Selection, TestId};
 use std::alloc::{AllocError, Global};
+use std::marker::Model;
 
 /// The parts of a text between bytes of a kind.
 fn parts(alloc: Global, text: &[u8], between: u8) -> Result<Vec<Bytes>, AllocError> {
@@ -16,11 +17,41 @@ fn parts(alloc: Global, text: &[u8], between: u8) -> Result<Vec<Bytes>, AllocErr
     Ok(parts)
 }
 
-/// A test, and the lines that it wrote.
+/// A test, the lines that it wrote, and their block.
 #[derive(Drop)]
 struct Told {
     test: TestId,
     verdict: Verdict,
+    block: Block,
+}
+
+impl Model for Told {
+    ghost use Rattle.std.specs.Prelude.{◌≡◌};
+    ghost use Rattle.dg_sum.specs.Block.{block_of};
+    ghost use Rattle.dg_sum.specs.Judged.{Judged};
+
+    ghost Value = { Judged };
+
+    ghost view = { λ t. record { test = t.test; verdict = t.verdict } };
+
+    ghost invariant = { λ t. t.block ≡ block_of (record { test = t.test; verdict = t.verdict }) };
+}
+
+impl Told {
+    /// A test and its lines.
+    fn new(alloc: Global, test: TestId, verdict: Verdict) -> Result<Told, AllocError> {
+        let block = Block::of(alloc, &test, &verdict)?;
+        Ok(Told {
+            test,
+            verdict,
+            block,
+        })
+    }
+
+    /// The same, lent.
+    fn lend(&self) -> Judged<'_> {
+        Judged::new(&self.test, &self.verdict, &self.block)
+    }
 }
 
 /// The test that a field tells of, if it is one.
@@ -31,10 +62,10 @@ fn test(alloc: Global, field: &[u8]) -> Result<Option<Told>, AllocError> {
     };
     let calls = parts(alloc, calls.as_slice(), b',')?;
     match TestId::new(alloc, board.as_slice(), script.as_slice()) {
-        Ok(test) => Ok(Some(Told {
-            test,
-            verdict: judged(alloc, calls.as_slice())?,
-        })),
+        Ok(test) => {
+            let verdict = judged(alloc, calls.as_slice())?;
+            Ok(Some(Told::new(alloc, test, verdict)?))
+        }
         Err(Refusal::Memory) => Err(AllocError),
         Err(_) => Ok(None),
     }
@@ -48,10 +79,10 @@ fn selection(alloc: Global, boards: &[u8]) -> Result<Selection, AllocError> {
 }
 
 /// The tests and their lines, lent.
-fn lent<'a>(alloc: Global, all: &'a [Told]) -> Result<Vec<Judged<'a>>, AllocError> {
+fn lent(alloc: Global, all: &[Told]) -> Result<Vec<Judged<'_>>, AllocError> {
     let mut lent = Vec::new(alloc);
-    for Told { test, verdict } in all {
-        lent.push(Judged { test, verdict })?;
+    for told in all {
+        lent.push(told.lend())?;
     }
     Ok(lent)
 }

@@ -4,5 +4,5 @@ use Rattle.dg_records.specs.Truth.{answers_of}
 use Rattle.dg_core.specs.Scratch.{all_judged}
 use Rattle.dg_core.proofs.judging_core.Core.judged.Given as goal
 
-abbrev pub invariant-loop-place : goal.invariant-loop-place
-invariant-loop-place l = all_judged (answers_of l.self.world) (take l.place l.tests) ≡ Some l.judged.items
+abbrev pub invariant-loop-at : goal.invariant-loop-at
+invariant-loop-at l = all_judged (answers_of l.self.world) (take l.at l.tests) ≡ Some l.judged.items

@@ -1,18 +1,21 @@
-use Rattle.std.proofs.Common.{◌∙◌, ap}
-use Rattle.std.specs.Prelude.{not}
-use Rattle.std.specs.List.{filter}
-use Rattle.std.proofs.lemmas.List.{take_all}
-use Rattle.dg_index.specs.Kept.{is_held}
-use Rattle.dg_core.specs.Core.{pending}
+use Rattle.std.proofs.Common.{◌∙◌, ◌<◌, length, get_or, ap, subst}
+use Rattle.dg_core.proofs.LineupLemmas.{pending-is, place-at}
 use Rattle.dg_core.proofs.Settling.{unheld-more}
 use Rattle.dg_core.proofs.judging_core.Core.pending.Goals as goal
 
-pub loop-place-preserved : goal.loop-place-preserved
-loop-place-preserved c =
-    c.in_ok-add_unheld.ensures ∙ unheld-more c.args.self.now _ _ _ _ c.loop-place-test.true c.index-tests-place.is c.loop-place.invariant
+pub add_unheld-requires : goal.add_unheld-requires
+add_unheld-requires c =
+    let i = c.loop-at.at in
+    let t = c.index-tests-at.result in
+    let l = c.args.lineup.now in
+    place-at c.args.self.now.shelf l.tests l.places i t c.requires.places (subst (λ ts. i < length ts) c.tests-tests.ensures c.loop-at-test.true)
+    (c.index-tests-at.is ∙ ap (λ ts. get_or ts i t) c.tests-tests.ensures)
+
+pub loop-at-preserved : goal.loop-at-preserved
+loop-at-preserved c =
+    c.in_ok-add_unheld.ensures ∙ unheld-more c.args.self.now _ _ _ _ c.loop-at-test.true c.index-tests-at.is c.loop-at.invariant
 
 pub returns : goal.returns
-unfolding pending
 returns c =
-    c.loop-place.invariant
-    ∙ ap (λ l. filter (λ t. not (is_held c.args.self.now.world c.args.self.now.shelf t)) l) (take_all _ _ c.loop-place-test.false ∙ c.requires)
+    pending-is c.args.self.now c.tests-tests.result.now c.args.lineup.now.tests c.loop-at.at c.loop-at.pending c.loop-at.invariant c.loop-at-test.false
+    c.tests-tests.ensures c.requires.tests

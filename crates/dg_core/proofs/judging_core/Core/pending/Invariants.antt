@@ -4,5 +4,5 @@ use Rattle.std.specs.List.{filter}
 use Rattle.dg_index.specs.Kept.{is_held}
 use Rattle.dg_core.proofs.judging_core.Core.pending.Given as goal
 
-abbrev pub invariant-loop-place : goal.invariant-loop-place
-invariant-loop-place l = l.pending ≡ filter (λ t. not (is_held l.self.world l.self.shelf t)) (take l.place l.tests)
+abbrev pub invariant-loop-at : goal.invariant-loop-at
+invariant-loop-at l = l.pending ≡ filter (λ t. not (is_held l.self.world l.self.shelf t)) (take l.at l.tests)

@@ -3,7 +3,7 @@ use Rattle.dg_core.specs.Core.{kept_of, pending, settled_up_to}
 use Rattle.dg_core.specs.Turning.{JudgesAll}
 use Rattle.dg_core.specs.Grown.{IsGrown}
 use Rattle.dg_core.proofs.Settling.{AllEnd}
-use Rattle.dg_core.proofs.judging_core.Core.settle.Given as goal
+use Rattle.dg_core.proofs.judging_core.Core.settle_by.Given as goal
 
 abbrev pub invariant-loop-test : goal.invariant-loop-test
 invariant-loop-test l =
