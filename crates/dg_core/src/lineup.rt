@@ -74,11 +74,7 @@ impl Lineup {
 }
 
 /// The places of the records of some tests.
-fn places_of(
-    alloc: Global,
-    kept: &Kept,
-    tests: &[TestId],
-) -> Result<Seq<Option<usize>>, AllocError>
+fn places_of(alloc: Global, kept: &Kept, tests: &[TestId]) -> Result<Seq<Option<usize>>, AllocError>
     ensures { IfOk result (λ l. l ≡ map (place_of kept.now.shelf) tests.now) }
 {
     let mut places = Vec::new(alloc);

@@ -1,5 +1,5 @@
 -- A report has more bytes than lines.
-use Rattle.std.proofs.Common.{◌≡◌, ◌≤◌, ℕ, true, false, cond, List, [], ◌∷◌, ◌++◌, length, arith, length-append, codes}
+use Rattle.std.proofs.Common.{◌≤◌, ℕ, true, false, cond, List, [], ◌∷◌, ◌++◌, length, arith, length-append, codes}
 use Rattle.std.specs.List.{flat_map}
 use Rattle.dg_world.specs.Script.{same}
 use Rattle.dg_world.specs.declared.selection.Selection.{Selection}

@@ -12,11 +12,7 @@ use std::alloc::AllocError;
 
 /// Writes a test's script and its lines.
 #[tactic(auto, using(crate::proofs::TextLemmas::then))]
-pub(crate) fn write_test(
-    out: &mut Page,
-    test: &TestId,
-    verdict: &Verdict,
-) -> Result<(), AllocError>
+pub(crate) fn write_test(out: &mut Page, test: &TestId, verdict: &Verdict) -> Result<(), AllocError>
     ensures { OnOk result (out.new ≡ out.old ++ test_text (record { test = test.now; verdict = verdict.now })) }
 {
     write_between(out, b"Running ", test.script().as_slice(), b" ...\n")?;
