@@ -176,7 +176,7 @@ impl Machine {
         };
         let rounds = Rounds {
             names,
-            body: Body::new(alloc, body)?,
+            body: Body::new(alloc, &mut self.scripts, body)?,
             values,
             given: None,
             left: STEPS,

@@ -215,7 +215,7 @@ impl Machine {
             stage: Stage::Start,
             test: Condition::new(alloc, &mut self.formulas, test)?,
             next: None,
-            body: Body::new(alloc, body)?,
+            body: Body::new(alloc, &mut self.scripts, body)?,
             left: STEPS,
             depth,
         };
@@ -241,8 +241,8 @@ impl Machine {
         let repetition = Repetition {
             stage: Stage::Start,
             test: Condition::new(alloc, &mut self.formulas, test)?,
-            next: Some(Body::new(alloc, next)?),
-            body: Body::new(alloc, body)?,
+            next: Some(Body::new(alloc, &mut self.scripts, next)?),
+            body: Body::new(alloc, &mut self.scripts, body)?,
             left: STEPS,
             depth,
         };

@@ -15,7 +15,7 @@ use crate::texts::begun_with;
 use dg_bytes::{Bytes, Seq, TryCopy};
 use dg_forms::steps_of;
 use dg_language::{Command, Purpose, Queue, State, Substitution};
-use dg_shelf::Reading;
+use dg_shelf::{Reading, Shelf};
 use dg_words::{Parsed, Word, WordFault, parse_command};
 use std::alloc::{AllocError, Global};
 use std::marker::Model;
@@ -300,20 +300,21 @@ impl Model for Body {
 
 impl Body {
     /// A text. `AllocError` if there is no room for it, or for its commands.
-    pub fn new(alloc: Global, text: &Bytes) -> Result<Body, AllocError>
+    pub fn new(
+        alloc: Global,
+        scripts: &mut Shelf<Commands>,
+        text: &Bytes,
+    ) -> Result<Body, AllocError>
         ensures { IfOk result (λ b. b ≡ text.now) }
     {
-        let text = text.copy(alloc)?;
-        if text.len() > KEPT {
-            return Ok(Body {
-                text,
-                commands: None,
-            });
-        }
-        let commands = Arc::new(alloc, Commands::read(alloc, text.as_slice())?)?;
+        let commands = if text.len() > KEPT {
+            None
+        } else {
+            Some(scripts.reading(alloc, text)?)
+        };
         Ok(Body {
-            text,
-            commands: Some(commands),
+            text: text.copy(alloc)?,
+            commands,
         })
     }
 
