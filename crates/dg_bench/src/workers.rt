@@ -85,7 +85,7 @@ fn join_all<R: Threads>(
     lowest.and(starting)
 }
 
-/// Runs the workers, each in a thread of its own, until all have ended.
+/// Runs the workers, each in a thread of its own, until all have ended. One alone runs in the thread that calls.
 fn run_crew<B: Room + Send + Sync, M: RunTests + Sync, R: Threads + Wait + Sync>(
     crew: &Crew<'_, B, M, R>,
     mut pass: Pass<B>,
@@ -93,6 +93,9 @@ fn run_crew<B: Room + Send + Sync, M: RunTests + Sync, R: Threads + Wait + Sync>
     requires some { 0 < crew.now.workers }
     requires ready { M.is_ready crew.now.maker.now }
 {
+    if crew.workers == 1 {
+        return crew.run(0, pass);
+    }
     thread::scope(
         thread::scope_env(),
         crew.rt,
@@ -126,9 +129,10 @@ fn run_crew<B: Room + Send + Sync, M: RunTests + Sync, R: Threads + Wait + Sync>
     )
 }
 
-/// Judges tests in as many threads as there are workers, and reports once all have ended. The list of the tests is read
-/// once; worker `i` takes those at `i`, `i + workers`, and so on, each with a pass of its own, and holds the lock neither
-/// while it judges one nor while it waits for a child. What it judged it keeps, by a call of the bench for each.
+/// Judges tests in as many threads as there are workers, or in the one that calls where there is one worker, and reports once
+/// all have ended. The list of the tests is read once; worker `i` takes those at `i`, `i + workers`, and so on, each with a
+/// pass of its own, and holds the lock neither while it judges one nor while it waits for a child. What it judged it keeps,
+/// by a call of the bench for each.
 ///
 /// # Errors
 /// The fault of the lowest worker that has one, once all have ended, or that of the list or of the report.
