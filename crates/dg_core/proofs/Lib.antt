@@ -2,6 +2,8 @@ pub mod Growing
 pub mod Turning
 pub mod Asking
 pub mod Settling
+pub mod PlaceLemmas
+pub mod OpeningLemmas
 pub mod LineupLemmas
 pub mod Completing
 pub mod UnreadLemmas

@@ -1,8 +1,10 @@
 -- What keeps a lineup: records that are put on a shelf, and edits that leave the names of the files and the selection.
 use Rattle.std.proofs.lemmas.List.{take_all}
-use Rattle.std.proofs.Common.{◌≡◌, ◌∙◌, ℕ, zero, suc, ◌<◌, ◌≤◌, Bool, true, false, cond, List, [], ◌∷◌, map, length, take, get_or, refl, ap, sym, subst, arith}
-use Rattle.std.specs.Prelude.{IfSome, Option, Some, None, Result, Ok, Err, not, is_some, nat_le, ◌&&◌, slice_get, unwrap_or, option_map, option_and_then}
+use Rattle.std.proofs.Common.{◌≡◌, ◌∙◌, ℕ, suc, ◌≤◌, Bool, true, false, cond, List, [], ◌∷◌, length, take, refl, ap, sym, subst, arith}
+use Rattle.std.specs.Prelude.{IfSome, Option, Some, None, Result, Ok, Err, not, is_some, nat_le, ◌&&◌, slice_get, option_map, option_and_then}
 use Rattle.std.specs.List.{filter, flat_map}
+use Rattle.std.specs.List.Sorted.{IsStrictlySortedBy}
+use Rattle.std.proofs.lemmas.Option.{get_or_from_slice_get, slice_get_within}
 use Rattle.std.specs.declared.cmp.Ordering.{Ordering}
 use Rattle.std.specs.declared.cmp.Ordering.TheVariants.{Less, Equal, Greater}
 use Rattle.std.specs.Ordering.{nat_cmp, match_ordering}
@@ -25,36 +27,18 @@ use Rattle.dg_records.specs.Truth.{RecordView, IsTrueRecord}
 use Rattle.dg_records.specs.Shelf.{kept, with_record}
 use Rattle.dg_records.proofs.ShelfLemmas.{same_test-true}
 use Rattle.dg_index.specs.Topic.{touched}
-use Rattle.dg_index.specs.Kept.{KeptView, holds_if_kept, is_held, place_of, changed, edited_kept}
+use Rattle.dg_index.specs.Kept.{KeptView, is_held, place_of, changed, edited_kept}
 use Rattle.dg_index.specs.Marks.{counted, judged_of, reads_of}
 use Rattle.dg_index.proofs.TopicLemmas.{made, made_where, named_test}
 use Rattle.dg_sum.specs.Judged.{Judged}
 use Rattle.dg_core.specs.Core.{CoreView, pending, record_in, shelf_with, settled_up_to}
 use Rattle.dg_core.specs.Scratch.{IsJudged}
-use Rattle.dg_core.specs.Lineup.{IsPlace, ArePlaces, IsLineup, adds_at_most}
+use Rattle.dg_core.specs.Lineup.{IsPlace, ArePlaces, IsClosedOf, IsCurrent, IsLineup, IsOpenTo, HoldsElsewhere, adds_at_most}
 use Rattle.dg_core.specs.declared.lineup.Lineup.{Lineup}
-use Rattle.dg_core.proofs.Settling.{held-some, kept-test, verdict-held}
-
--- the record of a test is the one at its place
-pub kept-place : (s : List RecordView) (t : TestId) → kept s t ≡ option_and_then (slice_get s) (place_of s t)
-kept-place [] t = refl
-kept-place (x ∷ xs) t = step (same_test t x.test) (place_of xs t) (kept-place xs t)
-  where
-    step : (b : Bool) (o : Option ℕ) → kept xs t ≡ option_and_then (slice_get xs) o
-        → cond b (Some x) (kept xs t) ≡ option_and_then (slice_get (x ∷ xs)) (cond b (Some 0) (option_map suc o))
-    step true o ih = refl
-    step false None ih = ih
-    step false (Some i) ih = ih
-
-kept-at : (s : List RecordView) (t : TestId) (i : ℕ) → place_of s t ≡ Some i → kept s t ≡ slice_get s i
-kept-at s t i h = kept-place s t ∙ ap (option_and_then (slice_get s)) h
-
--- a test is held where the record at its place holds
-pub held-at-place : (w : WorldView) (s : List RecordView) (t : TestId) (i : ℕ) → place_of s t ≡ Some i → holds_if_kept w (slice_get s i) ≡ is_held w s t
-held-at-place w s t i h = ap (holds_if_kept w) (sym (kept-at s t i h))
-
-pub unheld-nowhere : (w : WorldView) (s : List RecordView) (t : TestId) → place_of s t ≡ None → false ≡ is_held w s t
-unheld-nowhere w s t h = ap (holds_if_kept w) (sym (kept-place s t ∙ ap (option_and_then (slice_get s)) h))
+use Rattle.dg_core.specs.declared.openings.Openings.{Openings}
+use Rattle.dg_core.proofs.OpeningLemmas.{picked, picked-all}
+use Rattle.dg_core.proofs.PlaceLemmas.{kept-place, kept-at}
+use Rattle.dg_core.proofs.Settling.{selected-held, held-some, kept-test, verdict-held}
 
 -- a test that is held has a place, and a record there
 pub held-placed : (w : WorldView) (s : List RecordView) (t : TestId) → is_held w s t ≡ true → place_of s t ≡ None → ⊥
@@ -79,23 +63,6 @@ judged-placed w s t i j h at is true_record = step (slice_get s i) refl is true_
         let same : judged_of r ≡ j = cc in
         subst (IsJudged w t) same (kept-test s t r k, verdict-held w s t r h k y (kept-test s t r k))
 
--- each test's own place is one
-pub place-own : (s : List RecordView) (ts : List TestId) → ArePlaces s ts (map (place_of s) ts)
-place-own s [] = tt
-place-own s (t ∷ ts) = (step (place_of s t) refl, place-own s ts)
-  where
-    step : (o : Option ℕ) → place_of s t ≡ o → IsPlace s t o
-    step None e = tt
-    step (Some i) e = e
-
--- the place beside the test that stands here
-pub place-at : (s : List RecordView) (ts : List TestId) (ps : List (Option ℕ)) (i : ℕ) (t : TestId) → ArePlaces s ts ps → i < length ts → t ≡ get_or ts i t
-    → IsPlace s t (unwrap_or (slice_get ps i) None)
-place-at s [] ps i t h l e = absurd (omega arith)
-place-at s (u ∷ ts) [] i t h l e = tt
-place-at s (u ∷ ts) (p ∷ ps) zero t h l e = subst (λ x. IsPlace s x p) (sym e) h.0
-place-at s (u ∷ ts) (p ∷ ps) (suc i) t h l e = place-at s ts ps i t h.1 (omega arith) e
-
 -- the place of a record stays as another is put on the shelf
 place-stays : (s : List RecordView) (r : RecordView) (t : TestId) (i : ℕ) → place_of s t ≡ Some i → place_of (with_record s r) t ≡ Some i
 place-stays [] r t i h = cc
@@ -118,7 +85,7 @@ is-place-stays s r t (Some i) h = place-stays s r t i h
 
 places-stay : (s : List RecordView) (r : RecordView) (ts : List TestId) (ps : List (Option ℕ)) → ArePlaces s ts ps → ArePlaces (with_record s r) ts ps
 places-stay s r [] ps h = tt
-places-stay s r (t ∷ ts) [] h = tt
+places-stay s r (t ∷ ts) [] h = absurd h
 places-stay s r (t ∷ ts) (p ∷ ps) h = (is-place-stays s r t p h.0, places-stay s r ts ps h.1)
 
 -- and as the records of some tests are
@@ -177,6 +144,14 @@ edited-names w v (DropTranscript board script) h a l =
     let same = same_world (without_transcript w t) v (Ok (without_transcript w t)) refl (made_where (is_some (transcript_of w t)) NoSuchTranscript _ v (named_test board script _ v h)) in
     (ap (λ (x : WorldView). keys_of x.files) (sym same), ap (λ (x : WorldView). x.selection) (sym same))
 
+-- the world of an edit that is made
+edit-made : (k n : KeptView) (e : Edit) → edited_kept k e ≡ Ok n → edited k.world e ≡ Ok n.world
+edit-made k n e h = step (edited k.world e) h
+  where
+    step : (r : Result WorldView Refusal) → changed k (touched e) r ≡ Ok n → r ≡ Ok n.world
+    step (Ok w) h = ap Ok (ap (λ (x : KeptView). x.world) (same_kept (record k { world = w; compared = counted k.compared (reads_of (touched e) k.shelf) }) n (Ok _) refl h))
+    step (Err refusal) h = cc
+
 -- an edit that leaves the names and the selection leaves the tests and the records
 pub edit-leaves : (k n : KeptView) (e : Edit) → edited_kept k e ≡ Ok n → adds_at_most e ≡ true → length n.world.files ≡ length k.world.files
     → (selected n.world ≡ selected k.world) × (n.shelf ≡ k.shelf)
@@ -191,20 +166,55 @@ edit-leaves k n e h a l = step (edited k.world e) refl h
         (same-selected k.world n.world names.0 names.1, sym (ap (λ (x : KeptView). x.shelf) same))
     step (Err refusal) g h = cc
 
+-- and so a lineup that was opened at what it touches
 pub lineup-stays : (k n : KeptView) (e : Edit) (o : Option Lineup) → edited_kept k e ≡ Ok n → adds_at_most e ≡ true → length n.world.files ≡ length k.world.files
-    → IfSome o (IsLineup k.world k.shelf) → IfSome o (IsLineup n.world n.shelf)
+    → IfSome o (IsOpenTo e k.world k.shelf) → IfSome o (IsCurrent n.world n.shelf)
 lineup-stays k n e None h a l i = tt
 lineup-stays k n e (Some x) h a l i =
     let same = edit-leaves k n e h a l in
-    record { tests = i.tests ∙ sym same.0; places = subst (λ s. ArePlaces s x.tests x.places) (sym same.1) i.places }
+    let lineup = i.before.lineup in
+    record {
+      lineup = record { tests = lineup.tests ∙ sym same.0; places = subst (λ s. ArePlaces s x.tests x.places) (sym same.1) lineup.places; lead = lineup.lead };
+      held = subst (λ s. IfSome x.openings (HoldsElsewhere n.world s x.tests)) (sym same.1) (i.after n.world (edit-made k n e h));
+    }
 
 -- a lineup of a core is one of the core that is settled, in a world that has grown
 pub lineup-settled : (c : CoreView) (w : WorldView) (m i : ℕ) (l : Lineup) → selected w ≡ selected c.world → IsLineup c.world c.shelf l → IsLineup w (settled_up_to i i w m c).shelf l
 unfolding settled_up_to
-lineup-settled c w m i l same h = record { tests = h.tests ∙ sym same; places = places-settled w c.shelf (take i (pending c)) l.tests l.places h.places }
+lineup-settled c w m i l same h = record { tests = h.tests ∙ sym same; places = places-settled w c.shelf (take i (pending c)) l.tests l.places h.places; lead = h.lead }
 
 -- where all tests were looked at, those that are not held are the pending ones
 pub pending-is : (c : CoreView) (ts us : List TestId) (i : ℕ) (l : List TestId) → l ≡ filter (λ t. not (is_held c.world c.shelf t)) (take i ts) → length ts ≤ i → ts ≡ us → us ≡ selected c.world
     → l ≡ pending c
 unfolding pending
 pending-is c ts us i l h long same are = h ∙ ap (filter (λ t. not (is_held c.world c.shelf t))) (take_all i ts long ∙ same ∙ are)
+
+-- those at the open positions are all of them
+pub pending-open : (c : CoreView) (o : Openings) (ts us l : List TestId) → IsStrictlySortedBy nat_cmp o.opened.keys → HoldsElsewhere c.world c.shelf ts o
+    → l ≡ picked (λ t. not (is_held c.world c.shelf t)) us o.opened.keys → us ≡ ts → ts ≡ selected c.world → l ≡ pending c
+unfolding pending
+pending-open c o ts us l sorted held h same are =
+    let unheld : TestId → Bool = λ t. not (is_held c.world c.shelf t) in
+    h ∙ ap (λ x. picked unheld x o.opened.keys) same ∙ sym (picked-all unheld ts o.opened.keys sorted (λ at t here out. ap not (held at t here out))) ∙ ap (filter unheld) are
+
+-- where nothing is pending, a lineup with no position open is current
+pub closed-current : (c : CoreView) (l n : Lineup) → pending c ≡ [] → IsLineup c.world c.shelf l → IsClosedOf l n → IsCurrent c.world c.shelf n
+closed-current c l n none lineup closed = record {
+  lineup = record {
+    tests = closed.tests ∙ lineup.tests;
+    places = subst (λ ts. ArePlaces c.shelf ts n.places) (sym closed.tests) (subst (ArePlaces c.shelf l.tests) (sym closed.places_stay) lineup.places);
+    lead = closed.lead;
+  };
+  held = step n.openings;
+}
+  where
+    step : (o : Option Openings) → IfSome o (HoldsElsewhere c.world c.shelf n.tests)
+    step None = tt
+    step (Some o) =
+        λ at t here shut.
+        let stands : slice_get (selected c.world) at ≡ Some t = ap (λ ts. slice_get ts at) (sym (closed.tests ∙ lineup.tests)) ∙ here in
+        selected-held c at t none (slice_get_within (selected c.world) at t stands) (sym (get_or_from_slice_get (selected c.world) at t t stands))
+
+pub closed-currents : (c old : CoreView) (l : Lineup) (o : Option Lineup) → c ≡ old → pending old ≡ [] → IsLineup old.world old.shelf l → IfSome o (IsClosedOf l) → IfSome o (IsCurrent c.world c.shelf)
+closed-currents c old l None same none lineup closed = tt
+closed-currents c old l (Some n) same none lineup closed = subst (λ (x : CoreView). IsCurrent x.world x.shelf n) (sym same) (closed-current old l n none lineup closed)

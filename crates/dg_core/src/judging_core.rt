@@ -3,7 +3,7 @@ ghost use Rattle.std.specs.Prelude.{◌≡◌, ◌⊎◌, ◌++◌, [], List, Ok
 ghost use Rattle.dg_world.specs.declared.question.Read.{Read};
 ghost use Rattle.dg_index.specs.Kept.{is_held, place_of};
 ghost use Rattle.dg_index.specs.Marks.{counted};
-ghost use Rattle.dg_core.specs.Lineup.{adds_at_most, place_in, IsLineup, IsPlace};
+ghost use Rattle.dg_core.specs.Lineup.{adds_at_most, place_in, HoldsElsewhere, IsCurrent, IsLineup, IsPlace};
 ghost use Rattle.dg_core.specs.Turning.{AsksInTurn, JudgesOne, JudgesAll, JudgesSome};
 ghost use Rattle.dg_core.specs.Core.{kept_of, committed, committed_live, IsAskedOf, core_of, new_core, pending, settled, edited_core, unheld, with_judged, IsPartlySettled};
 ghost use Rattle.dg_core.specs.Scratch.{scratch, all_judged, IsJudged};
@@ -15,7 +15,8 @@ ghost use Rattle.dg_records.specs.Truth.{answers_of};
 ghost use Rattle.dg_world.specs.World.{look, selected, takes_memory};
 
 use crate::evaluate::evaluate;
-use crate::lineup::Lineup;
+use crate::lineup::{Lineup, opened_to};
+use crate::openings::Openings;
 use crate::reply::Reply;
 use dg_bytes::{Bytes, Seq, TryCopy};
 use dg_eval::JobFault;
@@ -61,13 +62,13 @@ impl Drop for Core {
 impl Model for Core {
     ghost use Rattle.std.specs.Prelude.{IfSome};
     ghost use Rattle.dg_core.specs.Core.{CoreView, core_of};
-    ghost use Rattle.dg_core.specs.Lineup.{IsLineup};
+    ghost use Rattle.dg_core.specs.Lineup.{IsCurrent};
 
     ghost Value = { CoreView };
 
     ghost view = { λ c. core_of c.kept c.evaluations };
 
-    ghost invariant = { λ c. IfSome c.lineup (IsLineup c.kept.world c.kept.shelf) };
+    ghost invariant = { λ c. IfSome c.lineup (IsCurrent c.kept.world c.kept.shelf) };
 }
 
 impl Core {
@@ -92,9 +93,13 @@ impl Core {
     {
         let files = self.kept.world().file_count();
         let may_stay = adds_at_most(&edit);
-        self.kept.edit(alloc, edit)?;
-        if !may_stay || self.kept.world().file_count() != files {
-            self.lineup = None;
+        let (lineup, edit) = opened_to(self.lineup.take(), &self.kept, edit);
+        if let Err(refusal) = self.kept.edit(alloc, edit) {
+            self.lineup = lineup;
+            return Err(refusal);
+        }
+        if may_stay && self.kept.world().file_count() == files {
+            self.lineup = lineup;
         }
         Ok(())
     }
@@ -168,24 +173,24 @@ impl Core {
         self.kept.compared()
     }
 
-    /// The lineup of the last report, where the same tests are selected still and each had a record, or a new one.
-    fn line_up(&self, alloc: Global) -> Result<Lineup, AllocError>
-        ensures { IfOk result (IsLineup self.now.world self.now.shelf) }
+    /// Takes the lineup of the last report, where the same tests are selected still, or makes a new one.
+    fn line_up(&mut self, alloc: Global) -> Result<Lineup, AllocError>
+        ensures lineup { IfOk result (IsCurrent self.old.world self.old.shelf) }
+        ensures stays { self.new ≡ self.old }
     {
-        if let Some(lineup) = &self.lineup
-            && lineup.is_whole()
-        {
-            return lineup.copy(alloc);
+        match self.lineup.take() {
+            Some(lineup) => Ok(lineup),
+            None => Lineup::of(alloc, &self.kept),
         }
-        Lineup::of(alloc, &self.kept)
     }
 
-    /// Keeps a lineup for the next report.
-    fn keep_lineup(&mut self, lineup: Lineup)
-        requires { IsLineup self.old.world self.old.shelf lineup }
+    /// Keeps a lineup for the next report, where each selected test is held and the place of each record is known.
+    fn keep_lineup(&mut self, alloc: Global, lineup: Lineup)
+        requires lineup { IsLineup self.old.world self.old.shelf lineup }
+        requires held { pending self.old ≡ [] }
         ensures { self.new ≡ self.old }
     {
-        self.lineup = Some(lineup);
+        self.lineup = lineup.closed(alloc, self.kept.record_count());
     }
 
     /// The place of the record of a test, which stands here in a lineup.
@@ -230,6 +235,38 @@ impl Core {
 
     /// Those of the selected tests that are not held, in order.
     fn pending(&self, alloc: Global, lineup: &Lineup) -> Result<Seq<TestId>, AllocError>
+        requires { IsCurrent self.now.world self.now.shelf lineup.now }
+        ensures { IfOk result (λ l. l ≡ pending self.now) }
+    {
+        match lineup.openings() {
+            Some(openings) => self.pending_at(alloc, lineup, openings),
+            None => self.pending_of_all(alloc, lineup),
+        }
+    }
+
+    /// The same by the tests at the open positions: every other one is held.
+    fn pending_at(
+        &self,
+        alloc: Global,
+        lineup: &Lineup,
+        openings: &Openings,
+    ) -> Result<Seq<TestId>, AllocError>
+        requires lineup { IsLineup self.now.world self.now.shelf lineup.now }
+        requires elsewhere { HoldsElsewhere self.now.world self.now.shelf lineup.now.tests openings.now }
+        ensures { IfOk result (λ l. l ≡ pending self.now) }
+    {
+        let mut pending = Seq::new(alloc);
+        let tests = lineup.tests();
+        for at in openings.opened() {
+            if let Some(test) = tests.get(*at) {
+                self.add_unheld(alloc, &mut pending, lineup, *at, test)?;
+            }
+        }
+        Ok(pending)
+    }
+
+    /// The same by all tests.
+    fn pending_of_all(&self, alloc: Global, lineup: &Lineup) -> Result<Seq<TestId>, AllocError>
         requires { IsLineup self.now.world self.now.shelf lineup.now }
         ensures { IfOk result (λ l. l ≡ pending self.now) }
     {
@@ -341,13 +378,13 @@ impl Core {
         let _begun = self.evaluations();
         let lineup = self.line_up(alloc)?;
         let sum = self.settle_by(alloc, &lineup)?;
-        self.keep_lineup(lineup);
+        self.keep_lineup(alloc, lineup);
         Ok(sum)
     }
 
     /// The same, by a lineup of the world.
     fn settle_by(&mut self, alloc: Global, lineup: &Lineup) -> Result<(Bytes, u8), CoreFault>
-        requires { IsLineup self.old.world self.old.shelf lineup.now }
+        requires { IsCurrent self.old.world self.old.shelf lineup.now }
         ensures sum { IfOk result (λ r. scratch self.new.world ≡ Some (r.0, r.1)) }
         ensures grown { IsGrown self.old.world self.new.world }
         ensures settles { OnOk result (self.new ≡ settled self.new.world self.new.compared self.old) }

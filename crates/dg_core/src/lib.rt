@@ -5,6 +5,7 @@ mod evaluate;
 mod judging_core;
 mod law;
 mod lineup;
+mod openings;
 mod reply;
 
 pub use crate::judging_core::{Core, CoreFault};

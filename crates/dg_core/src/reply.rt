@@ -27,7 +27,7 @@ impl Reply {
 }
 
 /// Copies of tests, in order.
-pub(crate) fn copies(alloc: Global, tests: &Seq<TestId>) -> Result<Seq<TestId>, AllocError>
+fn copies(alloc: Global, tests: &Seq<TestId>) -> Result<Seq<TestId>, AllocError>
     ensures { IfOk result (λ l. l ≡ tests.now) }
 {
     let mut copies = Vec::new(alloc);

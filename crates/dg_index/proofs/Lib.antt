@@ -3,4 +3,6 @@ pub mod IndexLemmas
 pub mod KeptLemmas
 pub mod LookingLemmas
 pub mod MarksLemmas
+pub mod NumbersLemmas
 pub mod TopicLemmas
+pub mod TouchingLemmas

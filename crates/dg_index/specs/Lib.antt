@@ -1,4 +1,6 @@
 pub mod Topic
 pub mod Marks
 pub mod Index
+pub mod Numbers
 pub mod Kept
+pub mod Touching

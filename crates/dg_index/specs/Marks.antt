@@ -1,5 +1,5 @@
 -- Marks: which reads of a record have another answer than a world gives.
-use Rattle.std.specs.Prelude.{ℕ, ◌+◌, ◌-◌, ◌^◌, min, Bool, not, cond, List, [], ◌∷◌, map, count_by}
+use Rattle.std.specs.Prelude.{ℕ, ◌+◌, ◌-◌, ◌^◌, min, Bool, not, cond, Option, List, [], ◌∷◌, map, count_by}
 use Rattle.std.specs.List.{list_all, sum_by}
 use Rattle.dg_world.specs.World.{WorldView, look}
 use Rattle.dg_world.specs.declared.question.Read.{Read}
@@ -13,10 +13,11 @@ use Rattle.dg_index.specs.Topic.{is_on}
 abbrev pub judged_of : RecordView → Judged
 judged_of r = record { test = r.test; verdict = r.verdict }
 
--- a record, and a mark for each of its reads
+-- a record, and for each of its reads a mark and the number of the content that it was given
 pub record MarkedView : Type 0 where
   pub record_of : RecordView
   pub marks : List Bool
+  pub numbers : List (Option ℕ)
 
 -- whether a read has another answer than the world gives now
 abbrev pub is_stale : WorldView → Read → Bool

@@ -1,16 +1,22 @@
 //! A world with its kept records, of which an edit compares only the reads that it touches.
-ghost use Rattle.std.specs.Prelude.{◌≡◌, ◌⊎◌, Ok, Err, IfOk, IfErr, IfSome, OnOk, OnErr, IsTrue, option_map, slice_get};
+ghost use Rattle.std.specs.Prelude.{◌≡◌, ◌⊎◌, Ok, Err, IfOk, IfErr, IfSome, OnOk, OnErr, IsTrue, length, option_map, slice_get};
+ghost use Rattle.dg_index.specs.Index.{is_among};
 ghost use Rattle.dg_index.specs.Kept.{committed, committed_live, edited_kept, holds_if_kept, new_kept, place_of, IsAskedOf};
 ghost use Rattle.dg_index.specs.Marks.{judged_of};
+ghost use Rattle.dg_index.specs.Topic.{touched};
+ghost use Rattle.dg_index.specs.Touching.{OnlyTheseRead};
 ghost use Rattle.dg_records.specs.Truth.{IsTrueRecord};
 ghost use Rattle.dg_world.specs.World.{takes_memory};
 
 use crate::index::Index;
 use crate::looking::look_again;
 use crate::marked::Marked;
+use crate::numbers::{Now, release_all};
 use crate::placing::{make_room, place};
 use crate::topic::Topic;
+use crate::touching::places_touched;
 use dg_bytes::TryCopy;
+use dg_contents::Contents;
 use dg_records::Record;
 use dg_sum::Judged;
 use dg_transcript::Transcript;
@@ -19,11 +25,13 @@ use indexmap::IndexMap;
 use std::alloc::{AllocError, Global};
 use std::marker::Model;
 
-/// A world, one record for each test that had one, and the number of reads that were compared with the world.
+/// A world, one record for each test that had one, and the number of reads that were compared with the world. The contents of
+/// files that records were given are known by numbers.
 pub struct Kept {
     world: World,
     records: IndexMap<TestId, Marked>,
     index: Index,
+    contents: Contents,
     compared: u64,
 }
 
@@ -34,6 +42,7 @@ impl Drop for Kept {
             world: _,
             records: _,
             index: _,
+            contents: _,
             compared: _,
         } = self;
     }
@@ -42,12 +51,13 @@ impl Drop for Kept {
 impl Model for Kept {
     ghost use Rattle.dg_index.specs.Kept.{KeptView, IsKept};
     ghost use Rattle.dg_index.specs.Marks.{shelf_of};
+    ghost use Rattle.dg_index.specs.Numbers.{IsNumbered};
 
     ghost Value = { KeptView };
 
     ghost view = { λ k. record { world = k.world; shelf = shelf_of k.records.entries; compared = k.compared } };
 
-    ghost invariant = { λ k. IsKept k.world k.records.entries k.index };
+    ghost invariant = { λ k. IsKept k.world k.records.entries k.index × IsNumbered k.contents k.records.entries };
 }
 
 impl Kept {
@@ -59,6 +69,7 @@ impl Kept {
             world: World::new(alloc)?,
             records: IndexMap::new(alloc),
             index: Index::new(alloc),
+            contents: Contents::new(alloc),
             compared: 0,
         })
     }
@@ -106,6 +117,21 @@ impl Kept {
         }
     }
 
+    /// How many records are kept.
+    pub fn record_count(&self) -> usize
+        ensures { result ≡ length self.now.shelf }
+    {
+        self.records.len()
+    }
+
+    /// The places of the records that may read what an edit touches, with the edit back. It takes no memory.
+    pub fn places_touched(&self, edit: Edit) -> (&[usize], Edit)
+        ensures only { OnlyTheseRead (is_among result.0.now) (touched edit) self.now.shelf }
+        ensures back { result.1 ≡ edit }
+    {
+        places_touched(&self.index, edit)
+    }
+
     /// Edits the world and compares each read of what the edit touches, or refuses the edit and changes nothing. `Memory`
     /// only where a file is added that nothing else refuses.
     pub fn edit(&mut self, alloc: Global, edit: Edit) -> Result<(), Refusal>
@@ -115,11 +141,21 @@ impl Kept {
         ensures err { OnErr result (self.new ≡ self.old) }
     {
         let (found, edit) = self.index.find_touched(edit);
-        self.world.edit(alloc, edit)?;
         let Some((topic, places)) = found else {
+            self.world.edit(alloc, edit)?;
             return Ok(());
         };
-        self.compared = look_again(&mut self.records, places, topic, &self.world, self.compared);
+        let now = Now::after(&self.contents, &edit);
+        self.world.edit(alloc, edit)?;
+        self.compared = look_again(
+            &mut self.records,
+            places,
+            topic,
+            &self.world,
+            &self.contents,
+            &now,
+            self.compared,
+        );
         Ok(())
     }
 
@@ -137,7 +173,15 @@ impl Kept {
         let Some((topic, places)) = self.index.find(&topic) else {
             return Ok(answer);
         };
-        self.compared = look_again(&mut self.records, places, topic, &self.world, self.compared);
+        self.compared = look_again(
+            &mut self.records,
+            places,
+            topic,
+            &self.world,
+            &self.contents,
+            &Now::Elsewhere,
+            self.compared,
+        );
         Ok(answer)
     }
 
@@ -148,8 +192,21 @@ impl Kept {
         ensures err { OnErr result (self.new ≡ self.old) }
         ensures back { IfErr result (λ r. r ≡ newest) }
     {
-        let (test, marked) = make_room(alloc, &mut self.records, &mut self.index, newest)?;
-        self.compared = place(&mut self.records, test, marked, &self.world, self.compared);
+        let (test, marked) = make_room(
+            alloc,
+            &mut self.records,
+            &mut self.index,
+            &mut self.contents,
+            newest,
+        )?;
+        self.compared = place(
+            &mut self.records,
+            &mut self.contents,
+            test,
+            marked,
+            &self.world,
+            self.compared,
+        );
         Ok(())
     }
 
@@ -173,12 +230,20 @@ impl Kept {
         let Ok(copy) = transcript.copy(alloc) else {
             return Err((Refusal::Memory, newest, transcript));
         };
-        let (test, marked) = match make_room(alloc, &mut self.records, &mut self.index, newest) {
+        let (test, marked) = match make_room(
+            alloc,
+            &mut self.records,
+            &mut self.index,
+            &mut self.contents,
+            newest,
+        ) {
             Ok(room) => room,
             Err(newest) => return Err((Refusal::Memory, newest, transcript)),
         };
         if let Err(refusal) = self.world.put_transcript(alloc, &test, copy) {
-            return Err((refusal, marked.into_kept(), transcript));
+            let newest = marked.into_kept();
+            release_all(&mut self.contents, newest.reads());
+            return Err((refusal, newest, transcript));
         }
         if let Some((topic, places)) = self.index.find(&topic) {
             self.compared = look_again(
@@ -186,10 +251,19 @@ impl Kept {
                 places,
                 topic,
                 &self.world,
+                &self.contents,
+                &Now::Elsewhere,
                 self.compared,
             );
         }
-        self.compared = place(&mut self.records, test, marked, &self.world, self.compared);
+        self.compared = place(
+            &mut self.records,
+            &mut self.contents,
+            test,
+            marked,
+            &self.world,
+            self.compared,
+        );
         Ok(())
     }
 }

@@ -6,8 +6,10 @@ mod kept;
 mod looking;
 mod marked;
 mod marks;
+mod numbers;
 mod placing;
 mod topic;
+mod touching;
 
 pub use crate::kept::Kept;
 pub use crate::topic::Topic;

@@ -4,9 +4,12 @@ ghost use Rattle.std.specs.List.{IsDistinct};
 ghost use Rattle.indexmap.specs.IndexMap.{spare};
 ghost use Rattle.dg_index.specs.Index.{is_among, NoneElseReads};
 ghost use Rattle.dg_index.specs.Marks.{all_looked, counted, reads_of, shelf_of};
+ghost use Rattle.dg_index.specs.Numbers.{IsNumbered, TellsOn};
 
 use crate::marked::Marked;
+use crate::numbers::Now;
 use crate::topic::Topic;
+use dg_contents::Contents;
 use dg_world::{TestId, World};
 use indexmap::IndexMap;
 
@@ -17,9 +20,13 @@ pub fn look_again(
     places: &[usize],
     topic: &Topic,
     world: &World,
+    contents: &Contents,
+    now: &Now,
     mut compared: u64,
 ) -> u64
     requires once { IsDistinct nat_eq places.now }
+    requires numbered { IsNumbered contents.now records.old.entries }
+    requires tells { TellsOn contents.now world.now topic.now now.now }
     requires only { NoneElseReads (is_among places.now) topic.now records.old.entries }
     ensures entries { records.new.entries ≡ all_looked world.now topic.now records.old.entries }
     ensures room { spare records.new ≡ spare records.old }
@@ -27,7 +34,8 @@ pub fn look_again(
 {
     for place in places {
         if let Some(marked) = records.get_index_mut(*place) {
-            compared = compared.saturating_add(marked.look_again(world, topic) as u64);
+            let reads = marked.look_again(world, topic, contents, now);
+            compared = compared.saturating_add(reads as u64);
         }
     }
     compared

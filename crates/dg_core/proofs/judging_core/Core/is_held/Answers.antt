@@ -1,7 +1,7 @@
 use Rattle.std.proofs.Common.{◌∙◌, ap, sym}
 use Rattle.std.specs.Prelude.{slice_get}
 use Rattle.dg_index.specs.Kept.{holds_if_kept}
-use Rattle.dg_core.proofs.LineupLemmas.{held-at-place, unheld-nowhere}
+use Rattle.dg_core.proofs.PlaceLemmas.{held-at-place, unheld-nowhere}
 use Rattle.dg_core.proofs.judging_core.Core.is_held.Goals as goal
 
 pub returns-in-Some : goal.returns-in-Some

@@ -1,6 +1,6 @@
 use Rattle.std.proofs.Common.{◌∙◌, ◌<◌, length, get_or, ap, sym, subst}
 use Rattle.std.specs.Prelude.{Some}
-use Rattle.dg_core.proofs.LineupLemmas.{place-at}
+use Rattle.dg_core.proofs.PlaceLemmas.{place-at}
 use Rattle.dg_core.proofs.Settling.{selected-held, judged-one-more}
 use Rattle.dg_core.proofs.judging_core.Core.judged.Goals as goal
 

@@ -24,7 +24,7 @@ sum-requires-clause-lineup c =
     let world = c.loop-test.self.world in
     let lineup = c.args.lineup.now in
     subst (λ s. IsLineup world s lineup) (sym (ap (λ x. x.shelf) c.loop-test.invariant.settled))
-    (lineup-settled c.args.self.now world c.loop-test.self.compared c.loop-test.test-index lineup (selected-grown c.args.self.now.world world c.loop-test.invariant.grown) c.requires)
+    (lineup-settled c.args.self.now world c.loop-test.self.compared c.loop-test.test-index lineup (selected-grown c.args.self.now.world world c.loop-test.invariant.grown) c.requires.lineup)
 
 pub loop-test-init : goal.loop-test-init
 loop-test-init c =

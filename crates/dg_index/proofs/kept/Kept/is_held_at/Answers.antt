@@ -8,7 +8,7 @@ pub returns-in-Some : goal.returns-in-Some
 returns-in-Some c =
     let k = c.self.inside in
     c.is_clear.ensures
-    ∙ held-at k.world k.records.entries k.index c.args.place (c.in-Some.field-0-0.now, c.in-Some.marked.now) c.self.invariant (sym c.in-Some.ensures.entry)
+    ∙ held-at k.world k.records.entries k.index c.args.place (c.in-Some.field-0-0.now, c.in-Some.marked.now) c.self.invariant.0 (sym c.in-Some.ensures.entry)
     ∙ ap (λ x. holds_if_kept x.world (slice_get x.shelf c.args.place)) c.self.view_is
 
 pub returns-in-None : goal.returns-in-None

@@ -1,7 +1,8 @@
 use Rattle.std.proofs.Common.{◌∙◌, ◌<◌, length, get_or, ap, subst}
-use Rattle.dg_core.proofs.LineupLemmas.{pending-is, place-at}
+use Rattle.dg_core.proofs.LineupLemmas.{pending-is}
+use Rattle.dg_core.proofs.PlaceLemmas.{place-at}
 use Rattle.dg_core.proofs.Settling.{unheld-more}
-use Rattle.dg_core.proofs.judging_core.Core.pending.Goals as goal
+use Rattle.dg_core.proofs.judging_core.Core.pending_of_all.Goals as goal
 
 pub add_unheld-requires : goal.add_unheld-requires
 add_unheld-requires c =
