@@ -3,7 +3,8 @@
 
 For suites of 400 and of 4,000 scripts of ten commands each, milliseconds for each: the first report; an edit of one script and the
 report behind it; a report of nothing new; an edit of a file that no script read. Then the bytes of the report. The least of three runs,
-the mean of a hundred rounds in each.
+the mean of a hundred rounds in each. Then, for 400 scripts that load one library of 1 MiB, the least of ten edits of the library, which
+change its last byte, and of a file as long that no script read, and the most memory that the program held.
 """
 import subprocess
 import sys
@@ -70,12 +71,33 @@ def run(program, count):
     return first, one, none, unread, size
 
 
+LENGTH = 1 << 20
+LOADERS = 400
+
+
+def library(program):
+    text = ("proc helper {} {return it}\n#" + "x" * LENGTH)[: LENGTH - 1]
+    session = Session(program)
+    session.put("lib/util.exp", text + "0")
+    for it in range(LOADERS):
+        session.put(f"t/{it}.exp", "load_lib util.exp\npass [helper]\n")
+    session.report(LOADERS)
+    edited = [timed(1, lambda _: session.put("lib/util.exp", text + str(it % 10))) for it in range(1, 11)]
+    unread = [timed(1, lambda _: session.put("d/x", text + str(it % 10))) for it in range(1, 11)]
+    with open(f"/proc/{session.process.pid}/status") as status:
+        memory = next(int(line.split()[1]) / 1024 for line in status if line.startswith("VmHWM"))
+    session.end()
+    return min(edited), min(unread), memory
+
+
 def main(program):
     print("scripts, ms for the first report, ms for an edit and its report, ms for a report alone, ms for an edit of an unread file, bytes of the report:")
     for count in (400, 4000):
         runs = [run(program, count) for _ in range(RUNS)]
         first, one, none, unread, size = (min(column) for column in zip(*runs))
         print(f"{count} {first:.2f} {one:.3f} {none:.3f} {unread:.3f} {size}")
+    edited, unread, memory = library(program)
+    print(f"ms for an edit of a library of 1 MiB that {LOADERS} scripts read, and of an unread file as long, and MB: {edited:.2f} {unread:.2f} {memory:.1f}")
 
 
 if __name__ == "__main__":

@@ -17,6 +17,14 @@ set loops {
         }
         pass [count]
     }
+    {a loop in a loop} {
+        proc count {} {
+            set n 0
+            for {set i 0} {$i < 3000} {incr i} {for {set j 0} {$j < 5} {incr j} {incr n $j}}
+            return $n
+        }
+        pass [count]
+    }
     {expressions} {
         proc sums {} {
             set s 0
