@@ -2,15 +2,17 @@
 ghost use Rattle.std.specs.Prelude.{◌≡◌, ◌++◌, ◌&&◌, IfOk};
 ghost use Rattle.std.specs.List.{list_any};
 ghost use Rattle.dg_cmds.specs.Places.{glob_matches};
-ghost use Rattle.dg_language.specs.Boards.{content_of, flag_call, is_pattern, library_file, no_library, told_of, triplet_of};
+ghost use Rattle.dg_language.specs.Boards.{content_of, do_board_info, do_load_generic_config, do_set_board_info, do_target_info, do_unset_board_info, flag_call, is_pattern, library_file, no_library, told_of, triplet_of};
 ghost use Rattle.dg_language.specs.Calls.{call_of};
 ghost use Rattle.dg_language.specs.Judge.{board_file, tool_library, tool_of};
 
+use crate::arguments::{only, split, two};
+use crate::completing::{does, gives, miscounted};
 use crate::values::with_quoted;
 use dg_bytes::{Bytes, TryCopy};
 use dg_cmds::glob_matches;
 use dg_expr::truth_text;
-use dg_language::{FlagCommand, ResultCall, State};
+use dg_language::{Completion, Effect, FlagCommand, ResultCall, State};
 use dg_world::Answer;
 use std::alloc::{AllocError, Global};
 
@@ -108,7 +110,7 @@ pub fn triplet_of(answer: &Answer) -> &[u8]
 
 /// What is told of the key `name`, or of `exists` and a key: its setting, the empty text where it has none; or whether it has
 /// one. None where the words ask for neither.
-pub fn told_of(alloc: Global, state: &State, words: &[Bytes]) -> Result<Option<Bytes>, AllocError>
+fn told_of(alloc: Global, state: &State, words: &[Bytes]) -> Result<Option<Bytes>, AllocError>
     ensures { IfOk result (λ t. t ≡ told_of words.now state.now) }
 {
     match words {
@@ -121,6 +123,87 @@ pub fn told_of(alloc: Global, state: &State, words: &[Bytes]) -> Result<Option<B
             Ok(Some(Bytes::from_slice(alloc, truth_text(exists))?))
         }
         _ => Ok(None),
+    }
+}
+
+/// `set_board_info key value`.
+#[tactic(auto, unfolding(dg_language::specs::Boards::do_set_board_info))]
+pub(crate) fn set_board_info(
+    alloc: Global,
+    args: &[Bytes],
+) -> Result<Result<Completion, Bytes>, AllocError>
+    ensures { IfOk result (λ r. r ≡ do_set_board_info args.now) }
+{
+    let Some((key, value)) = two(args) else {
+        return Ok(miscounted(alloc, b"set_board_info")?);
+    };
+    let setting = Effect::Sets(key.copy(alloc)?, value.copy(alloc)?);
+    Ok(does(alloc, setting))
+}
+
+/// `unset_board_info key`.
+#[tactic(auto, unfolding(dg_language::specs::Boards::do_unset_board_info))]
+pub(crate) fn unset_board_info(
+    alloc: Global,
+    args: &[Bytes],
+) -> Result<Result<Completion, Bytes>, AllocError>
+    ensures { IfOk result (λ r. r ≡ do_unset_board_info args.now) }
+{
+    let Some(key) = only(args) else {
+        return Ok(miscounted(alloc, b"unset_board_info")?);
+    };
+    Ok(does(alloc, Effect::Unsets(key.copy(alloc)?)))
+}
+
+/// `load_generic_config name`.
+#[tactic(auto, unfolding(dg_language::specs::Boards::do_load_generic_config))]
+pub(crate) fn load_generic_config(
+    alloc: Global,
+    args: &[Bytes],
+) -> Result<Result<Completion, Bytes>, AllocError>
+    ensures { IfOk result (λ r. r ≡ do_load_generic_config args.now) }
+{
+    let Some(name) = only(args) else {
+        return Ok(miscounted(alloc, b"load_generic_config")?);
+    };
+    let key = Bytes::from_slice(alloc, b"generic_name")?;
+    Ok(does(alloc, Effect::Sets(key, name.copy(alloc)?)))
+}
+
+/// `target_info key` and `target_info exists key`.
+#[tactic(auto, unfolding(dg_language::specs::Boards::do_target_info))]
+pub(crate) fn target_info(
+    alloc: Global,
+    state: &State,
+    args: &[Bytes],
+) -> Result<Result<Completion, Bytes>, AllocError>
+    ensures { IfOk result (λ r. r ≡ do_target_info args.now state.now) }
+{
+    match told_of(alloc, state, args)? {
+        Some(told) => Ok(gives(told)),
+        None => Ok(miscounted(alloc, b"target_info")?),
+    }
+}
+
+/// `board_info target key` and `board_info target exists key`. There is no other machine.
+#[tactic(auto, unfolding(dg_language::specs::Boards::do_board_info))]
+pub(crate) fn board_info(
+    alloc: Global,
+    state: &State,
+    args: &[Bytes],
+) -> Result<Result<Completion, Bytes>, AllocError>
+    ensures { IfOk result (λ r. r ≡ do_board_info args.now state.now) }
+{
+    let Some((machine, others)) = split(args) else {
+        return Ok(miscounted(alloc, b"board_info")?);
+    };
+    let Some(told) = told_of(alloc, state, others)? else {
+        return Ok(miscounted(alloc, b"board_info")?);
+    };
+    if machine.as_slice() == b"target".as_slice() {
+        Ok(gives(told))
+    } else {
+        Ok(Err(Bytes::from_slice(alloc, b"unknown machine")?))
     }
 }
 

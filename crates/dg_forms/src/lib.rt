@@ -4,8 +4,10 @@
 mod arguments;
 mod boards;
 mod clause;
+mod completing;
 mod expect;
 mod expression;
+mod immediate;
 mod matching;
 mod names;
 mod outputs;
@@ -19,7 +21,7 @@ mod values;
 
 pub use crate::arguments::{four, only, split, three, two};
 pub use crate::boards::{
-    any_pattern, board_file, content_of, flag_call, is_flagged, library_file, no_library, told_of,
+    any_pattern, board_file, content_of, flag_call, is_flagged, library_file, no_library,
     tool_library, tool_of, triplet_of,
 };
 pub use crate::clause::clauses_of;
@@ -29,11 +31,11 @@ pub use crate::expect::{
 pub use crate::expression::{
     code_of, in_decimal, syntax_error, truth_in, value_behind, value_between, with_spaces,
 };
+pub use crate::immediate::run_immediate;
 pub use crate::matching::{parts_of, regexp_words};
 pub use crate::names::find_builtin;
 pub use crate::outputs::{write_groups, write_out};
-pub use crate::procedures::{bindings, is_too_long, parameters_of};
-pub use crate::results::{call_of, count_of, name_of, takes_count};
+pub use crate::procedures::{bindings, is_too_long};
 pub use crate::sessions::{
     cannot_execute, id_words, kept_limit, match_words, not_open, send_words, spawn_words,
     wait_value,

@@ -1,41 +1,12 @@
 //! The commands by their names.
 ghost use Rattle.std.specs.Prelude.{◌≡◌};
-ghost use Rattle.dg_language.specs.Language.{builtin_of, with_name, result_commands, variable_commands, control_commands, choice_commands, board_commands, session_commands, target_commands, records, usable};
+ghost use Rattle.dg_language.specs.Language.{builtin_of, with_name, variable_commands, control_commands, choice_commands, session_commands, target_commands, records, usable};
 
+use crate::immediate::{find_immediate, is_for_scripts};
 use dg_language::{
-    BoardCommand, Builtin, ChoiceCommand, ControlCommand, FlagCommand, ResultCommand,
-    SessionCommand, TargetCommand, VariableCommand,
+    Builtin, ChoiceCommand, ControlCommand, FlagCommand, SessionCommand, TargetCommand,
+    VariableCommand,
 };
-
-/// The result or message command of this name.
-fn find_result(name: &[u8]) -> Option<Builtin>
-    ensures { result ≡ with_name name.now result_commands }
-{
-    if name == b"pass".as_slice() {
-        Some(Builtin::Result(ResultCommand::Pass))
-    } else if name == b"fail".as_slice() {
-        Some(Builtin::Result(ResultCommand::Fail))
-    } else if name == b"unresolved".as_slice() {
-        Some(Builtin::Result(ResultCommand::Unresolved))
-    } else if name == b"untested".as_slice() {
-        Some(Builtin::Result(ResultCommand::Untested))
-    } else if name == b"unsupported".as_slice() {
-        Some(Builtin::Result(ResultCommand::Unsupported))
-    } else if name == b"note".as_slice() {
-        Some(Builtin::Result(ResultCommand::Note))
-    } else if name == b"perror".as_slice() {
-        Some(Builtin::Result(ResultCommand::Perror))
-    } else if name == b"warning".as_slice() {
-        Some(Builtin::Result(ResultCommand::Warning))
-    } else if name == b"verbose".as_slice()
-        || name == b"send_user".as_slice()
-        || name == b"send_log".as_slice()
-    {
-        Some(Builtin::Silent)
-    } else {
-        None
-    }
-}
 
 /// The command on variables of this name.
 fn find_variable(name: &[u8]) -> Option<Builtin>
@@ -62,24 +33,16 @@ fn find_variable(name: &[u8]) -> Option<Builtin>
     }
 }
 
-/// The command of this name on the course of a script.
+/// The command of this name that evaluates scripts for each value, catches their codes, or evaluates a library.
 fn find_control(name: &[u8]) -> Option<Builtin>
     ensures { result ≡ with_name name.now control_commands }
 {
-    if name == b"proc".as_slice() {
-        Some(Builtin::Control(ControlCommand::Proc))
-    } else if name == b"foreach".as_slice() {
+    if name == b"foreach".as_slice() {
         Some(Builtin::Control(ControlCommand::Foreach))
-    } else if name == b"break".as_slice() {
-        Some(Builtin::Control(ControlCommand::Break))
-    } else if name == b"continue".as_slice() {
-        Some(Builtin::Control(ControlCommand::Continue))
-    } else if name == b"return".as_slice() {
-        Some(Builtin::Control(ControlCommand::Return))
-    } else if name == b"error".as_slice() {
-        Some(Builtin::Control(ControlCommand::Error))
     } else if name == b"catch".as_slice() {
         Some(Builtin::Control(ControlCommand::Catch))
+    } else if name == b"load_lib".as_slice() {
+        Some(Builtin::LoadLib)
     } else {
         None
     }
@@ -101,27 +64,6 @@ fn find_choice(name: &[u8]) -> Option<Builtin>
         Some(Builtin::Choice(ChoiceCommand::While))
     } else if name == b"for".as_slice() {
         Some(Builtin::Choice(ChoiceCommand::For))
-    } else {
-        None
-    }
-}
-
-/// The command on the board of this name.
-fn find_board(name: &[u8]) -> Option<Builtin>
-    ensures { result ≡ with_name name.now board_commands }
-{
-    if name == b"set_board_info".as_slice() {
-        Some(Builtin::Board(BoardCommand::SetBoardInfo))
-    } else if name == b"unset_board_info".as_slice() {
-        Some(Builtin::Board(BoardCommand::UnsetBoardInfo))
-    } else if name == b"load_generic_config".as_slice() {
-        Some(Builtin::Board(BoardCommand::LoadGenericConfig))
-    } else if name == b"target_info".as_slice() {
-        Some(Builtin::Board(BoardCommand::TargetInfo))
-    } else if name == b"board_info".as_slice() {
-        Some(Builtin::Board(BoardCommand::BoardInfo))
-    } else if name == b"load_lib".as_slice() {
-        Some(Builtin::Board(BoardCommand::LoadLib))
     } else {
         None
     }
@@ -168,8 +110,6 @@ fn find_session(name: &[u8]) -> Option<Builtin>
         Some(Builtin::Session(SessionCommand::MatchMax))
     } else if name == b"expect".as_slice() {
         Some(Builtin::Expect)
-    } else if name == b"exp_continue".as_slice() {
-        Some(Builtin::ExpContinue)
     } else {
         None
     }
@@ -180,19 +120,16 @@ fn find_session(name: &[u8]) -> Option<Builtin>
 fn find_any(name: &[u8]) -> Option<Builtin>
     ensures { result ≡ builtin_of name.now }
 {
-    if let Some(found) = find_result(name) {
-        return Some(found);
-    }
     if let Some(found) = find_variable(name) {
         return Some(found);
     }
-    if let Some(found) = find_control(name) {
+    if let Some(found) = find_immediate(name) {
         return Some(found);
     }
     if let Some(found) = find_choice(name) {
         return Some(found);
     }
-    if let Some(found) = find_board(name) {
+    if let Some(found) = find_control(name) {
         return Some(found);
     }
     if let Some(found) = find_target(name) {
@@ -207,18 +144,14 @@ fn records(which: Builtin) -> bool
     ensures { result ≡ records which }
 {
     match which {
-        Builtin::Result(_)
-        | Builtin::Flag(_)
-        | Builtin::Session(_)
-        | Builtin::Expect
-        | Builtin::ExpContinue => true,
+        Builtin::Immediate(which) => is_for_scripts(which),
+        Builtin::Flag(_) | Builtin::Session(_) | Builtin::Expect => true,
         Builtin::Variable(_)
         | Builtin::Control(_)
         | Builtin::Choice(_)
-        | Builtin::Board(_)
         | Builtin::Target(_)
-        | Builtin::Regexp
-        | Builtin::Silent => false,
+        | Builtin::LoadLib
+        | Builtin::Regexp => false,
     }
 }
 

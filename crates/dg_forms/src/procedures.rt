@@ -1,11 +1,12 @@
 //! Procedures: their parameters, and what calls bind them to.
 ghost use Rattle.std.specs.Prelude.{◌≡◌, ◌+◌, ◌*◌, ◌^◌, ◌<◌, ◌∷◌, ◌++◌, [], IfOk, OnOk, MatchOption, Some, None, nat_lt, length};
-ghost use Rattle.dg_language.specs.Procedures.{has_colons, name_fault, named, parameter_of, parameters, parameters_of, binding, bindings, collects, value_for, longest};
+ghost use Rattle.dg_language.specs.Procedures.{has_colons, name_fault, named, parameter_of, parameters, parameters_of, do_proc, binding, bindings, collects, value_for, longest};
 
-use crate::arguments::split;
+use crate::arguments::{split, three};
+use crate::completing::{does, miscounted};
 use crate::values::{about_quoted, elements_in, text_of};
 use dg_bytes::{Bytes, Seq, TryCopy};
-use dg_language::{Binding, Parameter};
+use dg_language::{Binding, Completion, Effect, Parameter, Procedure};
 use dg_scope::{LONGEST_VALUE, base_of, has_index};
 use std::alloc::{AllocError, Global};
 
@@ -102,14 +103,33 @@ fn parameters(alloc: Global, texts: &[Bytes]) -> Result<Result<Seq<Parameter>, B
 
 /// The parameters that a list names, or why one is none.
 #[tactic(auto, unfolding(dg_language::specs::Procedures::parameters_of))]
-pub fn parameters_of(
-    alloc: Global,
-    text: &[u8],
-) -> Result<Result<Seq<Parameter>, Bytes>, AllocError>
+fn parameters_of(alloc: Global, text: &[u8]) -> Result<Result<Seq<Parameter>, Bytes>, AllocError>
     ensures { IfOk result (λ r. r ≡ parameters_of text.now) }
 {
     match elements_in(alloc, text)? {
         Ok(texts) => Ok(parameters(alloc, texts.as_slice())?),
+        Err(message) => Ok(Err(message)),
+    }
+}
+
+/// `proc name parameters body`.
+#[tactic(auto, unfolding(dg_language::specs::Procedures::do_proc))]
+pub(crate) fn procedure(
+    alloc: Global,
+    args: &[Bytes],
+) -> Result<Result<Completion, Bytes>, AllocError>
+    ensures { IfOk result (λ r. r ≡ do_proc args.now) }
+{
+    let Some((name, parameters, body)) = three(args) else {
+        return Ok(miscounted(alloc, b"proc")?);
+    };
+    match parameters_of(alloc, parameters.as_slice())? {
+        Ok(parameters) => {
+            let body = body.copy(alloc)?;
+            let procedure = Procedure { parameters, body };
+            let definition = Effect::Defines(name.copy(alloc)?, procedure);
+            Ok(does(alloc, definition))
+        }
         Err(message) => Ok(Err(message)),
     }
 }

@@ -1,18 +1,20 @@
 //! The commands that record results and messages.
-ghost use Rattle.std.specs.Prelude.{◌≡◌};
+ghost use Rattle.std.specs.Prelude.{◌≡◌, IfOk};
 ghost use Rattle.dg_expr.specs.Number.{number_of};
-ghost use Rattle.dg_language.specs.Results.{name_of, takes_count, call_of, count_of};
-ghost use Rattle.dg_language.specs.Calls.{call_of as judged_as};
+ghost use Rattle.dg_language.specs.Results.{name_of, takes_count, call_of, count_of, recorded, do_result};
 
-use dg_bytes::Bytes;
+use crate::arguments::{only, split};
+use crate::completing::{does, miscounted};
+use dg_bytes::{Bytes, TryCopy};
 use dg_expr::number;
-use dg_language::{ResultCall, ResultCommand};
+use dg_language::{Completion, Effect, ResultCall, ResultCommand};
+use std::alloc::{AllocError, Global};
 
 /// The most that a count may be set to.
 const MOST: u32 = 1_000;
 
 /// The name of a result command.
-pub fn name_of(which: ResultCommand) -> &'static [u8]
+fn name_of(which: ResultCommand) -> &'static [u8]
     ensures { result.now ≡ name_of which }
 {
     match which {
@@ -28,7 +30,7 @@ pub fn name_of(which: ResultCommand) -> &'static [u8]
 }
 
 /// Whether a command may give a count, by the DejaGnu manual.
-pub fn takes_count(which: ResultCommand) -> bool
+fn takes_count(which: ResultCommand) -> bool
     ensures { result ≡ takes_count which }
 {
     match which {
@@ -43,7 +45,7 @@ pub fn takes_count(which: ResultCommand) -> bool
 }
 
 /// The count that a text gives: a number from 0 to 1,000.
-pub fn count_of(text: &[u8]) -> Option<u32>
+fn count_of(text: &[u8]) -> Option<u32>
     ensures { result ≡ count_of (number_of text.now) }
 {
     let number = number(text)?;
@@ -54,8 +56,8 @@ pub fn count_of(text: &[u8]) -> Option<u32>
 }
 
 /// The call that a result command makes, with the count that it gives.
-pub fn call_of(which: ResultCommand, message: Bytes, count: Option<u32>) -> ResultCall
-    ensures { judged_as result ≡ call_of which message count }
+fn call_of(which: ResultCommand, message: Bytes, count: Option<u32>) -> ResultCall
+    ensures { result ≡ call_of which message count }
 {
     match which {
         ResultCommand::Pass => ResultCall::Pass(message),
@@ -67,4 +69,44 @@ pub fn call_of(which: ResultCommand, message: Bytes, count: Option<u32>) -> Resu
         ResultCommand::Perror => ResultCall::Perror(message, count),
         ResultCommand::Warning => ResultCall::Warning(message, count),
     }
+}
+
+/// A result call is made.
+fn recorded(
+    alloc: Global,
+    which: ResultCommand,
+    message: &Bytes,
+    count: Option<u32>,
+) -> Result<Result<Completion, Bytes>, AllocError>
+    ensures { IfOk result (λ r. r ≡ recorded which message.now count) }
+{
+    let call = call_of(which, message.copy(alloc)?, count);
+    Ok(does(alloc, Effect::Calls(call)))
+}
+
+/// A result command, its message, and for some a count.
+#[tactic(auto, unfolding(dg_language::specs::Results::do_result))]
+pub(crate) fn result(
+    alloc: Global,
+    which: ResultCommand,
+    args: &[Bytes],
+) -> Result<Result<Completion, Bytes>, AllocError>
+    ensures { IfOk result (λ r. r ≡ do_result which args.now) }
+{
+    let Some((message, others)) = split(args) else {
+        return Ok(miscounted(alloc, name_of(which))?);
+    };
+    if others.is_empty() {
+        return Ok(recorded(alloc, which, message, None)?);
+    }
+    let Some(text) = only(others) else {
+        return Ok(miscounted(alloc, name_of(which))?);
+    };
+    if !takes_count(which) {
+        return Ok(miscounted(alloc, name_of(which))?);
+    }
+    let Some(count) = count_of(text.as_slice()) else {
+        return Ok(Err(Bytes::from_slice(alloc, b"bad count")?));
+    };
+    Ok(recorded(alloc, which, message, Some(count))?)
 }

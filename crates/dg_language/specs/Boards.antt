@@ -1,5 +1,5 @@
 -- The commands on boards, targets and libraries, by the DejaGnu manual.
-use Rattle.std.specs.Prelude.{ℕ, Bool, true, false, ◌==◌, ◌&&◌, Option, Some, None, List, [], ◌∷◌, ◌++◌, is_some, nat_eq, codes}
+use Rattle.std.specs.Prelude.{ℕ, Bool, true, false, ◌==◌, ◌&&◌, Option, Some, None, List, [], ◌∷◌, ◌++◌, is_some, nat_eq, codes, Err}
 use Rattle.std.specs.Cmp.Lexicographic.{pointwise}
 use Rattle.std.specs.List.{list_any}
 use Rattle.std.specs.FinMap as map
@@ -13,31 +13,28 @@ use Rattle.dg_world.specs.declared.question.Question.TheVariants.{File, Triplet}
 use Rattle.dg_world.specs.declared.question.Answer.{Answer}
 use Rattle.dg_world.specs.declared.question.Answer.TheVariants as answer
 use Rattle.dg_language.specs.declared.code.Code.TheVariants.{Done}
-use Rattle.dg_language.specs.declared.command.BoardCommand.{BoardCommand}
-use Rattle.dg_language.specs.declared.command.BoardCommand.TheVariants.{SetBoardInfo, UnsetBoardInfo, LoadGenericConfig, TargetInfo, BoardInfo, LoadLib}
+use Rattle.dg_language.specs.declared.completion.Effect.TheVariants.{Sets, Unsets}
 use Rattle.dg_language.specs.declared.command.TargetCommand.{TargetCommand}
 use Rattle.dg_language.specs.declared.command.TargetCommand.TheVariants.{IsTarget, IsHost, IsBuild, IsNative}
 use Rattle.dg_language.specs.declared.command.FlagCommand.{FlagCommand}
 use Rattle.dg_language.specs.declared.command.FlagCommand.TheVariants.{SetupXfail, SetupKfail, ClearXfail, ClearKfail}
 use Rattle.dg_language.specs.Play.{Play}
-use Rattle.dg_language.specs.State.{State, with_call, in_library, setting_of, with_setting, without_setting, departed}
+use Rattle.dg_language.specs.State.{State, with_call, in_library, setting_of, departed}
 use Rattle.dg_language.specs.Evaluation.{Ending, Then, Nested, ask, fail, if_done, on, one_of, two_of, first_of, outside, quoted, wrong_count}
 use Rattle.dg_language.specs.Variables.{or_empty}
+use Rattle.dg_language.specs.Completing.{Immediately, gives, does, counted}
 
 -- `set_board_info key value`: a key that has a setting keeps it
-unfoldable pub do_set_board_info : List (List ℕ) → State → Then → Play Ending
-do_set_board_info args s k =
-    on (two_of args) (fail (wrong_count (codes "set_board_info")) s k) (λ p. k Done [] (with_setting p.0 p.1 s))
+unfoldable pub do_set_board_info : List (List ℕ) → Immediately
+do_set_board_info args = counted (codes "set_board_info") (two_of args) (λ p. does (Sets p.0 p.1))
 
 -- `unset_board_info key`
-unfoldable pub do_unset_board_info : List (List ℕ) → State → Then → Play Ending
-do_unset_board_info args s k =
-    on (one_of args) (fail (wrong_count (codes "unset_board_info")) s k) (λ key. k Done [] (without_setting key s))
+unfoldable pub do_unset_board_info : List (List ℕ) → Immediately
+do_unset_board_info args = counted (codes "unset_board_info") (one_of args) (λ key. does (Unsets key))
 
 -- `load_generic_config name` sets the key `generic_name`
-unfoldable pub do_load_generic_config : List (List ℕ) → State → Then → Play Ending
-do_load_generic_config args s k =
-    on (one_of args) (fail (wrong_count (codes "load_generic_config")) s k) (λ n. k Done [] (with_setting (codes "generic_name") n s))
+unfoldable pub do_load_generic_config : List (List ℕ) → Immediately
+do_load_generic_config args = counted (codes "load_generic_config") (one_of args) (λ n. does (Sets (codes "generic_name") n))
 
 -- what is told of a key, or of `exists key`: its setting, the empty text where it has none; or whether it has one
 abbrev pub told_of : List (List ℕ) → State → Option (List ℕ)
@@ -48,18 +45,18 @@ told_of (word ∷ key ∷ []) s =
 told_of (_ ∷ _ ∷ _ ∷ _) s = None
 
 -- `target_info key` and `target_info exists key`
-unfoldable pub do_target_info : List (List ℕ) → State → Then → Play Ending
-do_target_info args s k = on (told_of args s) (fail (wrong_count (codes "target_info")) s k) (λ v. k Done v s)
+unfoldable pub do_target_info : List (List ℕ) → State → Immediately
+do_target_info args s = counted (codes "target_info") (told_of args s) gives
 
 -- `board_info target key` and `board_info target exists key`; there is no other machine
-abbrev pub told_by : Bool → List ℕ → State → Then → Play Ending
-told_by true v s k = k Done v s
-told_by false v s k = fail (codes "unknown machine") s k
+abbrev pub told_by : Bool → List ℕ → Immediately
+told_by true v = gives v
+told_by false v = Err (codes "unknown machine")
 
-unfoldable pub do_board_info : List (List ℕ) → State → Then → Play Ending
-do_board_info args s k =
-    on (first_of args) (fail (wrong_count (codes "board_info")) s k) (λ p.
-    on (told_of p.1 s) (fail (wrong_count (codes "board_info")) s k) (λ v. told_by (pointwise nat_eq p.0 (codes "target")) v s k))
+unfoldable pub do_board_info : List (List ℕ) → State → Immediately
+do_board_info args s =
+    counted (codes "board_info") (first_of args) (λ p.
+    counted (codes "board_info") (told_of p.1 s) (λ v. told_by (pointwise nat_eq p.0 (codes "target")) v))
 
 -- the file of a library
 abbrev pub library_file : List ℕ → List ℕ
@@ -97,15 +94,6 @@ load_named nested true f s k = load nested f s k
 unfoldable pub do_load_lib : Nested → List (List ℕ) → State → Then → Play Ending
 do_load_lib nested args s k =
     on (one_of args) (fail (wrong_count (codes "load_lib")) s k) (λ f. load_named nested (is_name (library_file f)) f s k)
-
--- a command on the board
-abbrev pub do_board : Nested → BoardCommand → List (List ℕ) → State → Then → Play Ending
-do_board nested SetBoardInfo args s k = do_set_board_info args s k
-do_board nested UnsetBoardInfo args s k = do_unset_board_info args s k
-do_board nested LoadGenericConfig args s k = do_load_generic_config args s k
-do_board nested TargetInfo args s k = do_target_info args s k
-do_board nested BoardInfo args s k = do_board_info args s k
-do_board nested LoadLib args s k = do_load_lib nested args s k
 
 -- the triplet of a machine
 abbrev pub triplet_of : Answer → List ℕ

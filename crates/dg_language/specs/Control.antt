@@ -3,12 +3,12 @@ use Rattle.std.specs.Prelude.{ℕ, suc, zero, Option, Some, None, List, [], ◌�
 use Rattle.dg_language.specs.declared.code.Code.{Code}
 use Rattle.dg_language.specs.declared.code.Code.TheVariants.{Done, Failed, Returned, Broken, Continued, ExpContinued}
 use Rattle.dg_language.specs.declared.command.ControlCommand.{ControlCommand}
-use Rattle.dg_language.specs.declared.command.ControlCommand.TheVariants.{Proc, Foreach, Break, Continue, Return, Error, Catch}
+use Rattle.dg_language.specs.declared.command.ControlCommand.TheVariants.{Foreach, Catch}
 use Rattle.dg_language.specs.Play.{Play, Ends}
 use Rattle.dg_language.specs.State.{State, assigned}
 use Rattle.dg_language.specs.Evaluation.{Ending, Then, Nested, out_of_steps, tick, within, fail, loop_after, on, first_of, three_of, wrong_count, list_in}
 use Rattle.dg_language.specs.Variables.{touch}
-use Rattle.dg_language.specs.Procedures.{do_proc}
+use Rattle.dg_language.specs.Completing.{Immediately, completes, counted}
 
 abbrev pub digit_of : Code → List ℕ
 digit_of Done = codes "0"
@@ -42,8 +42,8 @@ message_of (m ∷ _ ∷ []) = Some m
 message_of (m ∷ _ ∷ _ ∷ []) = Some m
 message_of (_ ∷ _ ∷ _ ∷ _ ∷ _) = None
 
-unfoldable pub do_error : List (List ℕ) → State → Then → Play Ending
-do_error args s k = on (message_of args) (fail (wrong_count (codes "error")) s k) (λ m. fail m s k)
+unfoldable pub do_error : List (List ℕ) → Immediately
+do_error args = counted (codes "error") (message_of args) Err
 
 -- `return` and `return value`
 abbrev pub value_in : List (List ℕ) → Option (List ℕ)
@@ -51,13 +51,13 @@ value_in [] = Some []
 value_in (v ∷ []) = Some v
 value_in (_ ∷ _ ∷ _) = None
 
-unfoldable pub do_return : List (List ℕ) → State → Then → Play Ending
-do_return args s k = on (value_in args) (fail (wrong_count (codes "return")) s k) (λ v. k Returned v s)
+unfoldable pub do_return : List (List ℕ) → Immediately
+do_return args = counted (codes "return") (value_in args) (completes Returned)
 
 -- `break` and `continue`
-unfoldable pub do_leave : Code → List ℕ → List (List ℕ) → State → Then → Play Ending
-do_leave code name [] s k = k code [] s
-do_leave code name (_ ∷ _) s k = fail (wrong_count name) s k
+unfoldable pub do_leave : Code → List ℕ → List (List ℕ) → Immediately
+do_leave code name [] = completes code []
+do_leave code name (_ ∷ _) = Err (wrong_count name)
 
 abbrev pub head_or_empty : List (List ℕ) → List ℕ
 head_or_empty [] = []
@@ -94,12 +94,7 @@ unfoldable pub do_foreach : Nested → List (List ℕ) → State → Then → Pl
 do_foreach nested args s k =
     on (three_of args) (fail (wrong_count (codes "foreach")) s k) (λ a. with_names nested (list_in a.0) a.1 a.2 s k)
 
--- a command on the course of a script
+-- a command that evaluates scripts for each value, or catches their codes
 abbrev pub do_control : Nested → ControlCommand → List (List ℕ) → State → Then → Play Ending
-do_control nested Proc args s k = do_proc args s k
 do_control nested Foreach args s k = do_foreach nested args s k
-do_control nested Break args s k = do_leave Broken (codes "break") args s k
-do_control nested Continue args s k = do_leave Continued (codes "continue") args s k
-do_control nested Return args s k = do_return args s k
-do_control nested Error args s k = do_error args s k
 do_control nested Catch args s k = do_catch nested args s k

@@ -22,6 +22,7 @@ use Rattle.dg_language.specs.declared.expect.Expectation.{Expectation}
 use Rattle.dg_language.specs.Play.{Play, Ends}
 use Rattle.dg_language.specs.State.{State, assigned, with_sessions, in_action, out_of_action, stands_in_action}
 use Rattle.dg_language.specs.Evaluation.{Ending, Then, Nested, out_of_steps, fail, on, wrong_count, outside_of_expect}
+use Rattle.dg_language.specs.Completing.{Immediately, completes}
 use Rattle.dg_language.specs.Variables.{expected_integer}
 use Rattle.dg_language.specs.Words.{element, gather, substitutions}
 use Rattle.dg_language.specs.Sessions.{perform, on_session, on_words, seek, not_open, is_session_open}
@@ -172,10 +173,9 @@ expect_with nested words s k =
 
 -- ---- exp_continue
 
-unfoldable pub do_exp_continue : List (List ℕ) → State → Then → Play Ending
-do_exp_continue [] s k =
-    elim (stands_in_action s.actions) [ true ↦ k ExpContinued [] s | false ↦ fail outside_of_expect s k ]
-do_exp_continue (_ ∷ _) s k = fail (wrong_count (codes "exp_continue")) s k
+unfoldable pub do_exp_continue : List (List ℕ) → State → Immediately
+do_exp_continue [] s = elim (stands_in_action s.actions) [ true ↦ completes ExpContinued [] | false ↦ Err outside_of_expect ]
+do_exp_continue (_ ∷ _) s = Err (wrong_count (codes "exp_continue"))
 
 -- ---- the words of expect
 

@@ -11,12 +11,10 @@ use Rattle.dg_language.specs.declared.procedure.Procedure.{Procedure}
 use Rattle.dg_language.specs.declared.command.Command.{Command}
 use Rattle.dg_language.specs.declared.command.Command.TheVariants.{Words, Unreadable}
 use Rattle.dg_language.specs.declared.command.Builtin.{Builtin}
-use Rattle.dg_language.specs.declared.command.Builtin.TheVariants.{Result as ResultBuiltin, Variable as VariableBuiltin, Control as ControlBuiltin, Choice as ChoiceBuiltin, Board as BoardBuiltin, Target as TargetBuiltin, Flag as FlagBuiltin, Session as SessionBuiltin, Expect as ExpectBuiltin, ExpContinue as ExpContinueBuiltin, Regexp as RegexpBuiltin, Silent}
-use Rattle.dg_language.specs.declared.command.ResultCommand.TheVariants.{Pass, Fail, Unresolved, Untested, Unsupported, Note, Perror, Warning}
+use Rattle.dg_language.specs.declared.command.Builtin.TheVariants.{Immediate as ImmediateBuiltin, Variable as VariableBuiltin, Control as ControlBuiltin, Choice as ChoiceBuiltin, Target as TargetBuiltin, Flag as FlagBuiltin, Session as SessionBuiltin, LoadLib as LoadLibBuiltin, Expect as ExpectBuiltin, Regexp as RegexpBuiltin}
 use Rattle.dg_language.specs.declared.command.VariableCommand.TheVariants.{Set, Append, ListAppend, Increase, Unset, Info, Global}
-use Rattle.dg_language.specs.declared.command.ControlCommand.TheVariants.{Proc, Foreach, Break, Continue, Return, Error, Catch}
+use Rattle.dg_language.specs.declared.command.ControlCommand.TheVariants.{Foreach, Catch}
 use Rattle.dg_language.specs.declared.command.ChoiceCommand.TheVariants.{Expr, Eval, If, Switch, While, For}
-use Rattle.dg_language.specs.declared.command.BoardCommand.TheVariants.{SetBoardInfo, UnsetBoardInfo, LoadGenericConfig, TargetInfo, BoardInfo, LoadLib}
 use Rattle.dg_language.specs.declared.command.TargetCommand.TheVariants.{IsTarget, IsHost, IsBuild, IsNative}
 use Rattle.dg_language.specs.declared.command.FlagCommand.TheVariants.{SetupXfail, SetupKfail, ClearXfail, ClearKfail}
 use Rattle.dg_language.specs.declared.command.SessionCommand.TheVariants.{Spawn, Send, Close, Wait, MatchMax}
@@ -25,47 +23,39 @@ use Rattle.dg_language.specs.declared.substitution.Purpose.TheVariants.{Run, Loa
 use Rattle.dg_language.specs.Play.{Play}
 use Rattle.dg_language.specs.State.{State}
 use Rattle.dg_language.specs.Evaluation.{Ending, Then, Nested, cut, tick, fail, if_done, quoted}
-use Rattle.dg_language.specs.Results.{do_result}
+use Rattle.dg_language.specs.Completing.{completed}
+use Rattle.dg_language.specs.Immediate.{immediate, immediate_commands, is_for_scripts}
 use Rattle.dg_language.specs.Variables.{do_variable}
 use Rattle.dg_language.specs.Procedures.{call}
 use Rattle.dg_language.specs.Control.{do_control, head_or_empty}
 use Rattle.dg_language.specs.Switching.{do_choice}
-use Rattle.dg_language.specs.Boards.{do_board, do_target, do_flag}
+use Rattle.dg_language.specs.Boards.{do_load_lib, do_target, do_flag}
 use Rattle.dg_language.specs.Words.{Act, gather, substitutions}
 use Rattle.dg_language.specs.Sessions.{do_session}
-use Rattle.dg_language.specs.Expecting.{do_expect, do_exp_continue, expect_with}
+use Rattle.dg_language.specs.Expecting.{do_expect, expect_with}
 use Rattle.dg_language.specs.Matching.{do_regexp}
 use Rattle.dg_cmds.specs.Commands.{pure_of}
 use Rattle.dg_cmds.specs.declared.fault.CmdFault.{CmdFault}
 use Rattle.dg_cmds.specs.declared.fault.CmdFault.TheVariants.{Unknown, Tcl, TooLong, Memory}
 
 abbrev pub builtin : Nested → Builtin → List (List ℕ) → State → Then → Play Ending
-builtin nested (ResultBuiltin c) args s k = do_result c args s k
+builtin nested (ImmediateBuiltin c) args s k = completed (immediate c args s) s k
 builtin nested (VariableBuiltin c) args s k = do_variable c args s k
 builtin nested (ControlBuiltin c) args s k = do_control nested c args s k
 builtin nested (ChoiceBuiltin c) args s k = do_choice nested c args s k
-builtin nested (BoardBuiltin c) args s k = do_board nested c args s k
 builtin nested (TargetBuiltin c) args s k = do_target c args s k
 builtin nested (FlagBuiltin c) args s k = do_flag c args s k
 builtin nested (SessionBuiltin c) args s k = do_session c args s k
+builtin nested LoadLibBuiltin args s k = do_load_lib nested args s k
 builtin nested ExpectBuiltin args s k = do_expect nested args s k
-builtin nested ExpContinueBuiltin args s k = do_exp_continue args s k
 builtin nested RegexpBuiltin args s k = do_regexp args s k
-builtin nested Silent args s k = k Done [] s
 
 -- the first of a list that has a name
 abbrev pub with_name : List ℕ → List (List ℕ × Builtin) → Option Builtin
 with_name n [] = None
 with_name n (e ∷ es) = elim (pointwise nat_eq n e.0) [ true ↦ Some e.1 | false ↦ with_name n es ]
 
--- the commands by their names
-abbrev pub result_commands : List (List ℕ × Builtin)
-result_commands =
-    (codes "pass", ResultBuiltin Pass) ∷ (codes "fail", ResultBuiltin Fail) ∷ (codes "unresolved", ResultBuiltin Unresolved)
-    ∷ (codes "untested", ResultBuiltin Untested) ∷ (codes "unsupported", ResultBuiltin Unsupported) ∷ (codes "note", ResultBuiltin Note)
-    ∷ (codes "perror", ResultBuiltin Perror) ∷ (codes "warning", ResultBuiltin Warning)
-    ∷ (codes "verbose", Silent) ∷ (codes "send_user", Silent) ∷ (codes "send_log", Silent) ∷ []
-
+-- the other commands by their names
 abbrev pub variable_commands : List (List ℕ × Builtin)
 variable_commands =
     (codes "set", VariableBuiltin Set) ∷ (codes "append", VariableBuiltin Append) ∷ (codes "lappend", VariableBuiltin ListAppend)
@@ -75,20 +65,12 @@ variable_commands =
 
 abbrev pub control_commands : List (List ℕ × Builtin)
 control_commands =
-    (codes "proc", ControlBuiltin Proc) ∷ (codes "foreach", ControlBuiltin Foreach) ∷ (codes "break", ControlBuiltin Break)
-    ∷ (codes "continue", ControlBuiltin Continue) ∷ (codes "return", ControlBuiltin Return) ∷ (codes "error", ControlBuiltin Error)
-    ∷ (codes "catch", ControlBuiltin Catch) ∷ []
+    (codes "foreach", ControlBuiltin Foreach) ∷ (codes "catch", ControlBuiltin Catch) ∷ (codes "load_lib", LoadLibBuiltin) ∷ []
 
 abbrev pub choice_commands : List (List ℕ × Builtin)
 choice_commands =
     (codes "expr", ChoiceBuiltin Expr) ∷ (codes "eval", ChoiceBuiltin Eval) ∷ (codes "if", ChoiceBuiltin If)
     ∷ (codes "switch", ChoiceBuiltin Switch) ∷ (codes "while", ChoiceBuiltin While) ∷ (codes "for", ChoiceBuiltin For) ∷ []
-
-abbrev pub board_commands : List (List ℕ × Builtin)
-board_commands =
-    (codes "set_board_info", BoardBuiltin SetBoardInfo) ∷ (codes "unset_board_info", BoardBuiltin UnsetBoardInfo)
-    ∷ (codes "load_generic_config", BoardBuiltin LoadGenericConfig) ∷ (codes "target_info", BoardBuiltin TargetInfo)
-    ∷ (codes "board_info", BoardBuiltin BoardInfo) ∷ (codes "load_lib", BoardBuiltin LoadLib) ∷ []
 
 abbrev pub target_commands : List (List ℕ × Builtin)
 target_commands =
@@ -100,7 +82,7 @@ abbrev pub session_commands : List (List ℕ × Builtin)
 session_commands =
     (codes "spawn", SessionBuiltin Spawn) ∷ (codes "send", SessionBuiltin Send) ∷ (codes "close", SessionBuiltin Close)
     ∷ (codes "wait", SessionBuiltin Wait) ∷ (codes "match_max", SessionBuiltin MatchMax) ∷ (codes "expect", ExpectBuiltin)
-    ∷ (codes "exp_continue", ExpContinueBuiltin) ∷ []
+    ∷ []
 
 abbrev pub or_else : Option Builtin → Option Builtin → Option Builtin
 or_else (Some b) more = Some b
@@ -108,18 +90,17 @@ or_else None more = more
 
 unfoldable pub builtin_of : List ℕ → Option Builtin
 builtin_of n =
-    or_else (with_name n result_commands)
-    (or_else (with_name n variable_commands)
-    (or_else (with_name n control_commands)
-    (or_else (with_name n choice_commands) (or_else (with_name n board_commands) (or_else (with_name n target_commands) (with_name n session_commands))))))
+    or_else (with_name n variable_commands)
+    (or_else (with_name n immediate_commands)
+    (or_else (with_name n choice_commands)
+    (or_else (with_name n control_commands) (or_else (with_name n target_commands) (with_name n session_commands)))))
 
 -- a command that belongs to scripts alone: it records a result, sets or clears a flag for the next one, or is about sessions
 abbrev pub records : Builtin → Bool
-records (ResultBuiltin c) = true
+records (ImmediateBuiltin c) = is_for_scripts c
 records (FlagBuiltin c) = true
 records (SessionBuiltin c) = true
 records ExpectBuiltin = true
-records ExpContinueBuiltin = true
 records _ = false
 
 -- in a board's file those are no commands

@@ -2,6 +2,7 @@ pub mod Play
 pub mod Reads
 pub mod State
 pub mod Evaluation
+pub mod Completing
 pub mod Results
 pub mod Variables
 pub mod Procedures
@@ -17,6 +18,7 @@ pub mod Patterns
 pub mod Sessions
 pub mod Expecting
 pub mod Matching
+pub mod Immediate
 pub mod Language
 pub mod Judge
 pub mod Law

@@ -3,13 +3,14 @@ use Rattle.std.specs.Prelude.{ℕ, Bool, true, false, ◌&&◌, ◌||◌, Option
 use Rattle.std.specs.Cmp.Lexicographic.{pointwise}
 use Rattle.dg_words.specs.Canonical.{text_of_list}
 use Rattle.dg_scope.specs.Names.{has_index, base_of}
-use Rattle.dg_language.specs.declared.code.Code.TheVariants.{Done}
+use Rattle.dg_language.specs.declared.completion.Effect.TheVariants.{Defines}
 use Rattle.dg_language.specs.declared.procedure.Binding.{Binding}
 use Rattle.dg_language.specs.declared.procedure.Parameter.{Parameter}
 use Rattle.dg_language.specs.declared.procedure.Procedure.{Procedure}
 use Rattle.dg_language.specs.Play.{Play}
-use Rattle.dg_language.specs.State.{State, defined, entered, departed}
-use Rattle.dg_language.specs.Evaluation.{Ending, Then, Nested, within, fail, on, three_of, quoted, outside, wrong_count, list_in}
+use Rattle.dg_language.specs.State.{State, entered, departed}
+use Rattle.dg_language.specs.Evaluation.{Ending, Then, Nested, within, fail, three_of, quoted, outside, wrong_count, list_in}
+use Rattle.dg_language.specs.Completing.{Immediately, does, counted}
 
 -- whether a name has `::` in it
 abbrev pub has_colons : List ℕ → Bool
@@ -62,14 +63,13 @@ parameters_in (Ok texts) = parameters texts
 unfoldable pub parameters_of : List ℕ → Result (List Parameter) (List ℕ)
 parameters_of text = parameters_in (list_in text)
 
-abbrev pub with_parameters : List ℕ → List ℕ → Result (List Parameter) (List ℕ) → State → Then → Play Ending
-with_parameters n body (Err why) s k = fail why s k
-with_parameters n body (Ok ps) s k = k Done [] (defined n (record { parameters = ps; body = body }) s)
+abbrev pub with_parameters : List ℕ → List ℕ → Result (List Parameter) (List ℕ) → Immediately
+with_parameters n body (Err why) = Err why
+with_parameters n body (Ok ps) = does (Defines n (record { parameters = ps; body = body }))
 
 -- `proc name parameters body`
-unfoldable pub do_proc : List (List ℕ) → State → Then → Play Ending
-do_proc args s k =
-    on (three_of args) (fail (wrong_count (codes "proc")) s k) (λ a. with_parameters a.0 a.2 (parameters_of a.1) s k)
+unfoldable pub do_proc : List (List ℕ) → Immediately
+do_proc args = counted (codes "proc") (three_of args) (λ a. with_parameters a.0 a.2 (parameters_of a.1))
 
 abbrev pub binding : List ℕ → List ℕ → Binding
 binding n v = record { name = n; value = v }

@@ -34,15 +34,42 @@ pub enum VariableCommand {
     Global,
 }
 
-/// A command on the course of a script: proc(n), foreach(n), break(n), continue(n), return(n), error(n), catch(n).
+/// A command that evaluates nothing inside, asks nothing and uses no variable: what it comes to is a function of its words
+/// and of what was made so far.
+#[derive(Clone, Copy, Debug, PartialEq, Eq)]
+pub enum ImmediateCommand {
+    /// A result or a message.
+    Result(ResultCommand),
+    /// `verbose`, `send_user` and `send_log`, which have no effect.
+    Silent,
+    /// proc(n).
+    Proc,
+    /// break(n).
+    Break,
+    /// continue(n).
+    Continue,
+    /// return(n).
+    Return,
+    /// error(n).
+    Error,
+    /// `exp_continue`, by expect(1).
+    ExpContinue,
+    /// `set_board_info`, by the DejaGnu manual as those that follow.
+    SetBoardInfo,
+    /// `unset_board_info`.
+    UnsetBoardInfo,
+    /// `load_generic_config`.
+    LoadGenericConfig,
+    /// `target_info`.
+    TargetInfo,
+    /// `board_info`.
+    BoardInfo,
+}
+
+/// A command that evaluates scripts for each value, or catches their codes: foreach(n), catch(n).
 #[derive(Clone, Copy, Debug, PartialEq, Eq)]
 pub enum ControlCommand {
-    Proc,
     Foreach,
-    Break,
-    Continue,
-    Return,
-    Error,
     Catch,
 }
 
@@ -56,17 +83,6 @@ pub enum ChoiceCommand {
     Switch,
     While,
     For,
-}
-
-/// A command on the board, by the DejaGnu manual.
-#[derive(Clone, Copy, Debug, PartialEq, Eq)]
-pub enum BoardCommand {
-    SetBoardInfo,
-    UnsetBoardInfo,
-    LoadGenericConfig,
-    TargetInfo,
-    BoardInfo,
-    LoadLib,
 }
 
 /// A command on the machines' triplets, by the DejaGnu manual.
@@ -100,20 +116,17 @@ pub enum SessionCommand {
 /// A command that is known by its name.
 #[derive(Clone, Copy, Debug, PartialEq, Eq)]
 pub enum Builtin {
-    Result(ResultCommand),
+    Immediate(ImmediateCommand),
     Variable(VariableCommand),
     Control(ControlCommand),
     Choice(ChoiceCommand),
-    Board(BoardCommand),
     Target(TargetCommand),
     Flag(FlagCommand),
     Session(SessionCommand),
+    /// `load_lib`, by the DejaGnu manual.
+    LoadLib,
     /// `expect`.
     Expect,
-    /// `exp_continue`.
-    ExpContinue,
     /// `regexp`.
     Regexp,
-    /// `verbose`, `send_user` and `send_log`, which have no effect.
-    Silent,
 }

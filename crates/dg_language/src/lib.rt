@@ -8,6 +8,7 @@ mod clause;
 mod close;
 mod code;
 mod command;
+mod completion;
 mod expect;
 mod law;
 mod procedure;
@@ -24,9 +25,10 @@ pub use crate::clause::{Clause, Clauses};
 pub use crate::close::Close;
 pub use crate::code::Code;
 pub use crate::command::{
-    BoardCommand, Builtin, ChoiceCommand, Command, ControlCommand, FlagCommand, ResultCommand,
+    Builtin, ChoiceCommand, Command, ControlCommand, FlagCommand, ImmediateCommand, ResultCommand,
     SessionCommand, TargetCommand, VariableCommand,
 };
+pub use crate::completion::{Completion, Effect};
 pub use crate::expect::{Awaited, Expectation, Pair, PatternKind};
 pub use crate::law::more_answers_keep_the_end;
 pub use crate::procedure::{Binding, Parameter, Procedure};

@@ -10,10 +10,12 @@ ghost use Rattle.dg_language.specs.Variables.{is_to_begin, first_value, all_link
 ghost use Rattle.dg_language.specs.Procedures.{longest};
 ghost use Rattle.dg_language.specs.Touch.{Touches, value_in_use};
 ghost use Rattle.dg_language.specs.Calls.{call_of};
+ghost use Rattle.dg_language.specs.Completing.{performed};
 ghost use Rattle.dg_results.specs.Standing.{after_calls};
 
 use crate::actions::Actions;
 use crate::calls::{Calls, ResultCall};
+use crate::completion::Effect;
 use crate::procedure::{Binding, Procedure};
 use crate::reads::Reads;
 use dg_boards::BoardTable;
@@ -542,6 +544,24 @@ impl State {
         ensures { self.new ≡ without_setting key.now self.old }
     {
         self.board.unset(key);
+    }
+
+    /// Makes the change of a command that has completed.
+    pub fn perform(&mut self, alloc: Global, effect: Effect) -> Result<(), AllocError>
+        ensures { OnOk result (self.new ≡ performed effect self.old) }
+    {
+        match effect {
+            Effect::Nothing => Ok(()),
+            Effect::Calls(call) => Ok(self.add_call(call)?),
+            Effect::Sets(key, value) => Ok(self.set_first(key, value)?),
+            Effect::Unsets(key) => {
+                self.unset_setting(&key);
+                Ok(())
+            }
+            Effect::Defines(name, procedure) => {
+                Ok(self.define(alloc, name.as_slice(), procedure)?)
+            }
+        }
     }
 }
 

@@ -1,7 +1,6 @@
--- The commands on boards, targets, libraries and flags.
+-- The commands on libraries, targets and flags.
 use Rattle.std.proofs.Common.{ℕ, Bool, true, false, List, [], ◌∷◌}
-use Rattle.std.specs.Prelude.{Option, Some, None, nat_eq, codes}
-use Rattle.std.specs.Cmp.Lexicographic.{pointwise}
+use Rattle.std.specs.Prelude.{Option, Some, None}
 use Rattle.std.specs.List.{list_any}
 use Rattle.std.specs.FinMap as map
 use Rattle.dg_world.specs.Name.{is_name}
@@ -10,43 +9,15 @@ use Rattle.dg_world.specs.declared.question.Machine.TheVariants.{Target, Host, B
 use Rattle.dg_world.specs.declared.question.Question.TheVariants.{File, Triplet}
 use Rattle.dg_language.specs.declared.code.Code.{Code}
 use Rattle.dg_language.specs.declared.code.Code.TheVariants.{Done, Failed, Returned, Broken, Continued, ExpContinued}
-use Rattle.dg_language.specs.declared.command.BoardCommand.{BoardCommand}
-use Rattle.dg_language.specs.declared.command.BoardCommand.TheVariants.{SetBoardInfo, UnsetBoardInfo, LoadGenericConfig, TargetInfo, BoardInfo, LoadLib}
 use Rattle.dg_language.specs.declared.command.TargetCommand.{TargetCommand}
 use Rattle.dg_language.specs.declared.command.TargetCommand.TheVariants.{IsTarget, IsHost, IsBuild, IsNative}
 use Rattle.dg_language.specs.declared.command.FlagCommand.{FlagCommand}
 use Rattle.dg_language.specs.State.{State, in_library, departed}
-use Rattle.dg_language.specs.Evaluation.{Nested, one_of, two_of, first_of}
-use Rattle.dg_language.specs.Boards.{do_set_board_info, do_unset_board_info, do_load_generic_config, told_of, do_target_info, told_by, do_board_info, library_file, content_of, after_library, found, load, load_named, do_load_lib, do_board, do_is, do_is_native, do_target, is_pattern, do_flag}
+use Rattle.dg_language.specs.Evaluation.{Nested, one_of}
+use Rattle.dg_language.specs.Boards.{library_file, content_of, after_library, found, load, load_named, do_load_lib, do_is, do_is_native, do_target, is_pattern, do_flag}
 use Rattle.dg_laws.specs.Grafting.{Grafted}
 use Rattle.dg_laws.proofs.Trees.{one_after_another}
 use Rattle.dg_laws.proofs.Steps.{IsGraftedInside, completes, either, on-grafted, ask-grafted, fail-grafted}
-
-do_set_board_info-grafted : (args : List (List ℕ)) (s : State) → Grafted (do_set_board_info args s)
-unfolding do_set_board_info
-do_set_board_info-grafted args s = on-grafted (two_of args) (fail-grafted _ s) (λ p. completes Done [] _)
-
-do_unset_board_info-grafted : (args : List (List ℕ)) (s : State) → Grafted (do_unset_board_info args s)
-unfolding do_unset_board_info
-do_unset_board_info-grafted args s = on-grafted (one_of args) (fail-grafted _ s) (λ key. completes Done [] _)
-
-do_load_generic_config-grafted : (args : List (List ℕ)) (s : State) → Grafted (do_load_generic_config args s)
-unfolding do_load_generic_config
-do_load_generic_config-grafted args s = on-grafted (one_of args) (fail-grafted _ s) (λ n. completes Done [] _)
-
-do_target_info-grafted : (args : List (List ℕ)) (s : State) → Grafted (do_target_info args s)
-unfolding do_target_info
-do_target_info-grafted args s = on-grafted (told_of args s) (fail-grafted _ s) (λ v. completes Done v s)
-
-told_by-grafted : (is_target : Bool) (v : List ℕ) (s : State) → Grafted (told_by is_target v s)
-told_by-grafted true v s = completes Done v s
-told_by-grafted false v s = fail-grafted _ s
-
-do_board_info-grafted : (args : List (List ℕ)) (s : State) → Grafted (do_board_info args s)
-unfolding do_board_info
-do_board_info-grafted args s =
-    on-grafted (first_of args) (fail-grafted _ s) (λ p.
-    on-grafted (told_of p.1 s) (fail-grafted _ s) (λ v. told_by-grafted (pointwise nat_eq p.0 (codes "target")) v s))
 
 after_library-at : (c : Code) (v : List ℕ) (s : State) → Grafted (λ k. after_library k c v s)
 unfolding after_library
@@ -73,18 +44,10 @@ module _ (nested : Nested) (inside : IsGraftedInside nested) where
   load_named-grafted false f s = fail-grafted _ s
   load_named-grafted true f s = load-grafted f s
 
-  do_load_lib-grafted : (args : List (List ℕ)) (s : State) → Grafted (do_load_lib nested args s)
+  pub do_load_lib-grafted : (args : List (List ℕ)) (s : State) → Grafted (do_load_lib nested args s)
   unfolding do_load_lib
   do_load_lib-grafted args s =
       on-grafted (one_of args) (fail-grafted _ s) (λ f. load_named-grafted (is_name (library_file f)) f s)
-
-  pub do_board-grafted : (c : BoardCommand) (args : List (List ℕ)) (s : State) → Grafted (do_board nested c args s)
-  do_board-grafted SetBoardInfo args s = do_set_board_info-grafted args s
-  do_board-grafted UnsetBoardInfo args s = do_unset_board_info-grafted args s
-  do_board-grafted LoadGenericConfig args s = do_load_generic_config-grafted args s
-  do_board-grafted TargetInfo args s = do_target_info-grafted args s
-  do_board-grafted BoardInfo args s = do_board_info-grafted args s
-  do_board-grafted LoadLib args s = do_load_lib-grafted args s
 
 do_is-grafted : (m : Machine) (name : List ℕ) (args : List (List ℕ)) (s : State) → Grafted (do_is m name args s)
 unfolding do_is

@@ -2,43 +2,20 @@
 use Rattle.std.proofs.Common.{ℕ, suc, zero, List, [], ◌∷◌, length}
 use Rattle.std.specs.Prelude.{Option, Some, None, Result, Ok, Err}
 use Rattle.dg_language.specs.declared.code.Code.{Code}
-use Rattle.dg_language.specs.declared.code.Code.TheVariants.{Done, Returned, Broken, Continued}
+use Rattle.dg_language.specs.declared.code.Code.TheVariants.{Done}
 use Rattle.dg_language.specs.declared.command.ControlCommand.{ControlCommand}
-use Rattle.dg_language.specs.declared.command.ControlCommand.TheVariants.{Proc, Foreach, Break, Continue, Return, Error, Catch}
+use Rattle.dg_language.specs.declared.command.ControlCommand.TheVariants.{Foreach, Catch}
 use Rattle.dg_language.specs.declared.procedure.Binding.{Binding}
-use Rattle.dg_language.specs.declared.procedure.Parameter.{Parameter}
 use Rattle.dg_language.specs.declared.procedure.Procedure.{Procedure}
 use Rattle.dg_language.specs.Play.{Play}
 use Rattle.dg_language.specs.State.{State, assigned, entered, departed}
 use Rattle.dg_language.specs.Evaluation.{Ending, Then, Nested, first_of, three_of, list_in}
-use Rattle.dg_language.specs.Procedures.{parameters_of, with_parameters, do_proc, bindings, longest, call_bound, call}
-use Rattle.dg_language.specs.Control.{digit_of, caught, catch_name, do_catch, message_of, do_error, value_in, do_return, do_leave, head_or_empty, behind_first, give_each, each, with_values, with_names, do_foreach, do_control}
+use Rattle.dg_language.specs.Procedures.{bindings, longest, call_bound, call}
+use Rattle.dg_language.specs.Control.{digit_of, caught, catch_name, do_catch, head_or_empty, behind_first, give_each, each, with_values, with_names, do_foreach, do_control}
 use Rattle.dg_laws.specs.Grafting.{Grafted}
 use Rattle.dg_laws.proofs.Trees.{one_after_another}
 use Rattle.dg_laws.proofs.Steps.{IsGraftedInside, completes, stops, on-grafted, tick-grafted, within-grafted, fail-grafted, loop_after-grafted, outside-at}
 use Rattle.dg_laws.proofs.VariableCommands.{touch-grafted}
-
-with_parameters-grafted : (n body : List ℕ) (ps : Result (List Parameter) (List ℕ)) (s : State) → Grafted (with_parameters n body ps s)
-with_parameters-grafted n body (Err why) s = fail-grafted why s
-with_parameters-grafted n body (Ok ps) s = completes Done [] _
-
-do_proc-grafted : (args : List (List ℕ)) (s : State) → Grafted (do_proc args s)
-unfolding do_proc
-do_proc-grafted args s =
-    on-grafted (three_of args) (fail-grafted _ s) (λ a. with_parameters-grafted a.0 a.2 (parameters_of a.1) s)
-
-do_error-grafted : (args : List (List ℕ)) (s : State) → Grafted (do_error args s)
-unfolding do_error
-do_error-grafted args s = on-grafted (message_of args) (fail-grafted _ s) (λ m. fail-grafted m s)
-
-do_return-grafted : (args : List (List ℕ)) (s : State) → Grafted (do_return args s)
-unfolding do_return
-do_return-grafted args s = on-grafted (value_in args) (fail-grafted _ s) (λ v. completes Returned v s)
-
-do_leave-grafted : (code : Code) (name : List ℕ) (args : List (List ℕ)) (s : State) → Grafted (do_leave code name args s)
-unfolding do_leave
-do_leave-grafted code name [] s = completes code [] s
-do_leave-grafted code name (_ ∷ _) s = fail-grafted _ s
 
 caught-at : (n : Option (List ℕ)) (c : Code) (v : List ℕ) (s : State) → Grafted (λ k. caught n k c v s)
 unfolding caught
@@ -96,10 +73,5 @@ module _ (nested : Nested) (inside : IsGraftedInside nested) where
       on-grafted (three_of args) (fail-grafted _ s) (λ a. with_names-grafted (list_in a.0) a.1 a.2 s)
 
   pub do_control-grafted : (c : ControlCommand) (args : List (List ℕ)) (s : State) → Grafted (do_control nested c args s)
-  do_control-grafted Proc args s = do_proc-grafted args s
   do_control-grafted Foreach args s = do_foreach-grafted args s
-  do_control-grafted Break args s = do_leave-grafted Broken _ args s
-  do_control-grafted Continue args s = do_leave-grafted Continued _ args s
-  do_control-grafted Return args s = do_return-grafted args s
-  do_control-grafted Error args s = do_error-grafted args s
   do_control-grafted Catch args s = do_catch-grafted args s

@@ -1,5 +1,5 @@
--- The commands expect and exp_continue.
-use Rattle.std.proofs.Common.{ℕ, suc, zero, List, [], ◌∷◌}
+-- The command expect.
+use Rattle.std.proofs.Common.{ℕ, suc, zero, List, []}
 use Rattle.std.specs.Prelude.{ℤ, Option, Some, None, Result, Ok, Err, codes}
 use Rattle.dg_words.specs.Reading.{words_of}
 use Rattle.dg_words.specs.declared.fault.WordFault.{WordFault}
@@ -14,12 +14,12 @@ use Rattle.dg_sessions.specs.Phases.{is_open}
 use Rattle.dg_language.specs.declared.code.Code.{Code}
 use Rattle.dg_language.specs.declared.code.Code.TheVariants.{Done, Failed, Returned, Broken, Continued, ExpContinued}
 use Rattle.dg_language.specs.Play.{Play}
-use Rattle.dg_language.specs.State.{State, in_action, out_of_action, stands_in_action}
+use Rattle.dg_language.specs.State.{State, in_action, out_of_action}
 use Rattle.dg_language.specs.Evaluation.{Ending, Then, Nested}
 use Rattle.dg_language.specs.Words.{substitutions}
 use Rattle.dg_language.specs.Sessions.{is_session_open}
 use Rattle.dg_language.specs.ExpectWords.{expect_words, patterns_in, regexes_in, is_for_timeout, is_for_end, listed}
-use Rattle.dg_language.specs.Expecting.{Waiting, with_match, with_end, bytes_of, action_at, first_action, after_action, act, taking, tries, after_read, after_limit, reading, one_round, rounds, milliseconds, with_number, or_ten, with_limit, expect_with, expect_list, expect_args, do_expect, do_exp_continue}
+use Rattle.dg_language.specs.Expecting.{Waiting, with_match, with_end, bytes_of, action_at, first_action, after_action, act, taking, tries, after_read, after_limit, reading, one_round, rounds, milliseconds, with_number, or_ten, with_limit, expect_with, expect_list, expect_args, do_expect}
 use Rattle.dg_laws.specs.Grafting.{Grafted}
 use Rattle.dg_laws.proofs.Trees.{one_after_another}
 use Rattle.dg_laws.proofs.Steps.{IsGraftedInside, completes, stops, either, fail-grafted}
@@ -102,8 +102,3 @@ module _ (nested : Nested) (inside : IsGraftedInside nested) where
   pub do_expect-grafted : (args : List (List ℕ)) (s : State) → Grafted (do_expect nested args s)
   unfolding do_expect
   do_expect-grafted args s = expect_args-grafted (listed args) args s
-
-pub do_exp_continue-grafted : (args : List (List ℕ)) (s : State) → Grafted (do_exp_continue args s)
-unfolding do_exp_continue
-do_exp_continue-grafted [] s = either (stands_in_action s.actions) (completes ExpContinued [] s) (fail-grafted _ s)
-do_exp_continue-grafted (_ ∷ _) s = fail-grafted _ s

@@ -1,5 +1,6 @@
 pub mod Trees
 pub mod Steps
+pub mod Completing
 pub mod VariableCommands
 pub mod CourseCommands
 pub mod WordMaking

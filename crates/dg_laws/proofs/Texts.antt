@@ -7,24 +7,26 @@ use Rattle.dg_cmds.specs.declared.fault.CmdFault.{CmdFault}
 use Rattle.dg_cmds.specs.declared.fault.CmdFault.TheVariants.{Unknown, Tcl, TooLong, Memory}
 use Rattle.dg_language.specs.declared.code.Code.TheVariants.{Done}
 use Rattle.dg_language.specs.declared.command.Builtin.{Builtin}
-use Rattle.dg_language.specs.declared.command.Builtin.TheVariants.{Result as ResultBuiltin, Variable as VariableBuiltin, Control as ControlBuiltin, Choice as ChoiceBuiltin, Board as BoardBuiltin, Target as TargetBuiltin, Flag as FlagBuiltin, Session as SessionBuiltin, Expect as ExpectBuiltin, ExpContinue as ExpContinueBuiltin, Regexp as RegexpBuiltin, Silent}
+use Rattle.dg_language.specs.declared.command.Builtin.TheVariants.{Immediate as ImmediateBuiltin, Variable as VariableBuiltin, Control as ControlBuiltin, Choice as ChoiceBuiltin, Target as TargetBuiltin, Flag as FlagBuiltin, Session as SessionBuiltin, LoadLib as LoadLibBuiltin, Expect as ExpectBuiltin, Regexp as RegexpBuiltin}
 use Rattle.dg_language.specs.declared.command.Command.{Command}
 use Rattle.dg_language.specs.declared.command.Command.TheVariants.{Words, Unreadable}
 use Rattle.dg_language.specs.declared.procedure.Procedure.{Procedure}
 use Rattle.dg_language.specs.State.{State}
 use Rattle.dg_language.specs.Evaluation.{Nested}
 use Rattle.dg_language.specs.Words.{substitutions}
+use Rattle.dg_language.specs.Immediate.{immediate}
 use Rattle.dg_language.specs.Language.{builtin, builtin_of, usable, pure_value, known_command, by_name, command, sequence, commands_at, evaluate}
 use Rattle.dg_laws.specs.Grafting.{Grafted}
 use Rattle.dg_laws.proofs.Steps.{IsGraftedInside, completes, cut-grafted, tick-grafted, fail-grafted, if_done-grafted}
-use Rattle.dg_laws.proofs.VariableCommands.{do_result-grafted, do_variable-grafted}
+use Rattle.dg_laws.proofs.Completing.{completed-grafted}
+use Rattle.dg_laws.proofs.VariableCommands.{do_variable-grafted}
 use Rattle.dg_laws.proofs.CourseCommands.{call-grafted, do_control-grafted}
 use Rattle.dg_laws.proofs.WordMaking.{gather-grafted}
 use Rattle.dg_laws.proofs.ChoiceCommands.{do_choice-grafted}
-use Rattle.dg_laws.proofs.BoardCommands.{do_board-grafted, do_target-grafted, do_flag-grafted}
+use Rattle.dg_laws.proofs.BoardCommands.{do_load_lib-grafted, do_target-grafted, do_flag-grafted}
 use Rattle.dg_laws.proofs.SessionCommands.{do_session-grafted}
 use Rattle.dg_laws.proofs.Matching.{do_regexp-grafted}
-use Rattle.dg_laws.proofs.ExpectCommands.{do_expect-grafted, do_exp_continue-grafted}
+use Rattle.dg_laws.proofs.ExpectCommands.{do_expect-grafted}
 
 pure_value-grafted : (value : Result (List ℕ) CmdFault) (n : List ℕ) (s : State) → Grafted (pure_value value n s)
 pure_value-grafted (Ok v) n s = completes Done v s
@@ -35,18 +37,16 @@ pure_value-grafted (Err Memory) n s = cut-grafted _ s
 
 module _ (nested : Nested) (inside : IsGraftedInside nested) where
   builtin-grafted : (b : Builtin) (args : List (List ℕ)) (s : State) → Grafted (builtin nested b args s)
-  builtin-grafted (ResultBuiltin c) args s = do_result-grafted c args s
+  builtin-grafted (ImmediateBuiltin c) args s = completed-grafted (immediate c args s) s
   builtin-grafted (VariableBuiltin c) args s = do_variable-grafted c args s
   builtin-grafted (ControlBuiltin c) args s = do_control-grafted nested inside c args s
   builtin-grafted (ChoiceBuiltin c) args s = do_choice-grafted nested inside c args s
-  builtin-grafted (BoardBuiltin c) args s = do_board-grafted nested inside c args s
   builtin-grafted (TargetBuiltin c) args s = do_target-grafted c args s
   builtin-grafted (FlagBuiltin c) args s = do_flag-grafted c args s
   builtin-grafted (SessionBuiltin c) args s = do_session-grafted c args s
+  builtin-grafted LoadLibBuiltin args s = do_load_lib-grafted nested inside args s
   builtin-grafted ExpectBuiltin args s = do_expect-grafted nested inside args s
-  builtin-grafted ExpContinueBuiltin args s = do_exp_continue-grafted args s
   builtin-grafted RegexpBuiltin args s = do_regexp-grafted args s
-  builtin-grafted Silent args s = completes Done [] s
 
   known_command-grafted : (b : Option Builtin) (n : List ℕ) (args : List (List ℕ)) (s : State) → Grafted (known_command nested b n args s)
   known_command-grafted (Some b) n args s = builtin-grafted b args s

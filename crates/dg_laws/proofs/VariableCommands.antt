@@ -1,40 +1,20 @@
--- The commands on results and variables.
+-- The commands on variables.
 use Rattle.std.proofs.Common.{ℕ, Bool, true, false, List, [], ◌∷◌, length}
 use Rattle.std.specs.Prelude.{Option, Some, None, is_some, nat_eq, codes, Result, Ok, Err}
 use Rattle.std.specs.Cmp.Lexicographic.{pointwise}
-use Rattle.dg_expr.specs.Number.{number_of}
 use Rattle.dg_scope.specs.Names.{global_name}
 use Rattle.dg_scope.specs.Scopes.{value_of}
 use Rattle.dg_world.specs.declared.question.Question.TheVariants.{Variable}
 use Rattle.dg_language.specs.declared.code.Code.TheVariants.{Done}
-use Rattle.dg_language.specs.declared.command.ResultCommand.{ResultCommand}
 use Rattle.dg_language.specs.declared.command.VariableCommand.{VariableCommand}
 use Rattle.dg_language.specs.declared.command.VariableCommand.TheVariants.{Set, Append, ListAppend, Increase, Unset as UnsetCommand, Info, Global}
 use Rattle.dg_language.specs.Play.{Play}
 use Rattle.dg_language.specs.State.{State, began, began_with, assigned, unassigned}
 use Rattle.dg_expr.specs.Truth.{truth_text}
 use Rattle.dg_language.specs.Evaluation.{Ending, Then, first_of, one_of, list_in}
-use Rattle.dg_language.specs.Results.{takes_count, count_of, recorded, with_count, result_of, do_result}
 use Rattle.dg_language.specs.Variables.{is_to_begin, first_value, begin, touch, given, read_variable, store, or_empty, set_of, do_set, do_append, with_appended, append_elements, do_lappend, addend, or_zero, increased, with_sum, add_number, do_incr, unset_one, unset_all, unset_names, do_unset, info_of, do_info, all_linked, do_global, do_variable}
 use Rattle.dg_laws.specs.Grafting.{Grafted}
 use Rattle.dg_laws.proofs.Steps.{completes, either, on-grafted, ask-grafted, within-grafted, fail-grafted}
-
-recorded-grafted : (c : ResultCommand) (m : List ℕ) (n : Option ℕ) (s : State) → Grafted (recorded c m n s)
-unfolding recorded
-recorded-grafted c m n s = completes Done [] _
-
-with_count-grafted : (c : ResultCommand) (m : List ℕ) (n : Option ℕ) (s : State) → Grafted (with_count c m n s)
-with_count-grafted c m None s = fail-grafted _ s
-with_count-grafted c m (Some n) s = recorded-grafted c m (Some n) s
-
-result_of-grafted : (c : ResultCommand) (m : List ℕ) (more : List (List ℕ)) (s : State) → Grafted (result_of c m more s)
-result_of-grafted c m [] s = recorded-grafted c m None s
-result_of-grafted c m (t ∷ []) s = either (takes_count c) (with_count-grafted c m (count_of (number_of t)) s) (fail-grafted _ s)
-result_of-grafted c m (_ ∷ _ ∷ _) s = fail-grafted _ s
-
-pub do_result-grafted : (c : ResultCommand) (args : List (List ℕ)) (s : State) → Grafted (do_result c args s)
-unfolding do_result
-do_result-grafted c args s = on-grafted (first_of args) (fail-grafted _ s) (λ p. result_of-grafted c p.0 p.1 s)
 
 begin-grafted : (g : List ℕ) (v : Option (List ℕ)) (s : State) {f : State → Then → Play Ending} → ((s' : State) → Grafted (f s'))
     → Grafted (λ k. begin g v s (λ s'. f s' k))

@@ -1,7 +1,6 @@
--- The commands on boards, targets, libraries and flags.
+-- The commands on libraries, targets and flags.
 use Rattle.std.proofs.Common.{refl, ℕ, Bool, true, false, List, [], ◌∷◌}
-use Rattle.std.specs.Prelude.{Option, Some, None, nat_eq, codes}
-use Rattle.std.specs.Cmp.Lexicographic.{pointwise}
+use Rattle.std.specs.Prelude.{Option, Some, None}
 use Rattle.std.specs.List.{list_any}
 use Rattle.std.specs.FinMap as map
 use Rattle.dg_world.specs.Name.{is_name}
@@ -10,43 +9,15 @@ use Rattle.dg_world.specs.declared.question.Machine.TheVariants.{Target, Host, B
 use Rattle.dg_world.specs.declared.question.Question.TheVariants.{File, Triplet}
 use Rattle.dg_language.specs.declared.code.Code.{Code}
 use Rattle.dg_language.specs.declared.code.Code.TheVariants.{Done, Failed, Returned, Broken, Continued, ExpContinued}
-use Rattle.dg_language.specs.declared.command.BoardCommand.{BoardCommand}
-use Rattle.dg_language.specs.declared.command.BoardCommand.TheVariants.{SetBoardInfo, UnsetBoardInfo, LoadGenericConfig, TargetInfo, BoardInfo, LoadLib}
 use Rattle.dg_language.specs.declared.command.TargetCommand.{TargetCommand}
 use Rattle.dg_language.specs.declared.command.TargetCommand.TheVariants.{IsTarget, IsHost, IsBuild, IsNative}
 use Rattle.dg_language.specs.declared.command.FlagCommand.{FlagCommand}
 use Rattle.dg_language.specs.State.{State, in_library, departed}
-use Rattle.dg_language.specs.Evaluation.{Nested, one_of, two_of, first_of}
-use Rattle.dg_language.specs.Boards.{do_set_board_info, do_unset_board_info, do_load_generic_config, told_of, do_target_info, told_by, do_board_info, library_file, content_of, after_library, found, load, load_named, do_load_lib, do_board, do_is, do_is_native, do_target, is_pattern, triplet_of, do_flag}
+use Rattle.dg_language.specs.Evaluation.{Nested, one_of}
+use Rattle.dg_language.specs.Boards.{library_file, content_of, after_library, found, load, load_named, do_load_lib, do_is, do_is_native, do_target, is_pattern, triplet_of, do_flag}
 use Rattle.dg_living.proofs.Steps.{Lives}
-use Rattle.dg_living.proofs.Changes.{departed-same, in_library-same, with_setting-same, without_setting-same, flagged-same}
+use Rattle.dg_living.proofs.Changes.{departed-same, in_library-same, flagged-same}
 use Rattle.dg_living.proofs.Steps.{LivesInside, completes, along, one_after_another, either, on-lives, ask-lives, fail-lives}
-
-do_set_board_info-lives : (args : List (List ℕ)) (s : State) → Lives s (do_set_board_info args s)
-unfolding do_set_board_info
-do_set_board_info-lives args s = on-lives (two_of args) (fail-lives _ s) (λ p. along (with_setting-same p.0 p.1 s) (completes Done [] _))
-
-do_unset_board_info-lives : (args : List (List ℕ)) (s : State) → Lives s (do_unset_board_info args s)
-unfolding do_unset_board_info
-do_unset_board_info-lives args s = on-lives (one_of args) (fail-lives _ s) (λ key. along (without_setting-same key s) (completes Done [] _))
-
-do_load_generic_config-lives : (args : List (List ℕ)) (s : State) → Lives s (do_load_generic_config args s)
-unfolding do_load_generic_config
-do_load_generic_config-lives args s = on-lives (one_of args) (fail-lives _ s) (λ n. along (with_setting-same _ n s) (completes Done [] _))
-
-do_target_info-lives : (args : List (List ℕ)) (s : State) → Lives s (do_target_info args s)
-unfolding do_target_info
-do_target_info-lives args s = on-lives (told_of args s) (fail-lives _ s) (λ v. completes Done v s)
-
-told_by-lives : (is_target : Bool) (v : List ℕ) (s : State) → Lives s (told_by is_target v s)
-told_by-lives true v s = completes Done v s
-told_by-lives false v s = fail-lives _ s
-
-do_board_info-lives : (args : List (List ℕ)) (s : State) → Lives s (do_board_info args s)
-unfolding do_board_info
-do_board_info-lives args s =
-    on-lives (first_of args) (fail-lives _ s) (λ p.
-    on-lives (told_of p.1 s) (fail-lives _ s) (λ v. told_by-lives (pointwise nat_eq p.0 (codes "target")) v s))
 
 after_library-at : (c : Code) (v : List ℕ) (s : State) → Lives s (λ k. after_library k c v s)
 unfolding after_library
@@ -73,18 +44,10 @@ module _ (nested : Nested) (inside : LivesInside nested) where
   load_named-lives false f s = fail-lives _ s
   load_named-lives true f s = load-lives f s
 
-  do_load_lib-lives : (args : List (List ℕ)) (s : State) → Lives s (do_load_lib nested args s)
+  pub do_load_lib-lives : (args : List (List ℕ)) (s : State) → Lives s (do_load_lib nested args s)
   unfolding do_load_lib
   do_load_lib-lives args s =
       on-lives (one_of args) (fail-lives _ s) (λ f. load_named-lives (is_name (library_file f)) f s)
-
-  pub do_board-lives : (c : BoardCommand) (args : List (List ℕ)) (s : State) → Lives s (do_board nested c args s)
-  do_board-lives SetBoardInfo args s = do_set_board_info-lives args s
-  do_board-lives UnsetBoardInfo args s = do_unset_board_info-lives args s
-  do_board-lives LoadGenericConfig args s = do_load_generic_config-lives args s
-  do_board-lives TargetInfo args s = do_target_info-lives args s
-  do_board-lives BoardInfo args s = do_board_info-lives args s
-  do_board-lives LoadLib args s = do_load_lib-lives args s
 
 do_is-lives : (m : Machine) (name : List ℕ) (args : List (List ℕ)) (s : State) → Lives s (do_is m name args s)
 unfolding do_is

@@ -2,43 +2,20 @@
 use Rattle.std.proofs.Common.{ℕ, suc, zero, List, [], ◌∷◌, length}
 use Rattle.std.specs.Prelude.{Option, Some, None, Result, Ok, Err}
 use Rattle.dg_language.specs.declared.code.Code.{Code}
-use Rattle.dg_language.specs.declared.code.Code.TheVariants.{Done, Returned, Broken, Continued}
+use Rattle.dg_language.specs.declared.code.Code.TheVariants.{Done}
 use Rattle.dg_language.specs.declared.command.ControlCommand.{ControlCommand}
-use Rattle.dg_language.specs.declared.command.ControlCommand.TheVariants.{Proc, Foreach, Break, Continue, Return, Error, Catch}
+use Rattle.dg_language.specs.declared.command.ControlCommand.TheVariants.{Foreach, Catch}
 use Rattle.dg_language.specs.declared.procedure.Binding.{Binding}
-use Rattle.dg_language.specs.declared.procedure.Parameter.{Parameter}
 use Rattle.dg_language.specs.declared.procedure.Procedure.{Procedure}
 use Rattle.dg_language.specs.Play.{Play}
 use Rattle.dg_language.specs.State.{State, assigned, entered, departed}
 use Rattle.dg_language.specs.Evaluation.{Ending, Then, Nested, first_of, three_of, list_in}
-use Rattle.dg_language.specs.Procedures.{parameters_of, with_parameters, do_proc, bindings, longest, call_bound, call}
-use Rattle.dg_language.specs.Control.{digit_of, caught, catch_name, do_catch, message_of, do_error, value_in, do_return, do_leave, head_or_empty, behind_first, give_each, each, with_values, with_names, do_foreach, do_control}
+use Rattle.dg_language.specs.Procedures.{bindings, longest, call_bound, call}
+use Rattle.dg_language.specs.Control.{digit_of, caught, catch_name, do_catch, head_or_empty, behind_first, give_each, each, with_values, with_names, do_foreach, do_control}
 use Rattle.dg_living.proofs.Steps.{Lives}
-use Rattle.dg_living.proofs.Changes.{assigned-same, defined-same, entered-same, departed-same}
+use Rattle.dg_living.proofs.Changes.{assigned-same, entered-same, departed-same}
 use Rattle.dg_living.proofs.Steps.{LivesInside, completes, along, ends_out, one_after_another, on-lives, tick-lives, within-lives, fail-lives, loop_after-lives, outside-at}
 use Rattle.dg_living.proofs.VariableCommands.{touch-lives}
-
-with_parameters-lives : (n body : List ℕ) (ps : Result (List Parameter) (List ℕ)) (s : State) → Lives s (with_parameters n body ps s)
-with_parameters-lives n body (Err why) s = fail-lives why s
-with_parameters-lives n body (Ok ps) s = along (defined-same n _ s) (completes Done [] _)
-
-do_proc-lives : (args : List (List ℕ)) (s : State) → Lives s (do_proc args s)
-unfolding do_proc
-do_proc-lives args s =
-    on-lives (three_of args) (fail-lives _ s) (λ a. with_parameters-lives a.0 a.2 (parameters_of a.1) s)
-
-do_error-lives : (args : List (List ℕ)) (s : State) → Lives s (do_error args s)
-unfolding do_error
-do_error-lives args s = on-lives (message_of args) (fail-lives _ s) (λ m. fail-lives m s)
-
-do_return-lives : (args : List (List ℕ)) (s : State) → Lives s (do_return args s)
-unfolding do_return
-do_return-lives args s = on-lives (value_in args) (fail-lives _ s) (λ v. completes Returned v s)
-
-do_leave-lives : (code : Code) (name : List ℕ) (args : List (List ℕ)) (s : State) → Lives s (do_leave code name args s)
-unfolding do_leave
-do_leave-lives code name [] s = completes code [] s
-do_leave-lives code name (_ ∷ _) s = fail-lives _ s
 
 caught-at : (n : Option (List ℕ)) (c : Code) (v : List ℕ) (s : State) → Lives s (λ k. caught n k c v s)
 unfolding caught
@@ -98,10 +75,5 @@ module _ (nested : Nested) (inside : LivesInside nested) where
       on-lives (three_of args) (fail-lives _ s) (λ a. with_names-lives (list_in a.0) a.1 a.2 s)
 
   pub do_control-lives : (c : ControlCommand) (args : List (List ℕ)) (s : State) → Lives s (do_control nested c args s)
-  do_control-lives Proc args s = do_proc-lives args s
   do_control-lives Foreach args s = do_foreach-lives args s
-  do_control-lives Break args s = do_leave-lives Broken _ args s
-  do_control-lives Continue args s = do_leave-lives Continued _ args s
-  do_control-lives Return args s = do_return-lives args s
-  do_control-lives Error args s = do_error-lives args s
   do_control-lives Catch args s = do_catch-lives args s

@@ -1,5 +1,5 @@
--- The commands expect and exp_continue.
-use Rattle.std.proofs.Common.{◌≡◌, ℕ, ◌≤◌, suc, zero, List, [], ◌∷◌, refl, sym, subst, ◌∙◌, arith}
+-- The command expect.
+use Rattle.std.proofs.Common.{◌≡◌, ℕ, ◌≤◌, suc, zero, List, [], refl, sym, subst, ◌∙◌, arith}
 use Rattle.std.specs.Prelude.{ℤ, pos, negsuc, Option, Some, None, Result, Ok, Err, codes}
 use Rattle.dg_words.specs.Reading.{words_of}
 use Rattle.dg_words.specs.declared.fault.WordFault.{WordFault}
@@ -14,15 +14,15 @@ use Rattle.dg_sessions.specs.Phases.{is_open}
 use Rattle.dg_language.specs.declared.code.Code.{Code}
 use Rattle.dg_language.specs.declared.code.Code.TheVariants.{Done, Failed, Returned, Broken, Continued, ExpContinued}
 use Rattle.dg_language.specs.Play.{Play}
-use Rattle.dg_language.specs.State.{State, in_action, out_of_action, stands_in_action}
+use Rattle.dg_language.specs.State.{State, in_action, out_of_action}
 use Rattle.dg_language.specs.Evaluation.{Ending, Then, Nested}
 use Rattle.dg_language.specs.Words.{substitutions}
 use Rattle.dg_language.specs.Sessions.{is_session_open}
 use Rattle.dg_language.specs.ExpectWords.{expect_words, patterns_in, regexes_in, is_for_timeout, is_for_end, listed}
-use Rattle.dg_language.specs.Expecting.{Waiting, with_match, with_end, bytes_of, action_at, first_action, after_action, act, taking, tries, after_read, after_limit, reading, one_round, rounds, milliseconds, with_number, or_ten, with_limit, expect_with, expect_list, expect_args, do_expect, do_exp_continue}
+use Rattle.dg_language.specs.Expecting.{Waiting, with_match, with_end, bytes_of, action_at, first_action, after_action, act, taking, tries, after_read, after_limit, reading, one_round, rounds, milliseconds, with_number, or_ten, with_limit, expect_with, expect_list, expect_args, do_expect}
 use Rattle.dg_living.proofs.Changes.{in_action-same, out_of_action-same, with_match-same, with_end-same}
 use Rattle.dg_living.proofs.SessionWords.{Fit, open-phase, open-fit}
-use Rattle.dg_living.proofs.Steps.{Lives, LivesInside, completes, along, ends_out, either, either_known, fail-lives, one_after_another}
+use Rattle.dg_living.proofs.Steps.{Lives, LivesInside, completes, along, ends_out, either_known, fail-lives, one_after_another}
 use Rattle.dg_living.proofs.WordMaking.{gather-lives}
 use Rattle.dg_living.proofs.Performing.{perform-lives}
 use Rattle.dg_living.proofs.SessionCommands.{at_open, seek-lives, on_session-lives, on_words-lives}
@@ -119,8 +119,3 @@ module _ (nested : Nested) (inside : LivesInside nested) where
   pub do_expect-lives : (args : List (List ℕ)) (s : State) → Lives s (do_expect nested args s)
   unfolding do_expect
   do_expect-lives args s = expect_args-lives (listed args) args s
-
-pub do_exp_continue-lives : (args : List (List ℕ)) (s : State) → Lives s (do_exp_continue args s)
-unfolding do_exp_continue
-do_exp_continue-lives [] s = either (stands_in_action s.actions) (completes ExpContinued [] s) (fail-lives _ s)
-do_exp_continue-lives (_ ∷ _) s = fail-lives _ s

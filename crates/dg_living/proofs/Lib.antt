@@ -4,6 +4,7 @@ pub mod Holding
 pub mod Changes
 pub mod Steps
 pub mod ElementLengths
+pub mod Completing
 pub mod VariableCommands
 pub mod CourseCommands
 pub mod WordMaking

@@ -7,24 +7,26 @@ use Rattle.dg_cmds.specs.declared.fault.CmdFault.{CmdFault}
 use Rattle.dg_cmds.specs.declared.fault.CmdFault.TheVariants.{Unknown, Tcl, TooLong, Memory}
 use Rattle.dg_language.specs.declared.code.Code.TheVariants.{Done}
 use Rattle.dg_language.specs.declared.command.Builtin.{Builtin}
-use Rattle.dg_language.specs.declared.command.Builtin.TheVariants.{Result as ResultBuiltin, Variable as VariableBuiltin, Control as ControlBuiltin, Choice as ChoiceBuiltin, Board as BoardBuiltin, Target as TargetBuiltin, Flag as FlagBuiltin, Session as SessionBuiltin, Expect as ExpectBuiltin, ExpContinue as ExpContinueBuiltin, Regexp as RegexpBuiltin, Silent}
+use Rattle.dg_language.specs.declared.command.Builtin.TheVariants.{Immediate as ImmediateBuiltin, Variable as VariableBuiltin, Control as ControlBuiltin, Choice as ChoiceBuiltin, Target as TargetBuiltin, Flag as FlagBuiltin, Session as SessionBuiltin, LoadLib as LoadLibBuiltin, Expect as ExpectBuiltin, Regexp as RegexpBuiltin}
 use Rattle.dg_language.specs.declared.command.Command.{Command}
 use Rattle.dg_language.specs.declared.command.Command.TheVariants.{Words, Unreadable}
 use Rattle.dg_language.specs.declared.procedure.Procedure.{Procedure}
 use Rattle.dg_language.specs.State.{State}
 use Rattle.dg_language.specs.Evaluation.{Nested}
 use Rattle.dg_language.specs.Words.{substitutions}
+use Rattle.dg_language.specs.Immediate.{immediate}
 use Rattle.dg_language.specs.Language.{builtin, builtin_of, usable, pure_value, known_command, by_name, command, sequence, commands_at, evaluate}
 use Rattle.dg_living.proofs.ElementLengths.{AreShort}
 use Rattle.dg_living.proofs.Steps.{Lives, LivesInside, completes, cut-lives, tick-lives, fail-lives, if_done-lives}
-use Rattle.dg_living.proofs.VariableCommands.{do_result-lives, do_variable-lives}
+use Rattle.dg_living.proofs.Completing.{completed-lives}
+use Rattle.dg_living.proofs.VariableCommands.{do_variable-lives}
 use Rattle.dg_living.proofs.CourseCommands.{call-lives, do_control-lives}
 use Rattle.dg_living.proofs.WordMaking.{gather-lives}
 use Rattle.dg_living.proofs.ChoiceCommands.{do_choice-lives}
-use Rattle.dg_living.proofs.BoardCommands.{do_board-lives, do_target-lives, do_flag-lives}
+use Rattle.dg_living.proofs.BoardCommands.{do_load_lib-lives, do_target-lives, do_flag-lives}
 use Rattle.dg_living.proofs.SessionCommands.{do_session-lives}
 use Rattle.dg_living.proofs.Matching.{do_regexp-lives}
-use Rattle.dg_living.proofs.ExpectCommands.{do_expect-lives, do_exp_continue-lives}
+use Rattle.dg_living.proofs.ExpectCommands.{do_expect-lives}
 
 pure_value-lives : (value : Result (List ℕ) CmdFault) (n : List ℕ) (s : State) → Lives s (pure_value value n s)
 pure_value-lives (Ok v) n s = completes Done v s
@@ -35,18 +37,16 @@ pure_value-lives (Err Memory) n s = cut-lives _ s
 
 module _ (nested : Nested) (inside : LivesInside nested) where
   builtin-lives : (b : Builtin) (args : List (List ℕ)) (s : State) → AreShort args → Lives s (builtin nested b args s)
-  builtin-lives (ResultBuiltin c) args s short = do_result-lives c args s
+  builtin-lives (ImmediateBuiltin c) args s short = completed-lives (immediate c args s) s
   builtin-lives (VariableBuiltin c) args s short = do_variable-lives c args s
   builtin-lives (ControlBuiltin c) args s short = do_control-lives nested inside c args s
   builtin-lives (ChoiceBuiltin c) args s short = do_choice-lives nested inside c args s
-  builtin-lives (BoardBuiltin c) args s short = do_board-lives nested inside c args s
   builtin-lives (TargetBuiltin c) args s short = do_target-lives c args s
   builtin-lives (FlagBuiltin c) args s short = do_flag-lives c args s
   builtin-lives (SessionBuiltin c) args s short = do_session-lives c args s short
+  builtin-lives LoadLibBuiltin args s short = do_load_lib-lives nested inside args s
   builtin-lives ExpectBuiltin args s short = do_expect-lives nested inside args s
-  builtin-lives ExpContinueBuiltin args s short = do_exp_continue-lives args s
   builtin-lives RegexpBuiltin args s short = do_regexp-lives args s
-  builtin-lives Silent args s short = completes Done [] s
 
   known_command-lives : (b : Option Builtin) (n : List ℕ) (args : List (List ℕ)) (s : State) → AreShort args → Lives s (known_command nested b n args s)
   known_command-lives (Some b) n args s short = builtin-lives b args s short

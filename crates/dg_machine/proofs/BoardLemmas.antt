@@ -18,7 +18,7 @@ use Rattle.dg_language.specs.Play.{Play, Asks, plain, lookup}
 use Rattle.dg_language.specs.State.{State, learn, in_library, with_call}
 use Rattle.dg_language.specs.Evaluation.{Ending, Then, Nested, ask, fail, on, one_of, wrong_count}
 use Rattle.dg_expr.specs.Truth.{truth_text}
-use Rattle.dg_language.specs.Boards.{content_of, do_board_info, do_flag, do_is, do_is_native, do_load_lib, flag_call, flagged, found, is_pattern, library_file, load, load_named, told_by, told_of, triplet_of}
+use Rattle.dg_language.specs.Boards.{content_of, do_flag, do_is, do_is_native, do_load_lib, flag_call, flagged, found, is_pattern, library_file, load, load_named, triplet_of}
 use Rattle.dg_language.proofs.Asking.{ask-known, ask-asks, lookup-more}
 use Rattle.dg_machine.specs.declared.frame.FileText.TheVariants.{Unanswered, Known}
 use Rattle.dg_machine.specs.declared.frame.Control.{Control}
@@ -67,16 +67,6 @@ known-in_library name s = refl
 pub weight-in_library : (c : Control) (name : List ℕ) (s : State) (fs : List Frame) → weight c (in_library name s) fs ≡ weight c s fs
 unfolding in_library weight
 weight-in_library c name s fs = refl
-
--- `board_info` of another machine
-pub info-other : (args : List (List ℕ)) (m : List ℕ) (others : List (List ℕ)) (v : List ℕ) (s : State) (k : Then) (b : Bool) → args ≡ m ∷ others
-    → Some v ≡ told_of others s → b ≡ not (pointwise nat_eq m (codes "target")) → b ≡ true → do_board_info args s k ≡ fail (codes "unknown machine") s k
-unfolding do_board_info
-info-other args m others v s k b e h g t =
-    let ne : pointwise nat_eq m (codes "target") ≡ false = grind (arith, g, t) in
-    rw e
-    (ap (λ o. on o (fail (wrong_count (codes "board_info")) s k) (λ x. told_by (pointwise nat_eq m (codes "target")) x s k)) (sym h)
-    ∙ ap (λ c. told_by c v s k) ne)
 
 -- a command that asks a question first
 module _ (q : Question) (g : Answer → State → Then → Play Ending) (f : State → Then → Play Ending) (e : f ≡ (λ s k. ask q s (λ a t. g a t k))) (s : State) (k : Then) where

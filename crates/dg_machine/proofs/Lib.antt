@@ -12,6 +12,7 @@ pub mod ComputingLemmas
 pub mod ChoiceLemmas
 pub mod OpeningLemmas
 pub mod BoardLemmas
+pub mod CompletingLemmas
 pub mod EvaluationLemmas
 pub mod Crosses
 pub mod ActingLemmas

@@ -1,8 +1,8 @@
-//! The commands on the course of a script.
+//! The commands that evaluate scripts for each value, or catch their codes.
 ghost use Rattle.std.specs.Prelude.{◌≡◌, ◌+◌, ◌*◌, ◌^◌, ◌<◌, ◌∷◌, ◌++◌, [], IfOk, drop, length};
 ghost use Rattle.dg_language.specs.State.{assigned};
 ghost use Rattle.dg_language.specs.Evaluation.{within};
-ghost use Rattle.dg_language.specs.Control.{digit_of, caught, do_catch, do_error, do_return, do_leave, do_foreach, do_control, each};
+ghost use Rattle.dg_language.specs.Control.{digit_of, caught, do_catch, do_foreach, do_control, each};
 ghost use Rattle.dg_language.specs.Language.{evaluate};
 ghost use Rattle.dg_machine.specs.declared.frame.Control.{Control};
 ghost use Rattle.dg_machine.specs.Meaning.{all_back, weight_of, looping, Comes, Goes, RunsAs};
@@ -31,56 +31,6 @@ fn digit_of(code: Code) -> &'static [u8]
 }
 
 impl Machine {
-    /// `break` and `continue`.
-    #[tactic(auto, unfolding(dg_language::specs::Control::do_leave, crate::specs::Meaning::rest, crate::specs::Meaning::weight))]
-    fn leave(
-        &mut self,
-        alloc: Global,
-        code: Code,
-        name: &[u8],
-        args: &[Bytes],
-    ) -> Result<Pace, AllocError>
-        requires { self.old.control ≡ Control.Go }
-        ensures { IfOk result (λ p. Goes (do_leave code name.now args.now self.old.state (all_back self.old.stack)) self.old.state.known (weight_of self.old + 2) self.new p) }
-    {
-        match args {
-            [] => {
-                self.end(code, Bytes::new(alloc));
-                Ok(Pace::Moved)
-            }
-            [_, ..] => Ok(self.wrong_count(alloc, name)?),
-        }
-    }
-
-    /// `return` and `return value`.
-    #[tactic(auto, unfolding(dg_language::specs::Control::do_return, crate::specs::Meaning::rest, crate::specs::Meaning::weight))]
-    fn give(&mut self, alloc: Global, args: &[Bytes]) -> Result<Pace, AllocError>
-        requires { self.old.control ≡ Control.Go }
-        ensures { IfOk result (λ p. Goes (do_return args.now self.old.state (all_back self.old.stack)) self.old.state.known (weight_of self.old + 2) self.new p) }
-    {
-        match args {
-            [] => self.end(Code::Returned, Bytes::new(alloc)),
-            [value] => self.end(Code::Returned, value.copy(alloc)?),
-            _ => return Ok(self.wrong_count(alloc, b"return")?),
-        }
-        Ok(Pace::Moved)
-    }
-
-    /// `error message`, and perhaps an information and a code.
-    #[tactic(auto, unfolding(dg_language::specs::Control::do_error))]
-    fn error(&mut self, alloc: Global, args: &[Bytes]) -> Result<Pace, AllocError>
-        requires { self.old.control ≡ Control.Go }
-        ensures { IfOk result (λ p. Goes (do_error args.now self.old.state (all_back self.old.stack)) self.old.state.known (weight_of self.old + 2) self.new p) }
-    {
-        match args {
-            [message] | [message, _] | [message, _, _] => {
-                let message = message.copy(alloc)?;
-                Ok(self.fail(alloc, message)?)
-            }
-            _ => Ok(self.wrong_count(alloc, b"error")?),
-        }
-    }
-
     /// `catch script` and `catch script name`.
     #[tactic(auto, unfolding(dg_language::specs::Control::do_catch, crate::specs::Meaning::back, crate::specs::Meaning::all_back, crate::specs::Meaning::weight, crate::specs::Meaning::stack_weight))]
     fn catch(&mut self, alloc: Global, args: &[Bytes], depth: u32) -> Result<Pace, AllocError>
@@ -186,7 +136,7 @@ impl Machine {
         Ok(Pace::Moved)
     }
 
-    /// A command on the course of a script.
+    /// A command that evaluates scripts for each value, or catches their codes.
     pub(crate) fn control(
         &mut self,
         alloc: Global,
@@ -198,12 +148,7 @@ impl Machine {
         ensures { IfOk result (λ p. Goes (do_control (evaluate depth) which args.now self.old.state (all_back self.old.stack)) self.old.state.known (weight_of self.old + 9) self.new p) }
     {
         match which {
-            ControlCommand::Proc => Ok(self.define(alloc, args)?),
             ControlCommand::Foreach => Ok(self.for_each(alloc, args, depth)?),
-            ControlCommand::Break => Ok(self.leave(alloc, Code::Broken, b"break", args)?),
-            ControlCommand::Continue => Ok(self.leave(alloc, Code::Continued, b"continue", args)?),
-            ControlCommand::Return => Ok(self.give(alloc, args)?),
-            ControlCommand::Error => Ok(self.error(alloc, args)?),
             ControlCommand::Catch => Ok(self.catch(alloc, args, depth)?),
         }
     }

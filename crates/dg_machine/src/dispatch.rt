@@ -1,7 +1,9 @@
 //! The command that words name.
 ghost use Rattle.std.specs.Prelude.{◌≡◌, ◌+◌, ◌*◌, ◌^◌, ◌<◌, ◌∷◌, ◌++◌, [], IfOk, length};
 ghost use Rattle.dg_cmds.specs.Commands.{pure_of};
+ghost use Rattle.dg_language.specs.Completing.{completed};
 ghost use Rattle.dg_language.specs.Control.{head_or_empty};
+ghost use Rattle.dg_language.specs.Immediate.{immediate};
 ghost use Rattle.dg_language.specs.Language.{builtin, builtin_of, usable, pure_value, known_command, command, used, evaluate};
 ghost use Rattle.dg_machine.specs.declared.frame.Control.{Control};
 ghost use Rattle.dg_machine.specs.Meaning.{all_back, weight_of, budget, Comes, Goes, RunsAs};
@@ -10,8 +12,8 @@ use crate::frame::{Frame, Making, Pace};
 use crate::machine::Machine;
 use dg_bytes::{Bytes, Seq, TryCopy};
 use dg_cmds::{CmdFault, run_pure};
-use dg_forms::{bindings, find_builtin, invalid_command, split};
-use dg_language::{Builtin, Code, Purpose};
+use dg_forms::{bindings, find_builtin, invalid_command, run_immediate, split};
+use dg_language::{Builtin, Code, ImmediateCommand, Purpose};
 use std::alloc::{AllocError, Global};
 
 /// The first value, or the empty text where there is none.
@@ -25,8 +27,28 @@ pub(crate) fn first_or_empty(alloc: Global, values: &[Bytes]) -> Result<Bytes, A
 }
 
 impl Machine {
+    /// A command that evaluates nothing inside and asks nothing: the change that it makes, and its code and value.
+    #[tactic(auto, unfolding(crate::specs::Meaning::rest))]
+    fn immediate(
+        &mut self,
+        alloc: Global,
+        which: ImmediateCommand,
+        args: &[Bytes],
+    ) -> Result<Pace, AllocError>
+        requires { self.old.control ≡ Control.Go }
+        ensures { IfOk result (λ p. Goes (completed (immediate which args.now self.old.state) self.old.state (all_back self.old.stack)) self.old.state.known (weight_of self.old + 2) self.new p) }
+    {
+        match run_immediate(alloc, &self.state, which, args)? {
+            Ok(completion) => {
+                self.state.perform(alloc, completion.effect)?;
+                self.end(completion.code, completion.value);
+                Ok(Pace::Moved)
+            }
+            Err(message) => Ok(self.fail(alloc, message)?),
+        }
+    }
+
     /// A command that is known by its name.
-    #[tactic(auto, unfolding(crate::specs::Meaning::rest, crate::specs::Meaning::weight))]
     fn builtin(
         &mut self,
         alloc: Global,
@@ -38,21 +60,16 @@ impl Machine {
         ensures { IfOk result (RunsAs (builtin (evaluate depth) which args.now) self.old self.new) }
     {
         match which {
-            Builtin::Result(which) => Ok(self.result(alloc, which, args)?),
+            Builtin::Immediate(which) => Ok(self.immediate(alloc, which, args)?),
             Builtin::Variable(which) => Ok(self.variable(alloc, which, args)?),
             Builtin::Control(which) => Ok(self.control(alloc, which, args, depth)?),
             Builtin::Choice(which) => Ok(self.choice(alloc, which, args, depth)?),
-            Builtin::Board(which) => Ok(self.board(alloc, which, args, depth)?),
             Builtin::Target(which) => Ok(self.target(alloc, which, args)?),
             Builtin::Flag(which) => Ok(self.flag(alloc, which, args)?),
             Builtin::Session(which) => Ok(self.session(alloc, which, args)?),
+            Builtin::LoadLib => Ok(self.load_lib(alloc, args, depth)?),
             Builtin::Expect => Ok(self.expect(alloc, args, depth)?),
-            Builtin::ExpContinue => Ok(self.exp_continue(alloc, args)?),
             Builtin::Regexp => Ok(self.regexp(alloc, args)?),
-            Builtin::Silent => {
-                self.end(Code::Done, Bytes::new(alloc));
-                Ok(Pace::Moved)
-            }
         }
     }
 

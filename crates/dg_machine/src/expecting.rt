@@ -1,8 +1,8 @@
-//! `expect` and `exp_continue`.
+//! `expect`.
 ghost use Rattle.std.specs.Prelude.{◌≡◌, ◌+◌, ◌*◌, ◌^◌, ◌<◌, ◌≤◌, ◌∷◌, [], IfOk};
 ghost use Rattle.std.specs.Option.{option_copied};
 ghost use Rattle.dg_language.specs.ExpectWords.{is_for_end};
-ghost use Rattle.dg_language.specs.Expecting.{act, after_action, bytes_of, do_exp_continue, do_expect, expect_with, first_action, or_ten, tries, with_end, with_number};
+ghost use Rattle.dg_language.specs.Expecting.{act, after_action, bytes_of, do_expect, expect_with, first_action, or_ten, tries, with_end, with_number};
 ghost use Rattle.dg_expr.specs.Number.{number_of};
 ghost use Rattle.dg_language.specs.Language.{evaluate};
 ghost use Rattle.dg_machine.specs.declared.frame.Control.{Control};
@@ -377,25 +377,6 @@ impl Machine {
                     Ok(self.fail(alloc, message)?)
                 }
             },
-        }
-    }
-
-    /// `exp_continue`.
-    #[tactic(auto, unfolding(dg_language::specs::Expecting::do_exp_continue, crate::specs::Meaning::rest, crate::specs::Meaning::weight))]
-    pub(crate) fn exp_continue(&mut self, alloc: Global, args: &[Bytes]) -> Result<Pace, AllocError>
-        requires { self.old.control ≡ Control.Go }
-        ensures { IfOk result (λ p. Goes (do_exp_continue args.now self.old.state (all_back self.old.stack)) self.old.state.known (weight_of self.old + 2) self.new p) }
-    {
-        match args {
-            [] if self.state.is_in_action() => {
-                self.end(Code::ExpContinued, Bytes::new(alloc));
-                Ok(Pace::Moved)
-            }
-            [] => {
-                let message = Bytes::from_slice(alloc, b"exp_continue outside of expect")?;
-                Ok(self.fail(alloc, message)?)
-            }
-            [_, ..] => Ok(self.wrong_count(alloc, b"exp_continue")?),
         }
     }
 }

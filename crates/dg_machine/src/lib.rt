@@ -2,7 +2,6 @@
 #![tactic(auto)]
 
 mod acting;
-mod boards;
 mod boxed;
 mod choices;
 mod computing;
@@ -14,6 +13,7 @@ mod expressions;
 mod frame;
 mod gather;
 mod instructions;
+mod libraries;
 mod machine;
 mod matches;
 mod opening;
@@ -22,7 +22,6 @@ mod procedures;
 mod reading;
 mod regexp;
 mod repeats;
-mod results;
 mod rounds;
 mod script;
 mod sessions;

@@ -1,44 +1,19 @@
-//! Procedures: their definition and their calls.
+//! The calls of procedures.
 ghost use Rattle.std.specs.Prelude.{◌≡◌, ◌+◌, ◌*◌, ◌^◌, ◌<◌, ◌∷◌, ◌++◌, [], IfOk, OnOk, MatchOption, Some, None, nat_lt, length};
 ghost use Rattle.dg_language.specs.Evaluation.{outside};
-ghost use Rattle.dg_language.specs.Procedures.{has_colons, name_fault, named, parameter_of, parameters, parameters_of, do_proc, binding, bindings, collects, value_for, longest, call_bound};
+ghost use Rattle.dg_language.specs.Procedures.{longest, call_bound};
 ghost use Rattle.dg_language.specs.Language.{evaluate};
 ghost use Rattle.dg_machine.specs.declared.frame.Control.{Control};
 ghost use Rattle.dg_machine.specs.Meaning.{all_back, weight_of, Goes};
 
 use crate::frame::{Frame, Pace};
 use crate::machine::Machine;
-use dg_bytes::{Bytes, Seq, TryCopy};
-use dg_forms::{is_too_long, parameters_of, three};
-use dg_language::{Binding, Code, Procedure};
+use dg_bytes::{Bytes, Seq};
+use dg_forms::is_too_long;
+use dg_language::Binding;
 use std::alloc::{AllocError, Global};
 
 impl Machine {
-    /// `proc name parameters body`.
-    #[tactic(auto, unfolding(dg_language::specs::Procedures::do_proc, dg_language::specs::State::defined, crate::specs::Meaning::rest, crate::specs::Meaning::weight))]
-    pub(crate) fn define(&mut self, alloc: Global, args: &[Bytes]) -> Result<Pace, AllocError>
-        requires { self.old.control ≡ Control.Go }
-        ensures { IfOk result (λ p. Goes (do_proc args.now self.old.state (all_back self.old.stack)) self.old.state.known (weight_of self.old + 2) self.new p) }
-    {
-        let Some((name, parameters, body)) = three(args) else {
-            let pace = self.wrong_count(alloc, b"proc")?;
-            return Ok(pace);
-        };
-        match parameters_of(alloc, parameters.as_slice())? {
-            Ok(parameters) => {
-                let body = body.copy(alloc)?;
-                self.state
-                    .define(alloc, name.as_slice(), Procedure { parameters, body })?;
-                self.end(Code::Done, Bytes::new(alloc));
-                Ok(Pace::Moved)
-            }
-            Err(message) => {
-                let pace = self.fail(alloc, message)?;
-                Ok(pace)
-            }
-        }
-    }
-
     /// The call of a procedure: what its arguments are bound to, and its body.
     #[tactic(auto, unfolding(crate::specs::Meaning::back, crate::specs::Meaning::all_back, crate::specs::Meaning::weight, crate::specs::Meaning::stack_weight))]
     pub(crate) fn call(

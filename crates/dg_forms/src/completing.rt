@@ -1,0 +1,48 @@
+//! What commands come to that evaluate nothing inside and ask nothing: completions and errors.
+ghost use Rattle.std.specs.Prelude.{◌≡◌, IfOk, Err};
+ghost use Rattle.dg_language.specs.Completing.{completes, gives, does};
+ghost use Rattle.dg_language.specs.Evaluation.{wrong_count};
+
+use crate::values::wrong_count;
+use dg_bytes::Bytes;
+use dg_language::{Code, Completion, Effect};
+use std::alloc::{AllocError, Global};
+
+/// A command completes with this code and value, and nothing changes.
+pub(crate) fn completes(code: Code, value: Bytes) -> Result<Completion, Bytes>
+    ensures { result ≡ completes code value }
+{
+    Ok(Completion {
+        code,
+        value,
+        effect: Effect::Nothing,
+    })
+}
+
+/// A command has a value, and nothing changes.
+pub(crate) fn gives(value: Bytes) -> Result<Completion, Bytes>
+    ensures { result ≡ gives value }
+{
+    completes(Code::Done, value)
+}
+
+/// A command changes this, and has the empty value.
+pub(crate) fn does(alloc: Global, effect: Effect) -> Result<Completion, Bytes>
+    ensures { result ≡ does effect }
+{
+    Ok(Completion {
+        code: Code::Done,
+        value: Bytes::new(alloc),
+        effect,
+    })
+}
+
+/// A command of this name has the wrong count of arguments.
+pub(crate) fn miscounted(
+    alloc: Global,
+    name: &[u8],
+) -> Result<Result<Completion, Bytes>, AllocError>
+    ensures { IfOk result (λ r. r ≡ Err (wrong_count name.now)) }
+{
+    Ok(Err(wrong_count(alloc, name)?))
+}

@@ -1,0 +1,160 @@
+//! The commands that evaluate nothing inside and ask nothing.
+ghost use Rattle.std.specs.Prelude.{◌≡◌, IfOk};
+ghost use Rattle.dg_language.specs.Control.{do_leave, do_return, do_error};
+ghost use Rattle.dg_language.specs.Expecting.{do_exp_continue};
+ghost use Rattle.dg_language.specs.Immediate.{immediate, immediate_commands, is_for_scripts};
+ghost use Rattle.dg_language.specs.Language.{with_name};
+
+use crate::boards::{
+    board_info, load_generic_config, set_board_info, target_info, unset_board_info,
+};
+use crate::completing::{completes, gives, miscounted};
+use crate::procedures::procedure;
+use crate::results::result;
+use dg_bytes::{Bytes, TryCopy};
+use dg_language::{Builtin, Code, Completion, ImmediateCommand, ResultCommand, State};
+use std::alloc::{AllocError, Global};
+
+/// What a command comes to with these arguments: a completion, or the message of an error.
+pub fn run_immediate(
+    alloc: Global,
+    state: &State,
+    which: ImmediateCommand,
+    args: &[Bytes],
+) -> Result<Result<Completion, Bytes>, AllocError>
+    ensures { IfOk result (λ r. r ≡ immediate which args.now state.now) }
+{
+    match which {
+        ImmediateCommand::Result(which) => Ok(result(alloc, which, args)?),
+        ImmediateCommand::Silent => Ok(gives(Bytes::new(alloc))),
+        ImmediateCommand::Proc => Ok(procedure(alloc, args)?),
+        ImmediateCommand::Break => Ok(leave(alloc, Code::Broken, b"break", args)?),
+        ImmediateCommand::Continue => Ok(leave(alloc, Code::Continued, b"continue", args)?),
+        ImmediateCommand::Return => Ok(give_back(alloc, args)?),
+        ImmediateCommand::Error => Ok(error(alloc, args)?),
+        ImmediateCommand::ExpContinue => Ok(exp_continue(alloc, state, args)?),
+        ImmediateCommand::SetBoardInfo => Ok(set_board_info(alloc, args)?),
+        ImmediateCommand::UnsetBoardInfo => Ok(unset_board_info(alloc, args)?),
+        ImmediateCommand::LoadGenericConfig => Ok(load_generic_config(alloc, args)?),
+        ImmediateCommand::TargetInfo => Ok(target_info(alloc, state, args)?),
+        ImmediateCommand::BoardInfo => Ok(board_info(alloc, state, args)?),
+    }
+}
+
+/// The command of this name.
+pub(crate) fn find_immediate(name: &[u8]) -> Option<Builtin>
+    ensures { result ≡ with_name name.now immediate_commands }
+{
+    let which = if name == b"pass".as_slice() {
+        ImmediateCommand::Result(ResultCommand::Pass)
+    } else if name == b"fail".as_slice() {
+        ImmediateCommand::Result(ResultCommand::Fail)
+    } else if name == b"unresolved".as_slice() {
+        ImmediateCommand::Result(ResultCommand::Unresolved)
+    } else if name == b"untested".as_slice() {
+        ImmediateCommand::Result(ResultCommand::Untested)
+    } else if name == b"unsupported".as_slice() {
+        ImmediateCommand::Result(ResultCommand::Unsupported)
+    } else if name == b"note".as_slice() {
+        ImmediateCommand::Result(ResultCommand::Note)
+    } else if name == b"perror".as_slice() {
+        ImmediateCommand::Result(ResultCommand::Perror)
+    } else if name == b"warning".as_slice() {
+        ImmediateCommand::Result(ResultCommand::Warning)
+    } else if name == b"verbose".as_slice()
+        || name == b"send_user".as_slice()
+        || name == b"send_log".as_slice()
+    {
+        ImmediateCommand::Silent
+    } else if name == b"proc".as_slice() {
+        ImmediateCommand::Proc
+    } else if name == b"break".as_slice() {
+        ImmediateCommand::Break
+    } else if name == b"continue".as_slice() {
+        ImmediateCommand::Continue
+    } else if name == b"return".as_slice() {
+        ImmediateCommand::Return
+    } else if name == b"error".as_slice() {
+        ImmediateCommand::Error
+    } else if name == b"exp_continue".as_slice() {
+        ImmediateCommand::ExpContinue
+    } else if name == b"set_board_info".as_slice() {
+        ImmediateCommand::SetBoardInfo
+    } else if name == b"unset_board_info".as_slice() {
+        ImmediateCommand::UnsetBoardInfo
+    } else if name == b"load_generic_config".as_slice() {
+        ImmediateCommand::LoadGenericConfig
+    } else if name == b"target_info".as_slice() {
+        ImmediateCommand::TargetInfo
+    } else if name == b"board_info".as_slice() {
+        ImmediateCommand::BoardInfo
+    } else {
+        return None;
+    };
+    Some(Builtin::Immediate(which))
+}
+
+/// Whether a command belongs to scripts alone: it records a result, or goes on with an `expect`.
+pub(crate) fn is_for_scripts(which: ImmediateCommand) -> bool
+    ensures { result ≡ is_for_scripts which }
+{
+    matches!(
+        which,
+        ImmediateCommand::Result(_) | ImmediateCommand::ExpContinue
+    )
+}
+
+/// `break` and `continue`.
+#[tactic(auto, unfolding(dg_language::specs::Control::do_leave))]
+fn leave(
+    alloc: Global,
+    code: Code,
+    name: &[u8],
+    args: &[Bytes],
+) -> Result<Result<Completion, Bytes>, AllocError>
+    ensures { IfOk result (λ r. r ≡ do_leave code name.now args.now) }
+{
+    match args {
+        [] => Ok(completes(code, Bytes::new(alloc))),
+        [_, ..] => Ok(miscounted(alloc, name)?),
+    }
+}
+
+/// `return` and `return value`.
+#[tactic(auto, unfolding(dg_language::specs::Control::do_return))]
+fn give_back(alloc: Global, args: &[Bytes]) -> Result<Result<Completion, Bytes>, AllocError>
+    ensures { IfOk result (λ r. r ≡ do_return args.now) }
+{
+    match args {
+        [] => Ok(completes(Code::Returned, Bytes::new(alloc))),
+        [value] => Ok(completes(Code::Returned, value.copy(alloc)?)),
+        _ => Ok(miscounted(alloc, b"return")?),
+    }
+}
+
+/// `error message`, and perhaps an information and a code.
+#[tactic(auto, unfolding(dg_language::specs::Control::do_error))]
+fn error(alloc: Global, args: &[Bytes]) -> Result<Result<Completion, Bytes>, AllocError>
+    ensures { IfOk result (λ r. r ≡ do_error args.now) }
+{
+    match args {
+        [message] | [message, _] | [message, _, _] => Ok(Err(message.copy(alloc)?)),
+        _ => Ok(miscounted(alloc, b"error")?),
+    }
+}
+
+/// `exp_continue`.
+#[tactic(auto, unfolding(dg_language::specs::Expecting::do_exp_continue))]
+fn exp_continue(
+    alloc: Global,
+    state: &State,
+    args: &[Bytes],
+) -> Result<Result<Completion, Bytes>, AllocError>
+    ensures { IfOk result (λ r. r ≡ do_exp_continue args.now state.now) }
+{
+    match args {
+        [] if state.is_in_action() => Ok(completes(Code::ExpContinued, Bytes::new(alloc))),
+        [] => Ok(Err(Bytes::from_slice(alloc, b"exp_continue outside of expect")?)),
+        [_, ..] => Ok(miscounted(alloc, b"exp_continue")?),
+    }
+}

@@ -1,0 +1,28 @@
+//! What a command comes to that evaluates nothing inside and asks nothing.
+use crate::calls::ResultCall;
+use crate::code::Code;
+use crate::procedure::Procedure;
+use dg_bytes::Bytes;
+
+/// What such a command changes.
+#[derive(Drop)]
+pub enum Effect {
+    /// Nothing.
+    Nothing,
+    /// This result call is made.
+    Calls(ResultCall),
+    /// A key of the board that has no setting gets this one.
+    Sets(Bytes, Bytes),
+    /// A key of the board has no setting any more.
+    Unsets(Bytes),
+    /// This procedure has this name.
+    Defines(Bytes, Procedure),
+}
+
+/// The code and the value with which a command completes, and what it changes.
+#[derive(Drop)]
+pub struct Completion {
+    pub code: Code,
+    pub value: Bytes,
+    pub effect: Effect,
+}
