@@ -1,6 +1,6 @@
 -- The commands on boards, libraries, targets and flags.
-use Rattle.std.proofs.Common.{◌≡◌, ℕ, Bool, true, false, List, [], ◌∷◌, ◌++◌, ◌&&◌, ap, sym, ◌∙◌, refl, arith}
-use Rattle.std.specs.Prelude.{Option, Some, None, codes, nat_eq, not}
+use Rattle.std.proofs.Common.{◌≡◌, ℕ, Bool, true, false, List, [], ◌∷◌, ◌++◌, ◌&&◌, ap, sym, ◌∙◌, refl}
+use Rattle.std.specs.Prelude.{Option, Some, None, codes, nat_eq}
 use Rattle.std.specs.Cmp.Lexicographic.{pointwise}
 use Rattle.std.specs.List.{list_any}
 use Rattle.std.specs.FinMap as map

@@ -1,4 +1,3 @@
-use Rattle.std.proofs.Common.{sym}
 use Rattle.dg_machine.proofs.ComputingLemmas.{between-value, between-fault}
 use Rattle.dg_machine.proofs.computing.compute_at_once.Goals as goal
 

@@ -1,5 +1,3 @@
-use Rattle.std.proofs.Common.{◌∙◌, sym, ap, ◌∷◌, []}
-use Rattle.dg_machine.specs.Steps.{operand_in}
 use Rattle.dg_machine.proofs.TextLemmas.{three-of}
 use Rattle.dg_machine.proofs.instructions.between.Goals as goal
 

@@ -1,4 +1,4 @@
-use Rattle.std.proofs.Common.{◌∙◌, refl, sym, arith}
+use Rattle.std.proofs.Common.{◌∙◌, sym, arith}
 use Rattle.dg_expr.specs.Truth.{truth_of}
 use Rattle.dg_machine.specs.Choosing.{repeat_if}
 use Rattle.dg_machine.specs.Meaning.{all_back}

@@ -1,5 +1,4 @@
 use Rattle.std.proofs.Common.{◌∙◌, length, ap, refl, sym, arith}
-use Rattle.dg_machine.specs.Choosing.{choosing}
 use Rattle.dg_machine.specs.Meaning.{back, all_back}
 use Rattle.dg_machine.proofs.MachineLemmas.{Goes-along, weight-cons}
 use Rattle.dg_machine.proofs.ChoiceLemmas.{choose-none, choose-next}

@@ -1,6 +1,5 @@
 use Rattle.std.proofs.Common.{◌<◌, ◌≤◌, ◌∙◌, refl, sym, subst, arith}
-use Rattle.dg_language.specs.Expressions.{written, in_decimal}
-use Rattle.dg_language.specs.declared.code.Code.TheVariants.{Done}
+use Rattle.dg_language.specs.Expressions.{written}
 use Rattle.dg_machine.specs.Meaning.{back, all_back, rest, weight}
 use Rattle.dg_machine.proofs.MachineLemmas.{Goes-along, weight-cons}
 use Rattle.dg_machine.proofs.GatherLemmas.{fail-through}

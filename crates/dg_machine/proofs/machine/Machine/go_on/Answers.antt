@@ -1,5 +1,4 @@
-use Rattle.std.proofs.Common.{◌≡◌, List, [], ◌∷◌, length, arith}
-use Rattle.dg_language.specs.declared.substitution.Substitution.{Substitution}
+use Rattle.std.proofs.Common.{arith}
 use Rattle.dg_machine.proofs.GatherLemmas.{gather-none, Comes-along}
 use Rattle.dg_machine.proofs.ComputingLemmas.{nothing}
 use Rattle.dg_machine.proofs.machine.Machine.go_on.Goals as goal

@@ -1,4 +1,4 @@
-use Rattle.std.proofs.Common.{◌≡◌, ◌+◌, ◌<◌, ◌∙◌, refl, sym, arith}
+use Rattle.std.proofs.Common.{◌∙◌, refl, sym, arith}
 use Rattle.dg_machine.specs.Meaning.{rest, weight}
 use Rattle.dg_machine.specs.declared.frame.Control.TheVariants.{Ended}
 use Rattle.dg_machine.proofs.CompletingLemmas.{known-performed, weight-performed}

@@ -1,6 +1,5 @@
-use Rattle.std.proofs.Common.{◌∙◌, refl, sym, arith}
+use Rattle.std.proofs.Common.{◌∙◌, sym, arith}
 use Rattle.dg_machine.specs.Choosing.{repeating}
-use Rattle.dg_machine.specs.declared.frame.Stage.{Stage}
 use Rattle.dg_machine.specs.declared.frame.Stage.TheVariants.{Test}
 use Rattle.dg_machine.specs.Meaning.{back, all_back}
 use Rattle.dg_machine.proofs.MachineLemmas.{Goes-comes, weight-cons}
