@@ -2,3 +2,4 @@ pub mod Grafting
 pub mod Law
 pub mod Replays
 pub mod Awaiting
+pub mod WordValues

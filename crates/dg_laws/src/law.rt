@@ -1,5 +1,6 @@
 //! The laws on continuations.
 ghost use Rattle.dg_laws.specs.Law.{EachTextIsGrafted, TheJudgingIsGrafted, EachTextComesToAnOutcome, NoPeekIsGrafted};
+ghost use Rattle.dg_laws.specs.WordValues.{ReadWordsAreNested, WordsAreMadeOfTheirParts};
 
 /// The tree of each text under a continuation is the tree of the text alone, with the continuation grafted on its ends.
 pub fn each_text_is_grafted()
@@ -20,4 +21,15 @@ pub fn each_text_comes_to_an_outcome()
 /// An evaluation that looks at what comes after it is not grafted.
 pub fn no_peek_is_grafted()
     ensures { NoPeekIsGrafted }
+{}
+
+/// The words of a command, which the meaning makes step by step, are made of their parts by cases, an index of parts of its
+/// own (Tcl(n)).
+pub fn words_are_made_of_their_parts()
+    ensures { WordsAreMadeOfTheirParts }
+{}
+
+/// The words that a text has are of that form: the parts of each are nested.
+pub fn read_words_are_nested()
+    ensures { ReadWordsAreNested }
 {}

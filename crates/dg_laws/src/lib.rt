@@ -6,7 +6,8 @@ mod law;
 mod replays;
 
 pub use crate::law::{
-    each_text_comes_to_an_outcome, each_text_is_grafted, no_peek_is_grafted, the_judging_is_grafted,
+    each_text_comes_to_an_outcome, each_text_is_grafted, no_peek_is_grafted,
+    the_judging_is_grafted, words_are_made_of_their_parts,
 };
 pub use crate::replays::{
     actions_are_replayed, chunks_come_into_the_buffer, expect_takes_the_first_hit,
