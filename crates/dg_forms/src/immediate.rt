@@ -2,7 +2,7 @@
 ghost use Rattle.std.specs.Prelude.{◌≡◌, IfOk};
 ghost use Rattle.dg_language.specs.Control.{do_leave, do_return, do_error};
 ghost use Rattle.dg_language.specs.Expecting.{do_exp_continue};
-ghost use Rattle.dg_language.specs.Immediate.{immediate, immediate_commands, is_for_scripts};
+ghost use Rattle.dg_language.specs.Immediate.{immediate, immediate_commands, is_for_scripts, result_commands};
 ghost use Rattle.dg_language.specs.Language.{with_name};
 
 use crate::boards::{
@@ -41,9 +41,9 @@ pub fn run_immediate(
     }
 }
 
-/// The command of this name.
-pub(crate) fn find_immediate(name: &[u8]) -> Option<Builtin>
-    ensures { result ≡ with_name name.now immediate_commands }
+/// The command of this name that records a result or a message, or has no effect.
+pub(crate) fn find_result(name: &[u8]) -> Option<Builtin>
+    ensures { result ≡ with_name name.now result_commands }
 {
     let which = if name == b"pass".as_slice() {
         ImmediateCommand::Result(ResultCommand::Pass)
@@ -66,7 +66,17 @@ pub(crate) fn find_immediate(name: &[u8]) -> Option<Builtin>
         || name == b"send_log".as_slice()
     {
         ImmediateCommand::Silent
-    } else if name == b"proc".as_slice() {
+    } else {
+        return None;
+    };
+    Some(Builtin::Immediate(which))
+}
+
+/// The other command of this name.
+pub(crate) fn find_immediate(name: &[u8]) -> Option<Builtin>
+    ensures { result ≡ with_name name.now immediate_commands }
+{
+    let which = if name == b"proc".as_slice() {
         ImmediateCommand::Proc
     } else if name == b"break".as_slice() {
         ImmediateCommand::Break

@@ -2,7 +2,7 @@
 ghost use Rattle.std.specs.Prelude.{◌≡◌};
 ghost use Rattle.dg_language.specs.Language.{builtin_of, with_name, variable_commands, control_commands, choice_commands, session_commands, target_commands, records, usable};
 
-use crate::immediate::{find_immediate, is_for_scripts};
+use crate::immediate::{find_immediate, find_result, is_for_scripts};
 use dg_language::{
     Builtin, ChoiceCommand, ControlCommand, FlagCommand, SessionCommand, TargetCommand,
     VariableCommand,
@@ -121,6 +121,9 @@ fn find_any(name: &[u8]) -> Option<Builtin>
     ensures { result ≡ builtin_of name.now }
 {
     if let Some(found) = find_variable(name) {
+        return Some(found);
+    }
+    if let Some(found) = find_result(name) {
         return Some(found);
     }
     if let Some(found) = find_immediate(name) {

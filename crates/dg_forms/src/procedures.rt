@@ -1,5 +1,6 @@
 //! Procedures: their parameters, and what calls bind them to.
-ghost use Rattle.std.specs.Prelude.{◌≡◌, ◌+◌, ◌*◌, ◌^◌, ◌<◌, ◌∷◌, ◌++◌, [], IfOk, OnOk, MatchOption, Some, None, nat_lt, length};
+ghost use Rattle.std.specs.Prelude.{◌≡◌, ◌<◌, [], IfOk, MatchOption, Some, None, nat_lt};
+ghost use Rattle.dg_scope.specs.Scopes.{value_limit};
 ghost use Rattle.dg_language.specs.Procedures.{has_colons, name_fault, named, parameter_of, parameters, parameters_of, do_proc, binding, bindings, collects, value_for, longest};
 
 use crate::arguments::{split, three};
@@ -195,7 +196,7 @@ fn bind(alloc: Global, name: &Bytes, value: Bytes) -> Result<Binding, AllocError
 
 /// Whether a value is longer than a value may be.
 pub fn is_too_long(bindings: &[Binding]) -> bool
-    ensures { result ≡ nat_lt 1048576 (longest bindings.now) }
+    ensures { result ≡ nat_lt value_limit (longest bindings.now) }
 {
     bindings
         .iter()

@@ -3,6 +3,7 @@ use Rattle.std.specs.Prelude.{ℕ, true, false, Option, Some, None, List, [], �
 use Rattle.dg_words.specs.Elements.{elements_of}
 use Rattle.dg_words.specs.Faults.{fault_text}
 use Rattle.dg_words.specs.declared.fault.WordFault.{WordFault}
+use Rattle.dg_scope.specs.declared.scopes.TheConstants.{LONGEST_VALUE}
 use Rattle.dg_world.specs.declared.question.Question.{Question}
 use Rattle.dg_world.specs.declared.question.Answer.{Answer}
 use Rattle.dg_results.specs.declared.verdict.Line.{Line}
@@ -11,6 +12,7 @@ use Rattle.dg_language.specs.declared.code.Code.{Code}
 use Rattle.dg_language.specs.declared.code.Code.TheVariants.{Done, Failed, Returned, Broken, Continued, ExpContinued}
 use Rattle.dg_language.specs.declared.close.Close.{Close}
 use Rattle.dg_language.specs.declared.close.Close.TheVariants.{Finished, Aborted, OutOfSteps}
+use Rattle.dg_language.specs.declared.state.TheConstants.{STEPS}
 use Rattle.dg_language.specs.Play.{Play, Ends, Asks, plain, lookup}
 use Rattle.dg_language.specs.State.{State, stepped, taken, board_steps, learn}
 
@@ -58,16 +60,16 @@ ask q s k = hear (lookup q s.known) q s k
 
 -- a step is taken, if one is left
 unfoldable pub tick : State → (State → Play Ending) → Play Ending
-tick s k = elim (nat_lt s.steps 100000) [ true ↦ k (stepped s) | false ↦ Ends (out_of_steps s) ]
+tick s k = elim (nat_lt s.steps STEPS) [ true ↦ k (stepped s) | false ↦ Ends (out_of_steps s) ]
 
 -- a value of so many bytes is made, if it is no longer than a value may be
 unfoldable pub within : ℕ → State → Play Ending → Play Ending
-within n s p = elim (nat_lt 1048576 n) [ true ↦ cut (codes "value too long") s | false ↦ p ]
+within n s p = elim (nat_lt LONGEST_VALUE n) [ true ↦ cut (codes "value too long") s | false ↦ p ]
 
 -- an error, whose message is a value
 unfoldable pub fail : List ℕ → State → Then → Play Ending
 fail message s k =
-    elim (nat_lt 1048576 (length message)) [ true ↦ cut (codes "value too long") s | false ↦ k Failed message s ]
+    elim (nat_lt LONGEST_VALUE (length message)) [ true ↦ cut (codes "value too long") s | false ↦ k Failed message s ]
 
 -- what comes after an evaluation that ended well; any other code goes on up
 abbrev pub if_done : (List ℕ → State → Play Ending) → Then → Then

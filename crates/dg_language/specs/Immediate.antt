@@ -30,15 +30,19 @@ immediate LoadGenericConfig args s = do_load_generic_config args
 immediate TargetInfo args s = do_target_info args s
 immediate BoardInfo args s = do_board_info args s
 
--- their names
-abbrev pub immediate_commands : List (List ℕ × Builtin)
-immediate_commands =
+-- those that record a result or a message, or have no effect, by their names
+abbrev pub result_commands : List (List ℕ × Builtin)
+result_commands =
     (codes "pass", Immediate (Result Pass)) ∷ (codes "fail", Immediate (Result Fail))
     ∷ (codes "unresolved", Immediate (Result Unresolved)) ∷ (codes "untested", Immediate (Result Untested))
     ∷ (codes "unsupported", Immediate (Result Unsupported)) ∷ (codes "note", Immediate (Result Note))
     ∷ (codes "perror", Immediate (Result Perror)) ∷ (codes "warning", Immediate (Result Warning))
-    ∷ (codes "verbose", Immediate Silent) ∷ (codes "send_user", Immediate Silent) ∷ (codes "send_log", Immediate Silent)
-    ∷ (codes "proc", Immediate Proc) ∷ (codes "break", Immediate Break) ∷ (codes "continue", Immediate Continue)
+    ∷ (codes "verbose", Immediate Silent) ∷ (codes "send_user", Immediate Silent) ∷ (codes "send_log", Immediate Silent) ∷ []
+
+-- the others by their names
+abbrev pub immediate_commands : List (List ℕ × Builtin)
+immediate_commands =
+    (codes "proc", Immediate Proc) ∷ (codes "break", Immediate Break) ∷ (codes "continue", Immediate Continue)
     ∷ (codes "return", Immediate Return) ∷ (codes "error", Immediate Error) ∷ (codes "exp_continue", Immediate ExpContinue)
     ∷ (codes "set_board_info", Immediate SetBoardInfo) ∷ (codes "unset_board_info", Immediate UnsetBoardInfo)
     ∷ (codes "load_generic_config", Immediate LoadGenericConfig) ∷ (codes "target_info", Immediate TargetInfo)

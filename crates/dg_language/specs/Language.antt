@@ -24,7 +24,7 @@ use Rattle.dg_language.specs.Play.{Play}
 use Rattle.dg_language.specs.State.{State}
 use Rattle.dg_language.specs.Evaluation.{Ending, Then, Nested, cut, tick, fail, if_done, quoted}
 use Rattle.dg_language.specs.Completing.{completed}
-use Rattle.dg_language.specs.Immediate.{immediate, immediate_commands, is_for_scripts}
+use Rattle.dg_language.specs.Immediate.{immediate, immediate_commands, is_for_scripts, result_commands}
 use Rattle.dg_language.specs.Variables.{do_variable}
 use Rattle.dg_language.specs.Procedures.{call}
 use Rattle.dg_language.specs.Control.{do_control, head_or_empty}
@@ -91,9 +91,10 @@ or_else None more = more
 unfoldable pub builtin_of : List ℕ → Option Builtin
 builtin_of n =
     or_else (with_name n variable_commands)
+    (or_else (with_name n result_commands)
     (or_else (with_name n immediate_commands)
     (or_else (with_name n choice_commands)
-    (or_else (with_name n control_commands) (or_else (with_name n target_commands) (with_name n session_commands)))))
+    (or_else (with_name n control_commands) (or_else (with_name n target_commands) (with_name n session_commands))))))
 
 -- a command that belongs to scripts alone: it records a result, sets or clears a flag for the next one, or is about sessions
 abbrev pub records : Builtin → Bool

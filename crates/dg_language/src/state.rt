@@ -5,6 +5,7 @@ ghost use Rattle.std.specs.FinMap as map;
 ghost use Rattle.dg_scope.specs.Scopes.{value_limit, value_of, with_value};
 ghost use Rattle.dg_words.specs.Canonical.{text_of_list};
 ghost use Rattle.dg_words.specs.Elements.{elements_of};
+ghost use Rattle.dg_language.specs.declared.state.TheConstants.{STEPS};
 ghost use Rattle.dg_language.specs.Growing.{Gets};
 ghost use Rattle.dg_language.specs.Variables.{is_to_begin, first_value, all_linked, or_empty};
 ghost use Rattle.dg_language.specs.Procedures.{longest};
@@ -153,14 +154,14 @@ impl State {
 
     /// Whether a step is left: of 100,000 for the board's file, and of as many for what comes after it.
     pub fn has_step(&self) -> bool
-        ensures { result ≡ nat_lt self.now.steps 100000 }
+        ensures { result ≡ nat_lt self.now.steps STEPS }
     {
         self.steps < STEPS
     }
 
     /// Takes a step.
     pub fn take_step(&mut self)
-        requires { self.old.steps < 100000 }
+        requires { self.old.steps < STEPS }
         ensures { self.new ≡ stepped self.old }
     {
         self.steps += 1;

@@ -1,5 +1,6 @@
 -- What an action on a session comes to in a source that answers the session's entries from a list.
 use Rattle.std.specs.Prelude.{◌≡◌, ℕ, ◌+◌, ◌<◌, ◌≤◌, List, [], ◌∷◌, length, Some}
+use Rattle.dg_sessions.specs.declared.sessions.TheConstants.{MAX_USED}
 use Rattle.dg_transcript.specs.declared.entry.Entry.{Entry}
 use Rattle.dg_transcript.specs.declared.cursor.Action.{Action}
 use Rattle.dg_transcript.specs.Replay.{Left, Outcome, answered, timed_out, departed, replay}
@@ -34,7 +35,7 @@ pub record Stands (look : Source) (n max : ℕ) (s : State) (l : Left) : Type 0 
   pub kept : session.max ≡ max
   pub tells : Tells look s.test n session.cursor.place l.entries
   pub room : s.sessions.used + length l.entries < most_entries
-  pub within : session.cursor.place + length l.entries ≤ 65536
+  pub within : session.cursor.place + length l.entries ≤ MAX_USED
 
 -- only the sessions have changed, and what is known
 abbrev pub OnlySessions : State → State → Type 0

@@ -3,6 +3,8 @@
 use Rattle.std.specs.Prelude.{◌≡◌, ◌≢◌, ℕ, zero, suc, ◌+◌, ◌-◌, ◌<◌, ◌≤◌, Bool, true, false, List, [], ◌∷◌, ◌++◌, length, Option, Some, None}
 use Rattle.std.specs.List.{AllByRecursion, sum_by}
 use Rattle.hex.specs.Hex.{IsBytes}
+use Rattle.dg_scope.specs.declared.scopes.TheConstants.{LONGEST_VALUE}
+use Rattle.dg_sessions.specs.declared.sessions.TheConstants.{MAX_USED}
 use Rattle.dg_transcript.specs.declared.entry.Entry.{Entry}
 use Rattle.dg_transcript.specs.declared.entry.Entry.TheVariants as entry
 use Rattle.dg_transcript.specs.declared.cursor.Action.{Action}
@@ -32,7 +34,7 @@ IsOfBytes e = Unit {0}
 -- what is asked of a child keeps the limits of a transcript: 1 to 64 words, 1 to 1,048,576 bytes, at most an hour
 abbrev pub ActionFits : Action → Type 0
 ActionFits (action.Spawn words) = (0 < length words) × (length words ≤ 64)
-ActionFits (action.Send bytes) = (0 < length bytes) × (length bytes ≤ 1048576)
+ActionFits (action.Send bytes) = (0 < length bytes) × (length bytes ≤ LONGEST_VALUE)
 ActionFits (action.Read limit) = limit ≤ 3600000
 ActionFits action.Close = Unit {0}
 ActionFits action.Wait = Unit {0}
@@ -63,7 +65,7 @@ AsksNext t ss q n =
 abbrev pub LivesAsked : TestId → List (List Entry) → Question → Option Action → (Answer → List (List Entry) → Type 0) → Type 0
 LivesAsked t ss q None lives_on = (is_about_entry q ≡ false) × ((a : Answer) → fits q a ≡ true → lives_on a ss)
 LivesAsked t ss q (Some a) lives_on =
-    (n : ℕ) × AsksNext t ss q n × (sum_by length ss < 65536) × ActionFits a
+    (n : ℕ) × AsksNext t ss q n × (sum_by length ss < MAX_USED) × ActionFits a
     × ((e : Entry) → Made a e → IsOfBytes e → lives_on (answer.Entry e) (with_entry (n - 1) e ss))
 
 -- What is left of the judging of a test lives on, where the sessions have these entries so far: it ends without a departure and

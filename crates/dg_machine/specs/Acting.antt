@@ -4,6 +4,8 @@ use Rattle.dg_transcript.specs.declared.cursor.Action.{Action}
 use Rattle.dg_transcript.specs.declared.cursor.Action.TheVariants as action
 use Rattle.dg_transcript.specs.Output.{output_of}
 use Rattle.dg_sessions.specs.Views.{id_of}
+use Rattle.dg_language.specs.declared.state.TheConstants.{STEPS}
+use Rattle.dg_sessions.specs.declared.sessions.TheConstants.{MAX_USED}
 use Rattle.dg_language.specs.declared.code.Code.TheVariants.{Done}
 use Rattle.dg_language.specs.Play.{Play}
 use Rattle.dg_language.specs.State.{State, assigned, with_sessions}
@@ -69,7 +71,7 @@ reach_weight InAction = 10
 
 -- the first round of a wait
 abbrev pub first_round : Compiling → State → Then → Play Ending
-first_round c s k = rounds 100001 (evaluate c.depth) (record { session = c.session; pairs = c.pairs; limit = c.limit }) s k
+first_round c s k = rounds (STEPS + 1) (evaluate c.depth) (record { session = c.session; pairs = c.pairs; limit = c.limit }) s k
 
 -- the `-re` patterns of a wait are asked for, and then its first round begins
 abbrev pub compiling_on : Compiling → State → Then → Play Ending
@@ -105,7 +107,7 @@ SameKind action.Wait b = Unit {0}
 pub record UsesOne (old new : State) : Type 0 where
   pub same : new ≡ with_sessions new.sessions old
   pub one : new.sessions.used ≡ old.sessions.used + 1
-  pub room : old.sessions.used < 65536
+  pub room : old.sessions.used < MAX_USED
 
 -- nothing has changed but the sessions, and no entry is free again
 pub record Acts (old new : State) : Type 0 where

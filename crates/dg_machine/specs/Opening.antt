@@ -1,6 +1,7 @@
 -- The files that are opened for a test, one after another.
 use Rattle.std.specs.Prelude.{◌≡◌, ℕ, ◌+◌, ◌*◌, ◌^◌, List, Option, None}
 use Rattle.dg_world.specs.declared.question.Question.TheVariants.{File}
+use Rattle.dg_language.specs.declared.state.TheConstants.{STEPS}
 use Rattle.dg_language.specs.Play.{Play, Asks, plain, lookup}
 use Rattle.dg_language.specs.State.{State, learn}
 use Rattle.dg_language.specs.Evaluation.{Ending, Then, ask}
@@ -21,8 +22,8 @@ open_next Script s k = open_script s k
 
 -- what is set aside for what is opened: the board's file leaves all steps to what comes after it
 abbrev pub opening_weight : Opening → ℕ
-opening_weight Board = 100000 * 2 ^ 251 + 40
-opening_weight AfterBoard = 100000 * 2 ^ 251 + 20
+opening_weight Board = STEPS * 2 ^ 251 + 40
+opening_weight AfterBoard = STEPS * 2 ^ 251 + 20
 opening_weight Tool = 15
 opening_weight (Library name) = 12
 opening_weight Script = 6

@@ -1,11 +1,11 @@
 //! The commands that evaluate scripts for each value, or catch their codes.
-ghost use Rattle.std.specs.Prelude.{◌≡◌, ◌+◌, ◌*◌, ◌^◌, ◌<◌, ◌∷◌, ◌++◌, [], IfOk, drop, length};
+ghost use Rattle.std.specs.Prelude.{◌≡◌, ◌+◌, ◌<◌, IfOk, length};
 ghost use Rattle.dg_language.specs.State.{assigned};
 ghost use Rattle.dg_language.specs.Evaluation.{within};
 ghost use Rattle.dg_language.specs.Control.{digit_of, caught, do_catch, do_foreach, do_control, each};
 ghost use Rattle.dg_language.specs.Language.{evaluate};
 ghost use Rattle.dg_machine.specs.declared.frame.Control.{Control};
-ghost use Rattle.dg_machine.specs.Meaning.{all_back, weight_of, looping, Comes, Goes, RunsAs};
+ghost use Rattle.dg_machine.specs.Meaning.{all_back, weight_of, Comes, Goes};
 
 use crate::frame::{Frame, Pace, Rounds};
 use crate::machine::Machine;

@@ -1,5 +1,5 @@
 //! The command that words name.
-ghost use Rattle.std.specs.Prelude.{◌≡◌, ◌+◌, ◌*◌, ◌^◌, ◌<◌, ◌∷◌, ◌++◌, [], IfOk, length};
+ghost use Rattle.std.specs.Prelude.{◌≡◌, ◌+◌, ◌^◌, ◌<◌, [], IfOk};
 ghost use Rattle.dg_cmds.specs.Commands.{pure_of};
 ghost use Rattle.dg_language.specs.Completing.{completed};
 ghost use Rattle.dg_language.specs.Control.{head_or_empty};

@@ -1,5 +1,5 @@
 //! The command on libraries.
-ghost use Rattle.std.specs.Prelude.{◌≡◌, ◌+◌, ◌*◌, ◌^◌, ◌<◌, ◌∷◌, [], IfOk};
+ghost use Rattle.std.specs.Prelude.{◌≡◌, ◌+◌, ◌<◌, IfOk};
 ghost use Rattle.dg_language.specs.Boards.{after_library, do_load_lib, library_file, load, no_library};
 ghost use Rattle.dg_language.specs.Evaluation.{fail};
 ghost use Rattle.dg_language.specs.Language.{evaluate};

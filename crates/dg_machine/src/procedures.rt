@@ -1,7 +1,6 @@
 //! The calls of procedures.
-ghost use Rattle.std.specs.Prelude.{◌≡◌, ◌+◌, ◌*◌, ◌^◌, ◌<◌, ◌∷◌, ◌++◌, [], IfOk, OnOk, MatchOption, Some, None, nat_lt, length};
-ghost use Rattle.dg_language.specs.Evaluation.{outside};
-ghost use Rattle.dg_language.specs.Procedures.{longest, call_bound};
+ghost use Rattle.std.specs.Prelude.{◌≡◌, ◌+◌, ◌<◌, IfOk};
+ghost use Rattle.dg_language.specs.Procedures.{call_bound};
 ghost use Rattle.dg_language.specs.Language.{evaluate};
 ghost use Rattle.dg_machine.specs.declared.frame.Control.{Control};
 ghost use Rattle.dg_machine.specs.Meaning.{all_back, weight_of, Goes};

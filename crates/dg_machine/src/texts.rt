@@ -2,6 +2,7 @@
 ghost use Rattle.std.specs.Prelude.{◌≡◌, ◌+◌, ◌≤◌, ◌<◌, ◌∷◌, ◌++◌, [], ℕ, List, IfOk, OnOk, IfSome, Some, drop, length};
 ghost use Rattle.std.specs.Bool.{OnTrue, OnFalse};
 ghost use Rattle.dg_language.specs.Evaluation.{Then};
+ghost use Rattle.dg_scope.specs.Scopes.{value_limit};
 ghost use Rattle.dg_language.specs.Touch.{value_in_use};
 ghost use Rattle.dg_language.specs.declared.substitution.Substitution.{Substitution as Step};
 ghost use Rattle.dg_machine.specs.Meaning.{making_on};
@@ -28,8 +29,8 @@ pub(crate) fn add_text(text: &mut Bytes, value: Bytes) -> Result<(), AllocError>
 
 /// Whether a text is no longer than a value may be, once this is added.
 pub(crate) fn has_room(text: &Bytes, added: &Bytes) -> bool
-    ensures short { OnTrue result (length text.now + length added.now ≤ 1048576) }
-    ensures long { OnFalse result (1048576 < length text.now + length added.now) }
+    ensures short { OnTrue result (length text.now + length added.now ≤ value_limit) }
+    ensures long { OnFalse result (value_limit < length text.now + length added.now) }
 {
     let length = added.len();
     length <= LONGEST_VALUE && text.len() <= LONGEST_VALUE - length
@@ -43,7 +44,7 @@ fn value_with_room(
     text: &Bytes,
 ) -> Result<Option<Bytes>, AllocError>
     ensures value { IfOk result (λ o. IfSome o (λ v. value_in_use name.now state.now ≡ Some v)) }
-    ensures room { IfOk result (λ o. IfSome o (λ v. length text.now + length v ≤ 1048576)) }
+    ensures room { IfOk result (λ o. IfSome o (λ v. length text.now + length v ≤ value_limit)) }
 {
     let Some(value) = state.value_in_use(name.as_slice()) else {
         return Ok(None);
@@ -172,7 +173,7 @@ fn one_text<'a>(state: &'a State, step: &'a Substitution) -> Option<&'a Bytes>
 /// The same, unless it is longer than a value may be.
 fn short_text<'a>(state: &'a State, step: &'a Substitution) -> Option<&'a Bytes>
     ensures text { IfSome result (λ v. IsText state.now step.now v.now) }
-    ensures short { IfSome result (λ v. length v.now ≤ 1048576) }
+    ensures short { IfSome result (λ v. length v.now ≤ value_limit) }
 {
     let Some(value) = one_text(state, step) else {
         return None;
