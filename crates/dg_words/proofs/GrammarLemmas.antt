@@ -32,3 +32,4 @@ pub mod Wrong
 pub mod Plain
 pub mod OneKind
 pub mod Rows
+pub mod Answered

@@ -6,3 +6,4 @@ pub mod Operands
 pub mod Continuing
 pub mod Ends
 pub mod Saying
+pub mod Spelling

@@ -1,7 +1,9 @@
 //! The reading of a command, of the words of a list, and of an operand.
-ghost use Rattle.std.specs.Prelude.{◌≡◌, ◌++◌, ◌∷◌, [], ◌+◌, ◌==◌, ◌<◌, ◌≤◌, ◌≢◌, ◌^◌, ◌⊎◌, OnOk, IfOk, MatchOption, MatchResult, length, drop, Ok, Err, ℕ, List};
+ghost use Rattle.std.specs.Prelude.{◌≡◌, ◌++◌, ◌∷◌, [], ◌+◌, ◌==◌, ◌<◌, ◌≤◌, ◌≢◌, ◌^◌, ◌⊎◌, OnOk, IfErr, IfOk, MatchOption, MatchResult, length, drop, Ok, Err, ℕ, List};
 ghost use Rattle.dg_words.specs.Answers.{Gives, Made};
 ghost use Rattle.dg_words.specs.First.{FirstCommand, FirstFault};
+ghost use Rattle.dg_words.specs.Grammar.Spelling.{IsCommandFault, IsOperandFault, IsWordsFault, SpellsCommand, SpellsOperand};
+ghost use Rattle.dg_words.specs.Grammar.Words.{WordsOf};
 ghost use Rattle.dg_words.specs.Machine.{Go, follow, follow_inside, fresh, has_room, is_none, leaves, level_in, read, spot_of, step, stop, take_turn};
 ghost use Rattle.dg_words.specs.Reading.{command_at, operand_at, words_of};
 ghost use Rattle.dg_words.specs.Runs.{Reaches};
@@ -348,6 +350,10 @@ pub fn parse_command(alloc: Global, text: &[u8], at: usize) -> Result<Parsed, Wo
     ensures onward { IfOk result (λ p. p.words ≢ [] → at < p.next) }
     // No words: nothing is left.
     ensures over { IfOk result (λ p. p.words ≡ [] → p.next ≡ length text.now) }
+    // Just these words are spelled there, up to the place behind.
+    ensures spelled { IfOk result (λ p. SpellsCommand text.now at p.words p.next) }
+    // Before the fault the text can go on to a command, up to it none begins so, and its kind says what is wrong.
+    ensures fault { IfErr result (λ f. (f ≡ WordFault.Memory) ⊎ IsCommandFault f (drop at text.now)) }
 {
     scan(alloc, Level::Top, Mode::Start, text, at)
 }
@@ -358,7 +364,11 @@ pub fn parse_command(alloc: Global, text: &[u8], at: usize) -> Result<Parsed, Wo
 /// # Errors
 /// The first fault of the text, or `Memory` where a growth is refused.
 pub fn parse_words(alloc: Global, text: &[u8]) -> Result<Seq<Word>, WordFault>
-    ensures { MatchResult result (λ ws. words_of text.now ≡ Ok ws) (λ f. (f ≡ WordFault.Memory) ⊎ (words_of text.now ≡ Err f)) }
+    ensures reading { MatchResult result (λ ws. words_of text.now ≡ Ok ws) (λ f. (f ≡ WordFault.Memory) ⊎ (words_of text.now ≡ Err f)) }
+    // The text spells just these words.
+    ensures spelled { IfOk result (λ ws. WordsOf text.now ws) }
+    // Before the fault the text can go on to words, up to it none are spelled so, and its kind says what is wrong.
+    ensures fault { IfErr result (λ f. (f ≡ WordFault.Memory) ⊎ IsWordsFault f text.now) }
 {
     match scan(alloc, Level::List, Mode::Gap, text, 0) {
         Ok(Parsed { words, .. }) => Ok(words),
@@ -377,6 +387,10 @@ pub fn parse_operand(alloc: Global, text: &[u8], at: usize) -> Result<Parsed, Wo
     ensures reading { MatchResult result (λ p. operand_at text.now at ≡ Ok (p.words, p.next)) (λ f. (f ≡ WordFault.Memory) ⊎ (operand_at text.now at ≡ Err f)) }
     // The place behind is within the text.
     ensures within { IfOk result (λ p. p.next ≤ length text.now) }
+    // Just this operand is spelled there, up to the place behind.
+    ensures spelled { IfOk result (λ p. SpellsOperand text.now at p.words p.next) }
+    // Before the fault the text can go on to an operand, up to it none begins so, and its kind says what is wrong.
+    ensures fault { IfErr result (λ f. (f ≡ WordFault.Memory) ⊎ IsOperandFault f (drop at text.now)) }
 {
     scan(alloc, Level::Alone, Mode::Operand, text, at)
 }
