@@ -208,7 +208,7 @@ unwritten_as Is Such text place g x = record {
   place_is = x.place_is;
 }
 
-wrong_as : (Is Such : List ℕ → Type 0) (text : List ℕ) (place : ℕ) (f : WordFault) → ((t : List ℕ) → Is t → Such t) → ((t : List ℕ) → Such t → Is t) → IsWrong Is f text place → IsWrong Such f text place
+pub wrong_as : (Is Such : List ℕ → Type 0) (text : List ℕ) (place : ℕ) (f : WordFault) → ((t : List ℕ) → Is t → Such t) → ((t : List ℕ) → Such t → Is t) → IsWrong Is f text place → IsWrong Such f text place
 wrong_as Is Such text place fault.MissingBrace f g h = (h.0, h.1, open_as Is Such text (125 ∷ h.1) f g h.2)
 wrong_as Is Such text place fault.MissingQuote f g h = (h.0, h.1, open_as Is Such text (34 ∷ h.1) f g h.2)
 wrong_as Is Such text place fault.MissingBracket f g (inl h) = inl (h.0, h.1, open_as Is Such text (93 ∷ h.1) f g h.2)
