@@ -3,8 +3,7 @@ use super::{PASSED, core_with};
 use crate::memory::{ROOM, ROUNDS, Rounds, take_all};
 use dg_bytes::Bytes;
 use dg_core::{Core, CoreFault};
-use std::alloc::Global;
-use std::test::Fail;
+use std::alloc::{AllocError, Global};
 
 /// Whether a report is that of a passing script; nothing where it is another.
 fn is_passed(text: &Bytes, status: u8) -> Option<bool> {
@@ -37,9 +36,8 @@ fn round(alloc: Global, pad: usize) -> Option<bool> {
     if is_right { first } else { None }
 }
 
-#[test]
-fn a_refused_growth_is_told(rt: HostRuntime) -> Result<(), Fail> {
-    let alloc = rt.alloc();
+/// Whether each refused growth is told, where all memory but a block is taken and ever more of that block is left.
+pub fn are_told(alloc: Global) -> Result<bool, AllocError> {
     let mut rounds = Rounds::new();
     let mut blocks: Vec<Vec<u8>> = Vec::with_capacity(alloc, 400_001)?;
     let room = Vec::<u8>::with_capacity(alloc, ROOM)?;
@@ -50,8 +48,5 @@ fn a_refused_growth_is_told(rt: HostRuntime) -> Result<(), Fail> {
         rounds.count(round(alloc, ROOM - 16 * step));
     }
     blocks.clear();
-    assert_eq!(rt; rounds.others, 0);
-    assert!(rt; rounds.whole > 0);
-    assert!(rt; !is_full || rounds.short > 0);
-    Ok(())
+    Ok(rounds.are_right(is_full))
 }
