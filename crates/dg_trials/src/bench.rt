@@ -130,7 +130,7 @@ fn try_elsewhere<R: AllocGlobal + Wait>(rt: &R) -> Result<Option<bool>> {
 }
 
 /// Tries all cases.
-pub fn try_cases(rt: &HostRuntime) -> Result<()> {
+pub fn try_cases<R: Print + AllocGlobal + Threads + Wait + Clock + Sync>(rt: &R) -> Result<()> {
     for (name, case) in CASES {
         println!(rt; "{name}: {}", try_often(rt, case)?)?;
     }

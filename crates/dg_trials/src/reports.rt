@@ -5,16 +5,14 @@ mod moments;
 mod patterns;
 
 use crate::lines::tell;
+use crate::wanted::PASSED;
 use anyhow::Result;
 use dg_bytes::Bytes;
 use dg_core::Core;
 use dg_world::Edit;
 use std::alloc::{AllocError, Global};
 use std::thread;
-
-/// The report of a passing script t/a.exp, written out by hand.
-pub const PASSED: &[u8] =
-    b"\t\t=== t tests ===\n\nSchedule of variations:\n    unix\n\nRunning target unix\nRunning t/a.exp ...\nPASS: one\n\n\t\t=== t Summary ===\n\n# of expected passes\t\t1\n";
+use std::thread::Threads;
 
 /// The edit that puts this script.
 fn put(alloc: Global, text: &[u8]) -> Result<Edit, AllocError> {
@@ -58,8 +56,7 @@ fn settles_to_passed(alloc: Global, mut core: Core) -> bool {
 }
 
 /// Whether a core settles in one thread, and reports in another.
-fn goes_to_another_thread(rt: &HostRuntime) -> Result<bool, AllocError> {
-    let alloc = rt.alloc();
+fn goes_to_another_thread(rt: &impl Threads, alloc: Global) -> Result<bool, AllocError> {
     let core = core_with(alloc, b"pass \"one\"\n")?;
     let first = thread::spawn(rt, move || once_settled(alloc, core))?;
     let Some(settled) = first.join(rt) else {
@@ -70,12 +67,11 @@ fn goes_to_another_thread(rt: &HostRuntime) -> Result<bool, AllocError> {
 }
 
 /// Tries all cases.
-pub fn try_cases(rt: &HostRuntime) -> Result<()> {
-    let alloc = rt.alloc();
+pub fn try_cases(rt: &(impl Print + Threads), alloc: Global) -> Result<()> {
     tell(
         rt,
         "a core goes to another thread",
-        goes_to_another_thread(rt),
+        goes_to_another_thread(rt, alloc),
     )?;
     tell(
         rt,

@@ -7,10 +7,10 @@ mod whole;
 
 use crate::lines::tell;
 use anyhow::Result;
+use std::alloc::Global;
 
 /// Tries all cases.
-pub fn try_cases(rt: &HostRuntime) -> Result<()> {
-    let alloc = rt.alloc();
+pub fn try_cases(rt: &impl Print, alloc: Global) -> Result<()> {
     tell(rt, "a session in pieces", whole::answers_all(alloc))?;
     tell(rt, "each read fails", whole::each_read_fails(alloc))?;
     tell(rt, "each write fails", whole::each_write_fails(alloc))?;

@@ -1,7 +1,7 @@
 //! Workers over stored worlds, and over gates that wait for nothing.
 use crate::bench::gates::{Deaf, Signal, Waiting};
 use crate::bench::replies::{is_sum, put_on};
-use crate::reports::PASSED;
+use crate::wanted::PASSED;
 use dg_bench::{Bench, Call, MakeGate, Pass, Room, Work, run_workers};
 use dg_bytes::Bytes;
 use dg_core::Reply;

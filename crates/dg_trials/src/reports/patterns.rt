@@ -1,5 +1,6 @@
 //! Patterns that are asked of a core, and reports beside them.
-use super::{PASSED, core_with, settled};
+use super::{core_with, settled};
+use crate::wanted::PASSED;
 use dg_bytes::Bytes;
 use dg_core::{Core, Reply};
 use dg_eval::{Job, Turn};

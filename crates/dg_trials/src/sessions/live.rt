@@ -11,6 +11,8 @@ use dg_transcript::{Transcript, encode};
 use dg_world::{Edit, Refusal, TestId};
 use std::alloc::{AllocError, Global};
 use std::collections::VecDeque;
+use std::thread;
+use std::thread::Threads;
 
 /// Starts a child, talks to it, and ends it.
 const SCRIPT: &[u8] =
@@ -176,7 +178,7 @@ fn runs(alloc: Global) -> Rounds {
 }
 
 /// Whether each refused growth is told, where all memory but four blocks is taken and ever more of these is left.
-pub fn are_told(alloc: Global) -> Result<bool, AllocError> {
+fn are_told_here(alloc: Global) -> Result<bool, AllocError> {
     let mut blocks: Vec<Vec<u8>> = Vec::with_capacity(alloc, 400_001)?;
     let first = Vec::<u8>::with_capacity(alloc, ROOM)?;
     let second = Vec::<u8>::with_capacity(alloc, ROOM)?;
@@ -191,4 +193,10 @@ pub fn are_told(alloc: Global) -> Result<bool, AllocError> {
     let rounds = runs(alloc);
     blocks.clear();
     Ok(rounds.are_right(is_full))
+}
+
+/// The same in a thread, whose stack is there as a whole: that of the first thread can't grow once all memory is taken.
+pub fn are_told(rt: &impl Threads, alloc: Global) -> Result<bool, AllocError> {
+    let thread = thread::spawn(rt, move || are_told_here(alloc))?;
+    thread.join(rt)
 }
