@@ -4,7 +4,6 @@ use Rattle.std.proofs.Common.{inl, inr}
 use Rattle.dg_words.specs.declared.fault.WordFault.{WordFault}
 use Rattle.dg_words.specs.declared.fault.WordFault.TheVariants.{Memory}
 use Rattle.dg_words.specs.declared.word.Parsed.{Parsed}
-use Rattle.dg_words.specs.declared.word.Word.{Word}
 use Rattle.dg_words.specs.Elements.{elements_of}
 use Rattle.dg_words.specs.Reading.{command_at, operand_at, words_of}
 use Rattle.dg_words.specs.Grammar.Continuing.{HasCommand, HasNoCommand, HasNoOperand, HasOperand, IsList, IsNoList, IsNot, IsNoWords, IsWords}
