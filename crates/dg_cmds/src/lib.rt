@@ -16,5 +16,6 @@ mod strings;
 pub use crate::command::run_pure;
 pub use crate::fault::CmdFault;
 pub use crate::format::run_format;
+pub use crate::lists::concat;
 pub use crate::places::glob_matches;
 pub use crate::strings::run_string;
