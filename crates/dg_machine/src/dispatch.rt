@@ -80,20 +80,20 @@ impl Machine {
         ensures { IfOk result (GoesAs (pure_value (pure_of name.now args.now) name.now) 2 self.old self.new) }
     {
         match run_pure(alloc, name, args) {
-            Ok(value) => {
-                self.end(Code::Done, value);
-                Ok(Pace::Moved)
-            }
-            Err(CmdFault::Unknown) => {
+            None => {
                 let message = invalid_command(alloc, name)?;
                 Ok(self.fail(alloc, message)?)
             }
-            Err(CmdFault::Tcl(message)) => Ok(self.fail(alloc, message)?),
-            Err(CmdFault::TooLong) => {
+            Some(Ok(value)) => {
+                self.end(Code::Done, value);
+                Ok(Pace::Moved)
+            }
+            Some(Err(CmdFault::Tcl(message))) => Ok(self.fail(alloc, message)?),
+            Some(Err(CmdFault::TooLong)) => {
                 let closing = self.cut(alloc, b"value too long")?;
                 Ok(Pace::Over(closing))
             }
-            Err(CmdFault::Memory) => Err(AllocError),
+            Some(Err(CmdFault::Memory)) => Err(AllocError),
         }
     }
 
