@@ -4,6 +4,7 @@ use Rattle.std.specs.Cmp.Lexicographic.{pointwise}
 use Rattle.std.specs.Fmt.{decimal}
 use Rattle.dg_cmds.specs.declared.fault.CmdFault.{CmdFault}
 use Rattle.dg_cmds.specs.declared.fault.CmdFault.TheVariants.{Tcl, TooLong, Memory}
+use Rattle.dg_cmds.specs.declared.answer.TheConstants.{LONGEST}
 
 -- a value, or why there is none
 abbrev pub Answer : Type 0
@@ -34,11 +35,11 @@ Err f >>= more = Err f
 
 -- a value of a script has at most 1,048,576 bytes
 unfoldable pub limited : List ℕ → Answer
-limited v = if nat_le (length v) 1048576 then Ok v else Err TooLong
+limited v = if nat_le (length v) LONGEST then Ok v else Err TooLong
 
 -- a script error; its message is a value too
 unfoldable pub failed : {X : Type 0} → List ℕ → Result X CmdFault
-failed m = if nat_le (length m) 1048576 then Err (Tcl m) else Err TooLong
+failed m = if nat_le (length m) LONGEST then Err (Tcl m) else Err TooLong
 
 abbrev pub quoted : List ℕ → List ℕ
 quoted word = 34 ∷ word ++ 34 ∷ []
