@@ -3,7 +3,5 @@
 
 mod job;
 mod stage;
-#[cfg(test)]
-mod tests;
 
 pub use crate::job::{Job, JobFault, Turn};

@@ -3,6 +3,7 @@
 #![tactic(auto)]
 
 mod bench;
+mod jobs;
 mod lines;
 mod live;
 mod memory;
@@ -18,6 +19,11 @@ use std::thread::Threads;
 
 /// Tries calls with ever more memory. They come first, where the heap is as at the start.
 fn try_growths(rt: &(impl Print + Threads), alloc: Global) -> Result<()> {
+    tell(
+        rt,
+        "a job's refused growth",
+        jobs::fails_for_good(rt, alloc),
+    )?;
     tell(
         rt,
         "a core's refused growths",
@@ -42,6 +48,7 @@ fn main(rt: HostRuntime) -> Result<()> {
     if named.is_none() {
         try_growths(&rt, rt.alloc())?;
     }
+    jobs::try_cases(&rt, rt.alloc())?;
     reports::try_cases(&rt, rt.alloc())?;
     sessions::try_cases(&rt, rt.alloc())?;
     match named {

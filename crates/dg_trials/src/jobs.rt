@@ -1,16 +1,18 @@
 //! Jobs, turn by turn: answers and lines written out by hand.
-
-use crate::job::{Job, JobFault, Turn};
+use crate::lines::tell;
+use crate::memory::take_all;
+use anyhow::Result as Tried;
 use dg_boards::Triplet;
 use dg_bytes::Bytes;
+use dg_eval::{Job, JobFault, Turn};
 use dg_language::Ask;
 use dg_match::Reading;
 use dg_records::Record;
 use dg_results::Class;
 use dg_world::{Answer, Question, TestId};
 use std::alloc::{AllocError, Global};
-use std::test::Fail;
 use std::thread;
+use std::thread::Threads;
 
 /// A job that has just begun, of the script t/a.exp.
 fn begun(alloc: Global) -> Result<Job, AllocError> {
@@ -87,37 +89,44 @@ fn goes_on_to_its_end(alloc: Global, job: &mut Job, script: Bytes, who: Bytes) -
         && ends_with_pass(alloc, job, b"Ada")
 }
 
-#[test]
-fn a_new_job_has_asked_nothing(rt: HostRuntime) -> Result<(), Fail> {
-    let mut job = begun(rt.alloc())?;
-    assert!(rt; job.answer(Answer::Absent) == Err(JobFault::NotAsked));
-    Ok(())
-}
-
-#[test]
-fn a_question_stands_until_it_has_an_answer_of_its_kind(rt: HostRuntime) -> Result<(), Fail> {
-    let alloc = rt.alloc();
+/// Whether a new job has asked nothing.
+fn has_asked_nothing(alloc: Global) -> Result<bool, AllocError> {
     let mut job = begun(alloc)?;
-    assert!(rt; asks_for_file(alloc, &mut job, b"boards/unix.exp"));
-    let triplet = Triplet::new(alloc, b"x86_64-pc-linux-gnu")?;
-    assert!(rt; job.answer(Answer::Triplet(triplet)) == Err(JobFault::WrongKind));
-    assert!(rt; asks_for_file(alloc, &mut job, b"boards/unix.exp"));
-    Ok(())
+    Ok(job.answer(Answer::Absent) == Err(JobFault::NotAsked))
 }
 
-#[test]
-fn a_job_ends_once(rt: HostRuntime) -> Result<(), Fail> {
-    let alloc = rt.alloc();
+/// Whether a question stands until it has an answer of its kind.
+fn stands_until_answered(alloc: Global) -> Result<bool, AllocError> {
+    let mut job = begun(alloc)?;
+    let triplet = match Triplet::new(alloc, b"x86_64-pc-linux-gnu") {
+        Ok(triplet) => triplet,
+        Err(_) => return Err(AllocError),
+    };
+    Ok(
+        asks_for_file(alloc, &mut job, b"boards/unix.exp")
+            && job.answer(Answer::Triplet(triplet)) == Err(JobFault::WrongKind)
+            && asks_for_file(alloc, &mut job, b"boards/unix.exp"),
+    )
+}
+
+/// Whether a job that is at its end stays there.
+fn is_over(alloc: Global, job: &mut Job) -> bool {
+    job.steps() == 1
+        && matches!(job.advance(alloc), Err(JobFault::Failed))
+        && job.answer(Answer::Absent) == Err(JobFault::NotAsked)
+}
+
+/// Whether a job ends once.
+fn ends_once(alloc: Global) -> Result<bool, AllocError> {
     let mut job = begun(alloc)?;
     let tool = Bytes::from_slice(alloc, b"t")?;
-    assert!(rt; comes_to_its_script(alloc, &mut job, tool));
     let script = Bytes::from_slice(alloc, b"pass $who")?;
     let who = Bytes::from_slice(alloc, b"Ada")?;
-    assert!(rt; goes_on_to_its_end(alloc, &mut job, script, who));
-    assert_eq!(rt; job.steps(), 1);
-    assert!(rt; matches!(job.advance(alloc), Err(JobFault::Failed)));
-    assert!(rt; job.answer(Answer::Absent) == Err(JobFault::NotAsked));
-    Ok(())
+    Ok(
+        comes_to_its_script(alloc, &mut job, tool)
+            && goes_on_to_its_end(alloc, &mut job, script, who)
+            && is_over(alloc, &mut job),
+    )
 }
 
 /// The job, if its next turn asks for the board's file.
@@ -135,17 +144,17 @@ fn is_told_to_its_end(alloc: Global, mut job: Job, tool: Bytes, script: Bytes) -
         && ends_with_pass(alloc, &mut job, b"one")
 }
 
-#[test]
-fn a_job_goes_to_another_thread(rt: HostRuntime) -> Result<(), Fail> {
-    let alloc = rt.alloc();
+/// Whether a job asks in one thread, and is told in another.
+fn goes_to_another_thread(rt: &impl Threads, alloc: Global) -> Result<bool, AllocError> {
     let begun = begun(alloc)?;
     let tool = Bytes::from_slice(alloc, b"t")?;
     let script = Bytes::from_slice(alloc, b"pass one")?;
-    let asker = thread::spawn(&rt, move || at_its_first_question(alloc, begun))?;
-    let asked = asker.join(&rt).ok_or("no question")?;
-    let teller = thread::spawn(&rt, move || is_told_to_its_end(alloc, asked, tool, script))?;
-    assert!(rt; teller.join(&rt));
-    Ok(())
+    let asker = thread::spawn(rt, move || at_its_first_question(alloc, begun))?;
+    let Some(asked) = asker.join(rt) else {
+        return Ok(false);
+    };
+    let teller = thread::spawn(rt, move || is_told_to_its_end(alloc, asked, tool, script))?;
+    Ok(teller.join(rt))
 }
 
 /// Whether the next turn asks how this pattern is read.
@@ -156,52 +165,58 @@ fn asks_for_pattern(alloc: Global, job: &mut Job, wanted: &[u8]) -> bool {
     }
 }
 
-#[test]
-fn a_pattern_that_cannot_be_built_is_lost(rt: HostRuntime) -> Result<(), Fail> {
-    let alloc = rt.alloc();
+/// Whether a job that was told that a pattern is read, where it can't be built, ends for good.
+fn loses_its_pattern(alloc: Global, job: &mut Job) -> bool {
+    asks_for_pattern(alloc, job, b"(")
+        && job.answer(Answer::Reading(Reading::Read)).is_ok()
+        && matches!(job.advance(alloc), Err(JobFault::PatternLost))
+        && matches!(job.advance(alloc), Err(JobFault::Failed))
+}
+
+/// Whether a pattern that cannot be built is lost.
+fn tells_a_lost_pattern(alloc: Global) -> Result<bool, AllocError> {
     let mut job = begun(alloc)?;
     let tool = Bytes::from_slice(alloc, b"t")?;
-    assert!(rt; comes_to_its_script(alloc, &mut job, tool));
     let script = Bytes::from_slice(alloc, b"regexp ( a")?;
-    assert!(rt; job.answer(Answer::Content(script)).is_ok());
-    assert!(rt; asks_for_pattern(alloc, &mut job, b"("));
-    assert!(rt; job.answer(Answer::Reading(Reading::Read)).is_ok());
-    assert!(rt; matches!(job.advance(alloc), Err(JobFault::PatternLost)));
-    assert!(rt; matches!(job.advance(alloc), Err(JobFault::Failed)));
-    Ok(())
+    Ok(
+        comes_to_its_script(alloc, &mut job, tool)
+            && job.answer(Answer::Content(script)).is_ok()
+            && loses_its_pattern(alloc, &mut job),
+    )
 }
 
-/// Takes all memory that there is, without writing to it.
-fn take_all(alloc: Global, blocks: &mut Vec<Vec<u8>>) {
-    let mut size = 1usize << 46;
-    for _ in 0..400_000u32 {
-        if size < 16 {
-            break;
-        }
-        match Vec::<u8>::with_capacity(alloc, size) {
-            Ok(block) => {
-                if blocks.push(block).is_err() {
-                    break;
-                }
-            }
-            Err(_) => size /= 2,
-        }
-    }
+/// Whether a job that was refused a growth stays failed.
+fn has_failed(alloc: Global, job: &mut Job) -> bool {
+    matches!(job.advance(alloc), Err(JobFault::Failed))
+        && job.answer(Answer::Absent) == Err(JobFault::Failed)
 }
 
-#[test]
-fn a_refused_growth_ends_a_job_for_good(rt: HostRuntime) -> Result<(), Fail> {
-    let alloc = rt.alloc();
+/// Whether a growth that is refused ends a job for good, where all memory is taken.
+fn fails_here(alloc: Global) -> Result<bool, AllocError> {
     let mut job = begun(alloc)?;
     let mut blocks: Vec<Vec<u8>> = Vec::with_capacity(alloc, 400_001)?;
     take_all(alloc, &mut blocks);
     let is_full = Vec::<u8>::with_capacity(alloc, 16).is_err();
     let is_refused = matches!(job.advance(alloc), Err(JobFault::Memory));
     blocks.clear();
-    assert!(rt; is_refused == is_full);
-    if is_refused {
-        assert!(rt; matches!(job.advance(alloc), Err(JobFault::Failed)));
-        assert!(rt; job.answer(Answer::Absent) == Err(JobFault::Failed));
-    }
-    Ok(())
+    Ok(is_refused == is_full && (!is_refused || has_failed(alloc, &mut job)))
+}
+
+/// The same in a thread, whose stack is there as a whole.
+pub fn fails_for_good(rt: &impl Threads, alloc: Global) -> Result<bool, AllocError> {
+    let thread = thread::spawn(rt, move || fails_here(alloc))?;
+    thread.join(rt)
+}
+
+/// Tries all cases.
+pub fn try_cases(rt: &(impl Print + Threads), alloc: Global) -> Tried<()> {
+    tell(rt, "a new job has asked nothing", has_asked_nothing(alloc))?;
+    tell(rt, "a question stands", stands_until_answered(alloc))?;
+    tell(rt, "a job ends once", ends_once(alloc))?;
+    tell(
+        rt,
+        "a job goes to another thread",
+        goes_to_another_thread(rt, alloc),
+    )?;
+    tell(rt, "a lost pattern", tells_a_lost_pattern(alloc))
 }
