@@ -52,4 +52,9 @@ impl Rounds {
         };
         *counted = counted.wrapping_add(1);
     }
+
+    /// Whether each was whole or short, and some were whole. Where all memory was taken some were short too.
+    pub(crate) fn are_right(&self, is_full: bool) -> bool {
+        self.others == 0 && self.whole > 0 && (!is_full || self.short > 0)
+    }
 }

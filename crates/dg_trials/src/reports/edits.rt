@@ -4,7 +4,6 @@ use dg_bytes::Bytes;
 use dg_core::Core;
 use dg_world::Edit;
 use std::alloc::{AllocError, Global};
-use std::test::Fail;
 
 /// Puts a script of a number below 100, and answers whether that was taken.
 fn put_numbered(
@@ -28,22 +27,36 @@ fn put_numbered(
     Ok(core.edit(alloc, Edit::PutFile(name, text)).is_ok())
 }
 
-#[test]
-fn an_edit_compares_what_it_touches(rt: HostRuntime) -> Result<(), Fail> {
-    let alloc = rt.alloc();
-    let mut core = Core::new(alloc)?;
+/// Puts a hundred scripts, and answers whether all were taken.
+fn put_hundred(alloc: Global, core: &mut Core) -> Result<bool, AllocError> {
     for number in 0..100_u8 {
-        assert!(rt; put_numbered(alloc, &mut core, number, b"pass x\n")?);
+        if !put_numbered(alloc, core, number, b"pass x\n")? {
+            return Ok(false);
+        }
     }
-    assert_eq!(rt; core.compared(), 0);
+    Ok(true)
+}
+
+/// Whether an edit of one script among a hundred compares one record more, and leaves one evaluation to be made.
+pub fn compares_what_it_touches(alloc: Global) -> Result<bool, AllocError> {
+    let mut core = Core::new(alloc)?;
+    let are_put = put_hundred(alloc, &mut core)?;
+    let is_new = core.compared() == 0;
     let _first = settled(alloc, &mut core)?;
-    assert_eq!(rt; core.evaluations(), 100);
+    let are_judged = core.evaluations() == 100;
     let one_more = core.compared().wrapping_add(1);
-    assert!(rt; put_numbered(alloc, &mut core, 7, b"pass y\n")?);
-    assert_eq!(rt; core.compared(), one_more);
+    let is_edited = put_numbered(alloc, &mut core, 7, b"pass y\n")?;
+    let is_compared = core.compared() == one_more;
     let _reply = core.report(alloc)?;
-    assert_eq!(rt; core.compared(), one_more);
+    let is_left = core.compared() == one_more;
     let _second = settled(alloc, &mut core)?;
-    assert_eq!(rt; core.evaluations(), 101);
-    Ok(())
+    Ok(
+        are_put
+            && is_new
+            && are_judged
+            && is_edited
+            && is_compared
+            && is_left
+            && core.evaluations() == 101,
+    )
 }

@@ -1,10 +1,12 @@
 //! Growths that are refused, one after another.
-use super::{PASSED, core_with};
+use super::core_with;
 use crate::memory::{ROOM, ROUNDS, Rounds, take_all};
+use crate::wanted::PASSED;
 use dg_bytes::Bytes;
 use dg_core::{Core, CoreFault};
-use std::alloc::Global;
-use std::test::Fail;
+use std::alloc::{AllocError, Global};
+use std::thread;
+use std::thread::Threads;
 
 /// Whether a report is that of a passing script; nothing where it is another.
 fn is_passed(text: &Bytes, status: u8) -> Option<bool> {
@@ -37,9 +39,8 @@ fn round(alloc: Global, pad: usize) -> Option<bool> {
     if is_right { first } else { None }
 }
 
-#[test]
-fn a_refused_growth_is_told(rt: HostRuntime) -> Result<(), Fail> {
-    let alloc = rt.alloc();
+/// Whether each refused growth is told, where all memory but a block is taken and ever more of that block is left.
+fn are_told_here(alloc: Global) -> Result<bool, AllocError> {
     let mut rounds = Rounds::new();
     let mut blocks: Vec<Vec<u8>> = Vec::with_capacity(alloc, 400_001)?;
     let room = Vec::<u8>::with_capacity(alloc, ROOM)?;
@@ -50,8 +51,11 @@ fn a_refused_growth_is_told(rt: HostRuntime) -> Result<(), Fail> {
         rounds.count(round(alloc, ROOM - 16 * step));
     }
     blocks.clear();
-    assert_eq!(rt; rounds.others, 0);
-    assert!(rt; rounds.whole > 0);
-    assert!(rt; !is_full || rounds.short > 0);
-    Ok(())
+    Ok(rounds.are_right(is_full))
+}
+
+/// The same in a thread, whose stack is there as a whole: that of the first thread can't grow once all memory is taken.
+pub fn are_told(rt: &impl Threads, alloc: Global) -> Result<bool, AllocError> {
+    let thread = thread::spawn(rt, move || are_told_here(alloc))?;
+    thread.join(rt)
 }

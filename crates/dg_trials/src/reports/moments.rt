@@ -7,7 +7,6 @@ use dg_eval::{Job, Turn};
 use dg_records::Record;
 use dg_world::{Edit, Question, TestId};
 use std::alloc::{AllocError, Global};
-use std::test::Fail;
 
 /// A script that shows what two libraries set.
 const SHOWS: &[u8] = b"load_lib a.exp\nload_lib b.exp\npass $A$B\n";
@@ -51,17 +50,15 @@ fn has_line(reply: &Reply, wanted: &[u8]) -> bool {
     }
 }
 
-#[test]
-fn a_record_of_two_moments_waits_for_both(rt: HostRuntime) -> Result<(), Fail> {
-    let alloc = rt.alloc();
+/// Whether a record whose answers are of two moments is pending until all that it read is there again.
+pub fn waits_for_both(alloc: Global) -> Result<bool, AllocError> {
     let mut core = core_with(alloc, SHOWS)?;
-    assert!(rt; sets(alloc, &mut core, b"lib/a.exp", b"set A 1\n")?);
-    assert!(rt; sets(alloc, &mut core, b"lib/b.exp", b"set B 1\n")?);
+    let is_first = sets(alloc, &mut core, b"lib/a.exp", b"set A 1\n")?;
+    let is_second = sets(alloc, &mut core, b"lib/b.exp", b"set B 1\n")?;
     let mixed = judged_meanwhile(alloc, &mut core)?;
-    assert!(rt; core.commit(alloc, mixed).is_ok());
-    assert!(rt; is_pending(&core.report(alloc)?));
-    assert!(rt; sets(alloc, &mut core, b"lib/a.exp", b"set A 1\n")?);
-    assert!(rt; has_line(&core.report(alloc)?, b"PASS: 12"));
-    assert_eq!(rt; core.evaluations(), 0);
-    Ok(())
+    let is_kept = core.commit(alloc, mixed).is_ok();
+    let waits = is_pending(&core.report(alloc)?);
+    let is_back = sets(alloc, &mut core, b"lib/a.exp", b"set A 1\n")?;
+    let is_told = has_line(&core.report(alloc)?, b"PASS: 12");
+    Ok(is_first && is_second && is_kept && waits && is_back && is_told && core.evaluations() == 0)
 }

@@ -1,5 +1,6 @@
 //! Patterns that are asked of a core, and reports beside them.
-use super::{PASSED, core_with, settled};
+use super::{core_with, settled};
+use crate::wanted::PASSED;
 use dg_bytes::Bytes;
 use dg_core::{Core, Reply};
 use dg_eval::{Job, Turn};
@@ -7,7 +8,6 @@ use dg_match::Reading;
 use dg_records::Record;
 use dg_world::{Answer, Question, TestId};
 use std::alloc::{AllocError, Global};
-use std::test::Fail;
 
 /// A script whose verdict rests on a pattern.
 const SEARCHES: &[u8] = b"if {[regexp {o(.)e} one]} {pass \"one\"}\n";
@@ -48,19 +48,18 @@ fn judged_elsewhere(alloc: Global) -> Result<Record, AllocError> {
     Err(AllocError)
 }
 
-#[test]
-fn a_pattern_keeps_its_first_answer(rt: HostRuntime) -> Result<(), Fail> {
-    let alloc = rt.alloc();
+/// Whether patterns are read as at first, each time that they are asked for, and none before.
+pub fn keeps_its_first_answer(alloc: Global) -> Result<bool, AllocError> {
     let mut core = Core::new(alloc)?;
     let read = Question::Pattern(Bytes::from_slice(alloc, b"b(.)")?);
     let none = Question::Pattern(Bytes::from_slice(alloc, b"(")?);
-    assert!(rt; core.answer(alloc, &read)?.is_none());
-    assert!(rt; core.ask(alloc, &read)? == Answer::Reading(Reading::Read));
-    assert!(rt; core.ask(alloc, &none)? == Answer::Reading(Reading::Syntax));
-    assert!(rt; core.ask(alloc, &read)? == Answer::Reading(Reading::Read));
-    assert!(rt; core.ask(alloc, &none)? == Answer::Reading(Reading::Syntax));
-    assert!(rt; core.answer(alloc, &read)? == Some(Answer::Reading(Reading::Read)));
-    Ok(())
+    let is_new = core.answer(alloc, &read)?.is_none();
+    let first = core.ask(alloc, &read)? == Answer::Reading(Reading::Read)
+        && core.ask(alloc, &none)? == Answer::Reading(Reading::Syntax);
+    let again = core.ask(alloc, &read)? == Answer::Reading(Reading::Read)
+        && core.ask(alloc, &none)? == Answer::Reading(Reading::Syntax);
+    let is_held = core.answer(alloc, &read)? == Some(Answer::Reading(Reading::Read));
+    Ok(is_new && first && again && is_held)
 }
 
 /// Whether a report names just the one script as pending.
@@ -85,41 +84,34 @@ fn is_passed(reply: &Reply) -> bool {
     }
 }
 
-#[test]
-fn a_report_evaluates_nothing(rt: HostRuntime) -> Result<(), Fail> {
-    let alloc = rt.alloc();
+/// Whether reports evaluate nothing, before and after the script was judged.
+pub fn evaluates_nothing(alloc: Global) -> Result<bool, AllocError> {
     let mut core = core_with(alloc, b"pass \"one\"\n")?;
-    assert!(rt; is_pending(&core.report(alloc)?));
-    assert_eq!(rt; core.evaluations(), 0);
+    let was_pending = is_pending(&core.report(alloc)?) && core.evaluations() == 0;
     let _sum = settled(alloc, &mut core)?;
-    assert_eq!(rt; core.evaluations(), 1);
-    assert!(rt; is_passed(&core.report(alloc)?));
-    assert_eq!(rt; core.evaluations(), 1);
-    Ok(())
+    let is_judged = core.evaluations() == 1;
+    let is_told = is_passed(&core.report(alloc)?) && core.evaluations() == 1;
+    Ok(was_pending && is_judged && is_told)
 }
 
-#[test]
-fn a_new_pattern_leaves_what_is_held(rt: HostRuntime) -> Result<(), Fail> {
-    let alloc = rt.alloc();
+/// Whether a question for a new pattern leaves the record as it was.
+pub fn leaves_what_is_held(alloc: Global) -> Result<bool, AllocError> {
     let mut core = core_with(alloc, b"pass \"one\"\n")?;
     let _sum = settled(alloc, &mut core)?;
     let pattern = Question::Pattern(Bytes::from_slice(alloc, b"b(.)")?);
     let _answer = core.ask(alloc, &pattern)?;
-    assert!(rt; is_passed(&core.report(alloc)?));
+    let is_told = is_passed(&core.report(alloc)?);
     let _again = settled(alloc, &mut core)?;
-    assert_eq!(rt; core.evaluations(), 1);
-    Ok(())
+    Ok(is_told && core.evaluations() == 1)
 }
 
-#[test]
-fn a_record_of_another_book_waits_for_its_pattern(rt: HostRuntime) -> Result<(), Fail> {
-    let alloc = rt.alloc();
+/// Whether a record that was judged in another world is pending until its pattern was asked for.
+pub fn waits_for_its_pattern(alloc: Global) -> Result<bool, AllocError> {
     let mut core = core_with(alloc, SEARCHES)?;
-    assert!(rt; core.commit(alloc, judged_elsewhere(alloc)?).is_ok());
-    assert!(rt; is_pending(&core.report(alloc)?));
+    let is_kept = core.commit(alloc, judged_elsewhere(alloc)?).is_ok();
+    let waits = is_pending(&core.report(alloc)?);
     let pattern = Question::Pattern(Bytes::from_slice(alloc, b"o(.)e")?);
-    assert!(rt; core.ask(alloc, &pattern)? == Answer::Reading(Reading::Read));
-    assert!(rt; is_passed(&core.report(alloc)?));
-    assert_eq!(rt; core.evaluations(), 0);
-    Ok(())
+    let is_read = core.ask(alloc, &pattern)? == Answer::Reading(Reading::Read);
+    let is_told = is_passed(&core.report(alloc)?);
+    Ok(is_kept && waits && is_read && is_told && core.evaluations() == 0)
 }

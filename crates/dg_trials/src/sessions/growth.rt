@@ -3,8 +3,9 @@ use super::streams::{Front, Pieces};
 use crate::memory::{ROOM, ROUNDS, Rounds, take_all};
 use dg_core::Core;
 use dg_session::{SessionFault, run_session};
-use std::alloc::Global;
-use std::test::Fail;
+use std::alloc::{AllocError, Global};
+use std::thread;
+use std::thread::Threads;
 
 const INPUT: &[u8] = b"put t/a.exp 7061737320226f6e65220a\nreport\nput ../x -\nreport\n";
 
@@ -108,9 +109,8 @@ fn sessions(alloc: Global, mut held: Vec<u8>) -> Rounds {
     rounds
 }
 
-#[test]
-fn a_refused_growth_is_told(rt: HostRuntime) -> Result<(), Fail> {
-    let alloc = rt.alloc();
+/// Whether each refused growth is told, where all memory but a block is taken and ever more of that block is left.
+fn are_told_here(alloc: Global) -> Result<bool, AllocError> {
     let held = Vec::<u8>::with_capacity(alloc, 4096)?;
     let mut blocks: Vec<Vec<u8>> = Vec::with_capacity(alloc, 400_001)?;
     let room = Vec::<u8>::with_capacity(alloc, ROOM)?;
@@ -119,8 +119,11 @@ fn a_refused_growth_is_told(rt: HostRuntime) -> Result<(), Fail> {
     drop(room);
     let rounds = sessions(alloc, held);
     blocks.clear();
-    assert_eq!(rt; rounds.others, 0);
-    assert!(rt; rounds.whole > 0);
-    assert!(rt; !is_full || rounds.short > 0);
-    Ok(())
+    Ok(rounds.are_right(is_full))
+}
+
+/// The same in a thread, whose stack is there as a whole: that of the first thread can't grow once all memory is taken.
+pub fn are_told(rt: &impl Threads, alloc: Global) -> Result<bool, AllocError> {
+    let thread = thread::spawn(rt, move || are_told_here(alloc))?;
+    thread.join(rt)
 }

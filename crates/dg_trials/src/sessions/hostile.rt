@@ -1,7 +1,6 @@
 //! Scripts as long as a file may be, which nest as deep as they can: each ends in the lines of an error.
 use super::whole::answered;
 use std::alloc::{AllocError, Global};
-use std::test::Fail;
 
 /// How many brackets or braces fill a file.
 const OPENINGS: usize = 1_048_576;
@@ -27,29 +26,26 @@ fn nested(
     Ok(input)
 }
 
-#[test]
-fn brackets(rt: HostRuntime) -> Result<(), Fail> {
-    let input = nested(rt.alloc(), b"5b", b"", OPENINGS)?;
+/// Whether open brackets, as many as a file can have, are told as an error.
+pub fn brackets(alloc: Global) -> Result<bool, AllocError> {
+    let input = nested(alloc, b"5b", b"", OPENINGS)?;
     let wanted: &[u8] =
         b"ok\nsum 1 263 1\n\t\t=== t tests ===\n\nSchedule of variations:\n    unix\n\nRunning target unix\nRunning t/a.exp ...\nERROR: tcl error sourcing t/a.exp.\nERROR: missing close-bracket\nUNRESOLVED: testcase 't/a.exp' aborted due to Tcl error\n\n\t\t=== t Summary ===\n\n# of unresolved testcases\t1\n";
-    assert!(rt; answered(rt.alloc(), input.as_slice())?.as_slice() == wanted);
-    Ok(())
+    Ok(answered(alloc, input.as_slice())?.as_slice() == wanted)
 }
 
-#[test]
-fn braces(rt: HostRuntime) -> Result<(), Fail> {
-    let input = nested(rt.alloc(), b"7b", b"", OPENINGS)?;
+/// The same of open braces.
+pub fn braces(alloc: Global) -> Result<bool, AllocError> {
+    let input = nested(alloc, b"7b", b"", OPENINGS)?;
     let wanted: &[u8] =
         b"ok\nsum 1 261 1\n\t\t=== t tests ===\n\nSchedule of variations:\n    unix\n\nRunning target unix\nRunning t/a.exp ...\nERROR: tcl error sourcing t/a.exp.\nERROR: missing close-brace\nUNRESOLVED: testcase 't/a.exp' aborted due to Tcl error\n\n\t\t=== t Summary ===\n\n# of unresolved testcases\t1\n";
-    assert!(rt; answered(rt.alloc(), input.as_slice())?.as_slice() == wanted);
-    Ok(())
+    Ok(answered(alloc, input.as_slice())?.as_slice() == wanted)
 }
 
-#[test]
-fn ifs(rt: HostRuntime) -> Result<(), Fail> {
-    let input = nested(rt.alloc(), b"6966207b317d207b", b"7d", IFS)?;
+/// The same of conditions within one another, which end.
+pub fn ifs(alloc: Global) -> Result<bool, AllocError> {
+    let input = nested(alloc, b"6966207b317d207b", b"7d", IFS)?;
     let wanted: &[u8] =
         b"ok\nsum 1 269 1\n\t\t=== t tests ===\n\nSchedule of variations:\n    unix\n\nRunning target unix\nRunning t/a.exp ...\nERROR: tcl error sourcing t/a.exp.\nERROR: too many nested evaluations\nUNRESOLVED: testcase 't/a.exp' aborted due to Tcl error\n\n\t\t=== t Summary ===\n\n# of unresolved testcases\t1\n";
-    assert!(rt; answered(rt.alloc(), input.as_slice())?.as_slice() == wanted);
-    Ok(())
+    Ok(answered(alloc, input.as_slice())?.as_slice() == wanted)
 }

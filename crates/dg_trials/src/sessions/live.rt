@@ -1,16 +1,18 @@
 //! Growths that are refused in a live run, and where it is kept.
+use crate::live::desk::Desk;
 use crate::memory::{ROOM, ROUNDS, Rounds, take_all};
 use dg_bytes::Bytes;
 use dg_core::{Core, Reply as Told};
 use dg_eval::JobFault;
-use dg_gate::{AskFault, Asker, Ended, Piece, Reply, ScriptGate};
+use dg_gate::{AskFault, Ended, Piece, Reply, ScriptGate};
 use dg_live::{LiveFault, run_live};
 use dg_records::Record;
 use dg_transcript::{Transcript, encode};
-use dg_world::{Answer, Edit, Question, Refusal, TestId};
+use dg_world::{Edit, Refusal, TestId};
 use std::alloc::{AllocError, Global};
 use std::collections::VecDeque;
-use std::test::Fail;
+use std::thread;
+use std::thread::Threads;
 
 /// Starts a child, talks to it, and ends it.
 const SCRIPT: &[u8] =
@@ -40,31 +42,6 @@ enum Short {
 impl From<AllocError> for Short {
     fn from(_e: AllocError) -> Short {
         Short::Memory
-    }
-}
-
-/// A core with the script, which answers what the run asks of it.
-struct Desk {
-    alloc: Global,
-    core: Core,
-}
-
-impl Drop for Desk {
-    fn drop(self) {
-        let Desk { alloc: _, core: _ } = self;
-    }
-}
-
-impl Asker for Desk {
-    ghost use Rattle.dg_core.specs.Core.{IsAskedOf};
-
-    ghost step = { λ before question answer after. IsAskedOf before.core after.core question answer };
-
-    fn ask(&mut self, question: &Question) -> Result<Answer, AskFault> {
-        match self.core.ask(self.alloc, question) {
-            Ok(answer) => Ok(answer),
-            Err(_) => Err(AskFault::Memory),
-        }
     }
 }
 
@@ -200,9 +177,8 @@ fn runs(alloc: Global) -> Rounds {
     rounds
 }
 
-#[test]
-fn a_refused_growth_of_a_run_is_told(rt: HostRuntime) -> Result<(), Fail> {
-    let alloc = rt.alloc();
+/// Whether each refused growth is told, where all memory but four blocks is taken and ever more of these is left.
+fn are_told_here(alloc: Global) -> Result<bool, AllocError> {
     let mut blocks: Vec<Vec<u8>> = Vec::with_capacity(alloc, 400_001)?;
     let first = Vec::<u8>::with_capacity(alloc, ROOM)?;
     let second = Vec::<u8>::with_capacity(alloc, ROOM)?;
@@ -216,8 +192,11 @@ fn a_refused_growth_of_a_run_is_told(rt: HostRuntime) -> Result<(), Fail> {
     drop(fourth);
     let rounds = runs(alloc);
     blocks.clear();
-    assert_eq!(rt; rounds.others, 0);
-    assert!(rt; rounds.whole > 0);
-    assert!(rt; !is_full || rounds.short > 0);
-    Ok(())
+    Ok(rounds.are_right(is_full))
+}
+
+/// The same in a thread, whose stack is there as a whole: that of the first thread can't grow once all memory is taken.
+pub fn are_told(rt: &impl Threads, alloc: Global) -> Result<bool, AllocError> {
+    let thread = thread::spawn(rt, move || are_told_here(alloc))?;
+    thread.join(rt)
 }

@@ -3,7 +3,6 @@ use super::streams::{Endless, Front, Pieces};
 use dg_core::Core;
 use dg_session::{SessionFault, run_session, serve};
 use std::alloc::{AllocError, Global};
-use std::test::Fail;
 
 const INPUT: &[u8] = b"put t/a.exp 7061737320226f6e65220a\nreport\nput ../x -\nreport\n";
 
@@ -50,40 +49,48 @@ pub fn answered(alloc: Global, input: &[u8]) -> Result<Vec<u8>, AllocError> {
     Ok(Vec::new(alloc))
 }
 
-#[test]
-fn answers_all(rt: HostRuntime) -> Result<(), Fail> {
+/// Whether this is the whole answer.
+fn is_whole(outcome: &Outcome) -> bool {
+    let (held, result) = outcome;
+    result.is_ok() && held.as_slice() == ANSWER
+}
+
+/// Whether this is the beginning of the answer, with this fault.
+fn is_cut(outcome: &Outcome, fault: SessionFault) -> bool {
+    let (held, result) = outcome;
+    *result == Err(fault) && ANSWER.starts_with(held.as_slice())
+}
+
+/// Whether a session answers all, however small the pieces are.
+pub fn answers_all(alloc: Global) -> Result<bool, AllocError> {
     for piece in 1..200usize {
-        let (held, result) = talk(rt.alloc(), INPUT, piece, 100_000, 100_000)?;
-        assert!(rt; result.is_ok());
-        assert!(rt; held.as_slice() == ANSWER);
+        if !is_whole(&talk(alloc, INPUT, piece, 100_000, 100_000)?) {
+            return Ok(false);
+        }
     }
-    Ok(())
+    Ok(true)
 }
 
-#[test]
-fn each_read_fails(rt: HostRuntime) -> Result<(), Fail> {
+/// Whether each read that fails is told, and what comes before it is answered.
+pub fn each_read_fails(alloc: Global) -> Result<bool, AllocError> {
     for reads in 0..READS {
-        let (held, result) = talk(rt.alloc(), INPUT, 3, reads, 100_000)?;
-        assert_eq!(rt; result, Err(SessionFault::ReadFault), "at {reads}");
-        assert!(rt; ANSWER.starts_with(held.as_slice()), "at {reads}");
+        let outcome = talk(alloc, INPUT, 3, reads, 100_000)?;
+        if !is_cut(&outcome, SessionFault::ReadFault) {
+            return Ok(false);
+        }
     }
-    let (held, result) = talk(rt.alloc(), INPUT, 3, READS, 100_000)?;
-    assert!(rt; result.is_ok());
-    assert!(rt; held.as_slice() == ANSWER);
-    Ok(())
+    Ok(is_whole(&talk(alloc, INPUT, 3, READS, 100_000)?))
 }
 
-#[test]
-fn each_write_fails(rt: HostRuntime) -> Result<(), Fail> {
+/// Whether each write that fails is told, and nothing is written behind it.
+pub fn each_write_fails(alloc: Global) -> Result<bool, AllocError> {
     for writes in 0..WRITES {
-        let (held, result) = talk(rt.alloc(), INPUT, 3, 100_000, writes)?;
-        assert_eq!(rt; result, Err(SessionFault::WriteFault), "at {writes}");
-        assert!(rt; ANSWER.starts_with(held.as_slice()), "at {writes}");
+        let outcome = talk(alloc, INPUT, 3, 100_000, writes)?;
+        if !is_cut(&outcome, SessionFault::WriteFault) {
+            return Ok(false);
+        }
     }
-    let (held, result) = talk(rt.alloc(), INPUT, 3, 100_000, WRITES)?;
-    assert!(rt; result.is_ok());
-    assert!(rt; held.as_slice() == ANSWER);
-    Ok(())
+    Ok(is_whole(&talk(alloc, INPUT, 3, 100_000, WRITES)?))
 }
 
 /// Serves an input with a limit, and gives what was written and how it ended.
@@ -99,29 +106,33 @@ fn serve_within(alloc: Global, input: &[u8], limit: usize) -> Result<Outcome, Al
     Ok((written, result))
 }
 
-#[test]
-fn the_limit(rt: HostRuntime) -> Result<(), Fail> {
-    let mut input = Vec::from_slice(rt.alloc(), b"remove a\n")?;
-    input.resize(1000, b'x')?;
-    let (held, result) = serve_within(rt.alloc(), input.as_slice(), 1000)?;
-    assert!(rt; result.is_ok());
-    assert!(rt; held.as_slice() == b"refused 4\nunknown\n".as_slice());
-    let (held, result) = serve_within(rt.alloc(), input.as_slice(), 999)?;
-    assert_eq!(rt; result, Err(SessionFault::TooLong));
-    assert!(rt; held.as_slice() == b"refused 4\n".as_slice());
-    input.push(b'\n')?;
-    let (held, result) = serve_within(rt.alloc(), input.as_slice(), 1000)?;
-    assert_eq!(rt; result, Err(SessionFault::TooLong));
-    assert!(rt; held.as_slice() == b"refused 4\n".as_slice());
-    Ok(())
+/// Whether these are the answers, and the end was this.
+fn is_answer(outcome: &Outcome, answers: &[u8], end: &Result<(), SessionFault>) -> bool {
+    let (held, result) = outcome;
+    *result == *end && held.as_slice() == answers
 }
 
-#[test]
-fn an_endless_line(rt: HostRuntime) -> Result<(), Fail> {
-    let mut written = Vec::new(rt.alloc());
-    let mut core = Core::new(rt.alloc())?;
-    let result = serve(rt.alloc(), &mut Endless, &mut written, &mut core, 100_000);
-    assert_eq!(rt; result, Err(SessionFault::TooLong));
-    assert!(rt; written.is_empty());
-    Ok(())
+/// Whether a line of 1,000 bytes is answered under a limit of as many, and one that is longer by a byte, with its end or without, is
+/// none.
+pub fn keeps_the_limit(alloc: Global) -> Result<bool, AllocError> {
+    let mut input = Vec::from_slice(alloc, b"remove a\n")?;
+    input.resize(1000, b'x')?;
+    let at_limit = serve_within(alloc, input.as_slice(), 1000)?;
+    let above = serve_within(alloc, input.as_slice(), 999)?;
+    input.push(b'\n')?;
+    let ended = serve_within(alloc, input.as_slice(), 1000)?;
+    let too_long = Err(SessionFault::TooLong);
+    Ok(
+        is_answer(&at_limit, b"refused 4\nunknown\n", &Ok(()))
+            && is_answer(&above, b"refused 4\n", &too_long)
+            && is_answer(&ended, b"refused 4\n", &too_long),
+    )
+}
+
+/// Whether a line with no end is none.
+pub fn ends_an_endless_line(alloc: Global) -> Result<bool, AllocError> {
+    let mut written = Vec::new(alloc);
+    let mut core = Core::new(alloc)?;
+    let result = serve(alloc, &mut Endless, &mut written, &mut core, 100_000);
+    Ok(result == Err(SessionFault::TooLong) && written.is_empty())
 }

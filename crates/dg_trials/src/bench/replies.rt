@@ -1,0 +1,83 @@
+//! What the cases share: edits, and what calls and replies are to be.
+use dg_bench::{Bench, Call, Pass, Room};
+use dg_bytes::Bytes;
+use dg_core::{Core, Reply};
+use dg_world::{Edit, Name, Question};
+use std::alloc::{AllocError, Global};
+use std::sync::Wait;
+
+/// The edit that puts a file.
+pub fn put(alloc: Global, name: &[u8], text: &[u8]) -> Result<Edit, AllocError> {
+    Ok(Edit::PutFile(
+        Bytes::from_slice(alloc, name)?,
+        Bytes::from_slice(alloc, text)?,
+    ))
+}
+
+/// A pass that has then seen that a file was put.
+pub fn put_on<B: Room, R: Wait>(
+    rt: &R,
+    alloc: Global,
+    bench: &Bench<B>,
+    pass: Pass<B>,
+    name: &[u8],
+    text: &[u8],
+) -> Option<Pass<B>> {
+    let edit = put(alloc, name, text).ok()?;
+    let (pass, _receipt) = bench.edit(rt, alloc, pass, edit).ok()?;
+    Some(pass)
+}
+
+/// The question for the file of this name.
+pub fn of_file(alloc: Global, name: &[u8]) -> Option<Question> {
+    Some(Question::File(Name::new(alloc, name).ok()?))
+}
+
+/// Whether a reply is this sum, of tests that all pass.
+pub fn is_sum(reply: &Reply, wanted: &[u8]) -> bool {
+    match reply {
+        Reply::Sum(text, status) => text.is(wanted) && *status == 0,
+        Reply::Pending(_) => false,
+    }
+}
+
+/// Whether these are the same call: of edits, asks and reports.
+pub fn are_same(one: &Call, other: &Call) -> bool {
+    match (one, other) {
+        (Call::Edit(one), Call::Edit(other)) => *one == *other,
+        (Call::Ask(one, said), Call::Ask(other, told)) => *one == *other && *said == *told,
+        (Call::Report(one), Call::Report(other)) => are_same_replies(one, other),
+        _ => false,
+    }
+}
+
+/// Whether these are the same sums, or of the same pending tests.
+pub fn are_same_replies(one: &Reply, other: &Reply) -> bool {
+    match (one, other) {
+        (Reply::Sum(one, status), Reply::Sum(other, also)) => *one == *other && *status == *also,
+        (Reply::Pending(one), Reply::Pending(other)) => one.as_slice() == other.as_slice(),
+        _ => false,
+    }
+}
+
+/// Whether a core accepts a call, with the reply that stands there.
+fn accepts(alloc: Global, core: &mut Core, call: &Call) -> Option<bool> {
+    Some(match call.copy(alloc).ok()? {
+        Call::Edit(edit) => core.edit(alloc, edit).is_ok(),
+        Call::Ask(question, said) => core.ask(alloc, &question).ok()? == said,
+        Call::Commit(record) => core.commit(alloc, record).is_ok(),
+        Call::Live(record, transcript) => core.commit_live(alloc, record, transcript).is_ok(),
+        Call::Report(reply) => are_same_replies(&core.report(alloc).ok()?, &reply),
+    })
+}
+
+/// Whether a new core accepts these calls, one after another, each with its reply.
+pub fn replays(alloc: Global, calls: &[Call]) -> Option<bool> {
+    let mut core = Core::new(alloc).ok()?;
+    for call in calls {
+        if !accepts(alloc, &mut core, call)? {
+            return Some(false);
+        }
+    }
+    Some(true)
+}

@@ -1,0 +1,146 @@
+//! Workers over stored worlds, and over gates that wait for nothing.
+use crate::bench::gates::{Deaf, Signal, Waiting};
+use crate::bench::replies::{is_sum, put_on};
+use crate::wanted::PASSED;
+use dg_bench::{Bench, Call, MakeGate, Pass, Room, Work, run_workers};
+use dg_bytes::Bytes;
+use dg_core::Reply;
+use dg_transcript::encode;
+use std::alloc::Global;
+use std::sync::Wait;
+use std::thread::Threads;
+use std::time::Clock;
+
+/// A script that passes once its child has written an `x`.
+const EXPECTS: &[u8] = b"spawn cat\nexpect x {pass one}\n";
+
+/// A pass that has then seen that so many such scripts were put: t/00.exp, t/01.exp, ..
+pub fn put_scripts<B: Room, R: Wait>(
+    rt: &R,
+    alloc: Global,
+    bench: &Bench<B>,
+    mut pass: Pass<B>,
+    count: u32,
+) -> Option<Pass<B>> {
+    for number in 0..count {
+        let name = format!(in alloc; "t/{number:02}.exp").ok()?;
+        pass = put_on(rt, alloc, bench, pass, name.as_bytes(), EXPECTS)?;
+    }
+    Some(pass)
+}
+
+/// How many passes a sum of status 0 has, if it is one.
+pub fn passes(reply: &Reply) -> Option<usize> {
+    match reply {
+        Reply::Sum(text, 0) => Some(
+            text.as_slice()
+                .split(|byte| *byte == b'\n')
+                .filter(|line| *line == b"PASS: one".as_slice())
+                .count(),
+        ),
+        _ => None,
+    }
+}
+
+/// Gates that wait for nothing.
+pub fn ready<'a, R: Clock>(rt: &'a R, alloc: Global, signal: &'a Signal) -> Waiting<'a, R> {
+    Waiting {
+        rt,
+        alloc,
+        started: signal,
+        awaited: signal,
+        wanted: 0,
+    }
+}
+
+/// Whether two workers judge the one test that is pending, and then report without a further call.
+pub fn rejudges<B: Room + Send + Sync, R: Threads + Wait + Clock + Sync>(
+    rt: &R,
+    alloc: Global,
+    bench: Bench<B>,
+) -> Option<bool> {
+    let signal = Signal::new();
+    let maker = ready(rt, alloc, &signal);
+    let pass = put_on(
+        rt,
+        alloc,
+        &bench,
+        bench.pass(),
+        b"t/a.exp",
+        b"pass \"one\"\n",
+    )?;
+    let (pass, sum) = run_workers(rt, alloc, &bench, pass, &maker, 2, Work::Rejudge).ok()?;
+    let seen = pass.seen();
+    let (pass, again) = run_workers(rt, alloc, &bench, pass, &maker, 2, Work::Rejudge).ok()?;
+    Some(is_sum(&sum, PASSED) && is_sum(&again, PASSED) && seen == 3 && pass.seen() == 4)
+}
+
+/// How many calls are live runs with one entry of a child's output.
+fn live_runs(calls: &[Call]) -> usize {
+    calls
+        .iter()
+        .filter(|call| matches!(call, Call::Live(_, _)))
+        .count()
+}
+
+/// Whether two workers run three tests live, and keep a transcript of each.
+pub fn runs_live<B: Room + Send + Sync, R: Threads + Wait + Clock + Sync>(
+    rt: &R,
+    alloc: Global,
+    bench: Bench<B>,
+) -> Option<bool> {
+    let signal = Signal::new();
+    let maker = ready(rt, alloc, &signal);
+    let pass = put_scripts(rt, alloc, &bench, bench.pass(), 3)?;
+    let (mut pass, reply) = run_workers(rt, alloc, &bench, pass, &maker, 2, Work::Live).ok()?;
+    let history = bench.into_history(&mut pass).ok()?;
+    Some(passes(&reply) == Some(3) && live_runs(history.calls()) == 3 && signal.raised() == 3)
+}
+
+/// A script that tells of a send that fails, and passes.
+const TELLS: &[u8] = b"spawn cat\nif {[catch {send a} m]} {note $m}\npass p\n";
+
+/// Its lines, and the transcript of a child that reads nothing, written out by hand.
+const TOLD: &[u8] = b"NOTE: spawn id exp1 not open\nPASS: p\n";
+
+const DEAF: &[u8] = b"dejagnu-transcript 1\nsession 1\nstarted 636174\nnosend 3 61\ndone\n";
+
+/// Whether a sum has these lines, one behind the other.
+fn tells(reply: &Reply, lines: &[u8]) -> bool {
+    match reply {
+        Reply::Sum(text, 0) => text
+            .as_slice()
+            .windows(lines.len().max(1))
+            .any(|part| part == lines),
+        _ => false,
+    }
+}
+
+/// Whether the one live run among the calls has this transcript.
+fn has_transcript(alloc: Global, calls: &[Call], wanted: &[u8]) -> Option<bool> {
+    let mut found = false;
+    for call in calls {
+        if let Call::Live(_, transcript) = call {
+            found = encode(alloc, transcript).ok()?.is(wanted);
+        }
+    }
+    Some(found)
+}
+
+/// Whether workers keep the transcript of a call that failed, and judge again by it to the same lines.
+pub fn keeps_failures<B: Room + Send + Sync, R: Threads + Wait + Sync>(
+    rt: &R,
+    alloc: Global,
+    bench: Bench<B>,
+) -> Option<bool> {
+    let maker = Deaf { alloc };
+    let pass = put_on(rt, alloc, &bench, bench.pass(), b"t/a.exp", TELLS)?;
+    let (pass, live) = run_workers(rt, alloc, &bench, pass, &maker, 2, Work::Live).ok()?;
+    let mut text = Bytes::from_slice(alloc, TELLS).ok()?;
+    text.extend(b"# again\n").ok()?;
+    let pass = put_on(rt, alloc, &bench, pass, b"t/a.exp", text.as_slice())?;
+    let (mut pass, again) = run_workers(rt, alloc, &bench, pass, &maker, 2, Work::Rejudge).ok()?;
+    let history = bench.into_history(&mut pass).ok()?;
+    let is_kept = has_transcript(alloc, history.calls(), DEAF)?;
+    Some(is_kept && tells(&live, TOLD) && tells(&again, TOLD))
+}
