@@ -2,7 +2,7 @@
 #
 #     tclsh session.tcl STDIN STDOUT words.cases ..
 #
-# Both files begin with what stands in `first.session` and `first.answers`, and end with `last.session` and `last.answers`. A script is not put twice in turn. In a script a line
+# Both files begin with what stands in `first.session` and `first.answers`, and end with `last.session` and `last.answers`, `suites.session` and `suites.answers`. A script is not put twice in turn. In a script a line
 # `+++ NAME` begins the text of another file, which is put before it and removed after its report.
 source [file join [file dirname [info script]] cases.tcl]
 
@@ -86,7 +86,9 @@ foreach file [lrange $argv 2 end] {
         }
     }
 }
-puts -nonewline $input [read_bytes [file join $here last.session]]
-puts -nonewline $output [read_bytes [file join $here last.answers]]
+foreach part {last suites} {
+    puts -nonewline $input [read_bytes [file join $here $part.session]]
+    puts -nonewline $output [read_bytes [file join $here $part.answers]]
+}
 close $input
 close $output

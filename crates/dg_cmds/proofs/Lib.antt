@@ -5,4 +5,4 @@ pub mod AnswerLemmas
 pub mod RepeatLemmas
 pub mod FieldLemmas
 pub mod FormatLemmas
-pub mod UnknownLemmas
+pub mod MemoryLemmas

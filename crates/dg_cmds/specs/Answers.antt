@@ -1,5 +1,6 @@
 -- What a command gives for its words.
-use Rattle.std.specs.Prelude.{◌≡◌, ℕ, List, [], ◌∷◌, ◌++◌, length, nat_le, codes, Option, None, Some, Result, Ok, Err, MatchResult, ◌⊎◌, if◌then◌else◌}
+use Rattle.std.specs.Prelude.{◌≡◌, ℕ, List, [], ◌∷◌, ◌++◌, length, nat_eq, nat_le, codes, Option, None, Some, Result, Ok, Err, MatchOption, MatchResult, ◌≢◌, ◌⊎◌, if◌then◌else◌}
+use Rattle.std.specs.Cmp.Lexicographic.{pointwise}
 use Rattle.std.specs.Fmt.{decimal}
 use Rattle.dg_cmds.specs.declared.fault.CmdFault.{CmdFault}
 use Rattle.dg_cmds.specs.declared.fault.CmdFault.TheVariants.{Tcl, TooLong, Memory}
@@ -11,6 +12,19 @@ Answer = Result (List ℕ) CmdFault
 -- What a function returned is what there is to give, unless memory ran out.
 abbrev pub Gives : {X : Type 0} → Result X CmdFault → Result X CmdFault → Type 0
 Gives r a = MatchResult r (λ x. a ≡ Ok x) (λ f. (f ≡ Memory) ⊎ (a ≡ Err f))
+
+-- What a function returned is what the command of a name gives, or None exactly where no command has the name.
+abbrev pub GivesIfNamed : {X : Type 0} → Option (Result X CmdFault) → Option (Result X CmdFault) → Type 0
+GivesIfNamed r a = MatchOption r (a ≡ None) (λ given. MatchResult given (λ x. a ≡ Some (Ok x)) (λ f. ((f ≡ Memory) × (a ≢ None)) ⊎ (a ≡ Some (Err f))))
+
+-- what a command gives, by the words behind its name
+abbrev pub Command : Type 0
+Command = List (List ℕ) → Answer
+
+-- what the first command of a table gives that has a name; None where none has
+abbrev pub given_by : List (List ℕ × Command) → List ℕ → List (List ℕ) → Option Answer
+given_by [] name words = None
+given_by (row ∷ rows) name words = if pointwise nat_eq name row.0 then Some (row.1 words) else given_by rows name words
 
 infixl 10 ◌>>=◌
 -- what is made of a value, if there is one

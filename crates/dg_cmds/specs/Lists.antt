@@ -11,7 +11,7 @@ use Rattle.dg_cmds.specs.declared.fault.CmdFault.{CmdFault}
 use Rattle.dg_cmds.specs.declared.fault.CmdFault.TheVariants.{Tcl}
 use Rattle.dg_cmds.specs.declared.lists.Search.{Search}
 use Rattle.dg_cmds.specs.declared.lists.Search.TheVariants as kind
-use Rattle.dg_cmds.specs.Answers.{Answer, ◌>>=◌, failed, limited, place_text, quoted, wrong_count}
+use Rattle.dg_cmds.specs.Answers.{Answer, Command, ◌>>=◌, failed, limited, place_text, quoted, wrong_count}
 use Rattle.dg_cmds.specs.Bytes.{blanks, member, trimmed_left, trimmed_right}
 use Rattle.dg_cmds.specs.Indices.{part_of, read_index}
 use Rattle.dg_cmds.specs.Places.{glob_matches}
@@ -115,3 +115,9 @@ lindex_of args = wrong_count (codes "lindex")
 abbrev pub lrange_of : List (List ℕ) → Answer
 lrange_of (l ∷ i ∷ j ∷ []) = read_list l >>= λ xs. read_index i >>= λ first. read_index j >>= λ last. limited (text_of_list (part_of first last xs))
 lrange_of args = wrong_count (codes "lrange")
+
+-- the list commands by their names
+abbrev pub list_commands : List (List ℕ × Command)
+list_commands =
+    (codes "list", list_of) ∷ (codes "llength", llength_of) ∷ (codes "lindex", lindex_of) ∷ (codes "lrange", lrange_of)
+    ∷ (codes "concat", concat_of) ∷ (codes "join", join_of) ∷ (codes "split", split_of) ∷ (codes "lsearch", lsearch_of) ∷ []

@@ -6,9 +6,6 @@ use thiserror::Error;
 /// Why a command gives no value.
 #[derive(Debug, Drop, Error)]
 pub enum CmdFault {
-    /// No string, list or format command has this name.
-    #[error("unknown command")]
-    Unknown,
     /// The script error with this message.
     #[error("script error {0:?}")]
     Tcl(Bytes),

@@ -2,9 +2,9 @@
 ghost use Rattle.std.specs.Prelude.{◌≡◌, IfOk, [], ◌∷◌, ◌++◌, filter, map, position};
 ghost use Rattle.std.specs.List.{flat_map, slice_split};
 ghost use Rattle.dg_words.specs.Canonical.{text_of_list};
-ghost use Rattle.dg_cmds.specs.Answers.{Adds, Gives, limited};
+ghost use Rattle.dg_cmds.specs.Answers.{Adds, Gives, GivesIfNamed, given_by, limited};
 ghost use Rattle.dg_cmds.specs.Bytes.{member};
-ghost use Rattle.dg_cmds.specs.Lists.{concat_of, count_of, element_at, is_some_text, join_of, joined, lindex_of, list_of, llength_of, lrange_of, lsearch_of, parts_of, passes, read_list, search_named, search_of, split_of, without_blanks};
+ghost use Rattle.dg_cmds.specs.Lists.{concat_of, count_of, element_at, is_some_text, join_of, joined, lindex_of, list_commands, list_of, llength_of, lrange_of, lsearch_of, parts_of, passes, read_list, search_named, search_of, split_of, without_blanks};
 
 use crate::answer::{LONGEST, add, fail, fail_about, give, give_count, give_place, wrong_count};
 use crate::bytes::{BLANKS, set_of, trimmed_left, trimmed_right};
@@ -136,8 +136,12 @@ fn joined(alloc: Global, texts: &[Bytes], between: &[u8]) -> Result<Bytes, CmdFa
     }
 }
 
-/// `concat`: the words without blanks at their ends, with a space between each two.
-pub(crate) fn concat(alloc: Global, args: &[Bytes]) -> Result<Bytes, CmdFault>
+/// `concat`: the words without blanks at their ends, but for those that are empty then, with a space between
+/// each two, by concat(n).
+///
+/// # Errors
+/// `TooLong` for a value of more than 1,048,576 bytes; `Memory` where a growth is refused.
+pub fn concat(alloc: Global, args: &[Bytes]) -> Result<Bytes, CmdFault>
     ensures { Gives result (concat_of args.now) }
 {
     let words = bare_words(alloc, args)?;
@@ -333,4 +337,34 @@ pub(crate) fn lrange(alloc: Global, args: &[Bytes]) -> Result<Bytes, CmdFault>
     let first = read_index(alloc, first)?;
     let last = read_index(alloc, last)?;
     give_list(alloc, part(elements.as_slice(), first, last))
+}
+
+/// What the list command of this name gives for the words behind it. None where no list command has the
+/// name.
+pub(crate) fn run_list(
+    alloc: Global,
+    name: &[u8],
+    words: &[Bytes],
+) -> Option<Result<Bytes, CmdFault>>
+    ensures { GivesIfNamed result (given_by list_commands name.now words.now) }
+{
+    if name == b"list".as_slice() {
+        Some(list(alloc, words))
+    } else if name == b"llength".as_slice() {
+        Some(llength(alloc, words))
+    } else if name == b"lindex".as_slice() {
+        Some(lindex(alloc, words))
+    } else if name == b"lrange".as_slice() {
+        Some(lrange(alloc, words))
+    } else if name == b"concat".as_slice() {
+        Some(concat(alloc, words))
+    } else if name == b"join".as_slice() {
+        Some(join(alloc, words))
+    } else if name == b"split".as_slice() {
+        Some(split(alloc, words))
+    } else if name == b"lsearch".as_slice() {
+        Some(lsearch(alloc, words))
+    } else {
+        None
+    }
 }

@@ -47,7 +47,7 @@ fn fault_message(
         ExprFault::DivideByZero => Bytes::from_slice(alloc, b"divide by zero"),
         ExprFault::TooLarge => Bytes::from_slice(alloc, b"integer value too large to represent"),
         ExprFault::NotTruth => with_quoted(alloc, b"expected boolean value but got ", left),
-        ExprFault::Memory => Bytes::from_slice(alloc, b"out of memory"),
+        ExprFault::Memory => Err(AllocError),
         ExprFault::NegativeShift => Bytes::from_slice(alloc, b"negative shift argument"),
         ExprFault::BadList(fault) => Bytes::from_slice(alloc, fault_text(fault)),
     }

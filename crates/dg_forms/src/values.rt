@@ -7,7 +7,7 @@ ghost use Rattle.dg_words.specs.Canonical.{text_of_list};
 ghost use Rattle.dg_language.specs.Variables.{cannot_read, cannot_unset, expected_integer};
 
 use dg_bytes::{Bytes, Seq};
-use dg_cmds::{CmdFault, run_pure};
+use dg_cmds::{CmdFault, concat};
 use dg_words::{WordFault, fault_text, list_elements, list_text, split_list};
 use std::alloc::{AllocError, Global};
 
@@ -126,13 +126,12 @@ pub fn text_of(alloc: Global, elements: &[Bytes]) -> Result<Bytes, AllocError>
 }
 
 /// Words as `concat` joins them, by concat(n), unless the text is too long.
-#[tactic(auto, unfolding(dg_cmds::specs::Commands::command_of))]
 pub fn concatenated(alloc: Global, words: &[Bytes]) -> Result<Option<Bytes>, AllocError>
     ensures { IfOk result (λ t. t ≡ text_in (concat_of words.now)) }
 {
-    match run_pure(alloc, b"concat", words) {
+    match concat(alloc, words) {
         Ok(text) => Ok(Some(text)),
         Err(CmdFault::Memory) => Err(AllocError),
-        Err(CmdFault::Unknown | CmdFault::Tcl(_) | CmdFault::TooLong) => Ok(None),
+        Err(CmdFault::Tcl(_) | CmdFault::TooLong) => Ok(None),
     }
 }

@@ -7,6 +7,7 @@ use Rattle.dg_transcript.specs.declared.cursor.Action.TheVariants as action
 use Rattle.dg_transcript.specs.declared.entry.Entry.{Entry}
 use Rattle.dg_transcript.specs.declared.entry.Entry.TheVariants as entry
 use Rattle.dg_transcript.specs.Step.{step, gone_on}
+use Rattle.dg_gate.specs.declared.reply.TheConstants.{MAX_CHUNK, MAX_SIGNAL}
 
 -- an entry that some answer makes of the action: of a send or a start with its own bytes or words,
 -- of a read within its limit, and a silence of the whole limit
@@ -15,14 +16,14 @@ Made (action.Spawn words) (entry.Started given) = given ≡ words
 Made (action.Spawn words) (entry.NoStart code given) = given ≡ words
 Made (action.Send bytes) (entry.Sent given) = given ≡ bytes
 Made (action.Send bytes) (entry.NoSend code given) = given ≡ bytes
-Made (action.Read limit) (entry.Chunk wait bytes) = (wait ≤ limit) × (1 ≤ length bytes) × (length bytes ≤ 4096)
+Made (action.Read limit) (entry.Chunk wait bytes) = (wait ≤ limit) × (1 ≤ length bytes) × (length bytes ≤ MAX_CHUNK)
 Made (action.Read limit) (entry.End wait) = wait ≤ limit
 Made (action.Read limit) (entry.NoRead code) = Unit {0}
 Made (action.Read limit) (entry.Silence wait) = wait ≡ limit
 Made action.Close entry.Closed = Unit {0}
 Made action.Close (entry.NoClose code) = Unit {0}
 Made action.Wait (entry.Exited status) = Unit {0}
-Made action.Wait (entry.Killed signal) = (1 ≤ signal) × (signal ≤ 127)
+Made action.Wait (entry.Killed signal) = (1 ≤ signal) × (signal ≤ MAX_SIGNAL)
 Made action.Wait (entry.NoWait code) = Unit {0}
 Made a e = ⊥
 

@@ -14,18 +14,19 @@ use Rattle.dg_gate.specs.declared.reply.Piece.{Piece}
 use Rattle.dg_gate.specs.declared.reply.Piece.TheVariants as piece
 use Rattle.dg_gate.specs.declared.reply.Reply.{Reply}
 use Rattle.dg_gate.specs.declared.reply.Reply.TheVariants as reply
+use Rattle.dg_gate.specs.declared.reply.TheConstants.{MAX_CHUNK, MAX_SIGNAL}
 
 -- the entry of a read that gave a piece within its limit: a silence is of the whole limit
 abbrev pub entry_of_piece : ℕ → Piece → Option Entry
 entry_of_piece limit (piece.Chunk wait bytes) =
-    if nat_le wait limit && (nat_le 1 (length bytes) && nat_le (length bytes) 4096) then Some (entry.Chunk wait bytes) else None
+    if nat_le wait limit && (nat_le 1 (length bytes) && nat_le (length bytes) MAX_CHUNK) then Some (entry.Chunk wait bytes) else None
 entry_of_piece limit (piece.End wait) = if nat_le wait limit then Some (entry.End wait) else None
 entry_of_piece limit piece.Silence = Some (entry.Silence limit)
 
 -- the entry of a wait: a signal is one of 1 to 127
 abbrev pub entry_of_end : Ended → Option Entry
 entry_of_end (ended.Exited status) = Some (entry.Exited status)
-entry_of_end (ended.Killed signal) = if nat_le 1 signal && nat_le signal 127 then Some (entry.Killed signal) else None
+entry_of_end (ended.Killed signal) = if nat_le 1 signal && nat_le signal MAX_SIGNAL then Some (entry.Killed signal) else None
 
 -- the entry that a call and its answer make; none where the answer does not fit the call
 abbrev pub entry_of : Action → Reply → Option Entry

@@ -29,6 +29,7 @@ use Rattle.dg_language.specs.Words.{element, gather, substitutions}
 use Rattle.dg_language.specs.Sessions.{perform, on_session, on_words, seek, not_open, is_session_open}
 use Rattle.dg_language.specs.ExpectWords.{expect_words, listed, patterns_in, regexes_in, output_pairs, is_for_timeout, is_for_end}
 use Rattle.dg_language.specs.Patterns.{with_patterns}
+use Rattle.dg_transcript.specs.declared.limits.TheConstants.{MAX_WAIT}
 
 -- What is waited for: output of this session, by these pairs, for so many milliseconds.
 pub record Waiting : Type 0 where
@@ -150,7 +151,7 @@ rounds (suc r) nested w s k = one_round nested w (λ t. rounds r nested w t k) s
 -- so many seconds, at most an hour; less than none is an hour
 abbrev pub milliseconds : ℤ → ℕ
 milliseconds (pos n) = 1000 * min n 3600
-milliseconds (negsuc n) = 3600000
+milliseconds (negsuc n) = MAX_WAIT
 
 abbrev pub with_number : List ℕ → Option ℤ → State → Then → (ℕ → Play Ending) → Play Ending
 with_number text None s k f = fail (expected_integer text) s k

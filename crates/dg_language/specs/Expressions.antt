@@ -5,7 +5,7 @@ use Rattle.dg_words.specs.Piece.{Piece}
 use Rattle.dg_expr.specs.declared.fault.Side.{Side}
 use Rattle.dg_expr.specs.declared.fault.Side.TheVariants.{Left, Right}
 use Rattle.dg_expr.specs.declared.fault.ExprFault.{ExprFault}
-use Rattle.dg_expr.specs.declared.fault.ExprFault.TheVariants.{Memory, Syntax, NotWhole, DivideByZero, TooLarge, NotTruth, NegativeShift, BadList}
+use Rattle.dg_expr.specs.declared.fault.ExprFault.TheVariants.{Syntax, NotWhole, DivideByZero, TooLarge, NotTruth, NegativeShift, BadList}
 use Rattle.dg_expr.specs.declared.code.Instruction.{Instruction}
 use Rattle.dg_expr.specs.Code.{Host, value, code_of}
 use Rattle.dg_expr.specs.Number.{number_of, decimal_text}
@@ -26,16 +26,16 @@ abbrev pub on_side : Side → List ℕ → List ℕ → List ℕ
 on_side Left x y = x
 on_side Right x y = y
 
--- The message of a fault, of which these are the operands, or the text that spells no expression.
+-- The message of a fault, of which these are the operands, or the text that spells no expression. What is none of the others is
+-- an error of syntax.
 abbrev pub fault_message : ExprFault → List ℕ → List ℕ → List ℕ
-fault_message Syntax x y = codes "syntax error in expression " ++ quoted x
 fault_message (NotWhole side) x y = codes "expected integer but got " ++ quoted (on_side side x y)
 fault_message DivideByZero x y = codes "divide by zero"
 fault_message TooLarge x y = codes "integer value too large to represent"
 fault_message NotTruth x y = codes "expected boolean value but got " ++ quoted x
-fault_message Memory x y = codes "out of memory"
 fault_message NegativeShift x y = codes "negative shift argument"
 fault_message (BadList fault) x y = fault_text fault
+fault_message _ x y = codes "syntax error in expression " ++ quoted x
 
 -- the steps in which an operand is made: it is one word
 abbrev pub operand_steps : List Piece → List Substitution

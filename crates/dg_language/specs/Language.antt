@@ -36,7 +36,7 @@ use Rattle.dg_language.specs.Expecting.{do_expect, expect_with}
 use Rattle.dg_language.specs.Matching.{do_regexp}
 use Rattle.dg_cmds.specs.Commands.{pure_of}
 use Rattle.dg_cmds.specs.declared.fault.CmdFault.{CmdFault}
-use Rattle.dg_cmds.specs.declared.fault.CmdFault.TheVariants.{Unknown, Tcl, TooLong, Memory}
+use Rattle.dg_cmds.specs.declared.fault.CmdFault.TheVariants.{Tcl}
 
 abbrev pub builtin : Nested → Builtin → List (List ℕ) → State → Then → Play Ending
 builtin nested (ImmediateBuiltin c) args s k = completed (immediate c args s) s k
@@ -109,13 +109,13 @@ abbrev pub usable : Bool → Option Builtin → Option Builtin
 usable on_board None = None
 usable on_board (Some b) = elim (on_board && records b) [ true ↦ None | false ↦ Some b ]
 
--- the value of a string or list command or of `format`; there is no other command
-abbrev pub pure_value : Result (List ℕ) CmdFault → List ℕ → State → Then → Play Ending
-pure_value (Ok v) n s k = k Done v s
-pure_value (Err Unknown) n s k = fail (codes "invalid command name " ++ quoted n) s k
-pure_value (Err (Tcl message)) n s k = fail message s k
-pure_value (Err TooLong) n s k = cut (codes "value too long") s
-pure_value (Err Memory) n s k = cut (codes "out of memory") s
+-- The value of a string or list command or of `format`; there is no other command. Where one comes to neither a value nor an
+-- error, the value is too long.
+abbrev pub pure_value : Option (Result (List ℕ) CmdFault) → List ℕ → State → Then → Play Ending
+pure_value None n s k = fail (codes "invalid command name " ++ quoted n) s k
+pure_value (Some (Ok v)) n s k = k Done v s
+pure_value (Some (Err (Tcl message))) n s k = fail message s k
+pure_value (Some (Err _)) n s k = cut (codes "value too long") s
 
 abbrev pub known_command : Nested → Option Builtin → List ℕ → List (List ℕ) → State → Then → Play Ending
 known_command nested (Some b) n args s k = builtin nested b args s k

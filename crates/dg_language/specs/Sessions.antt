@@ -30,6 +30,7 @@ use Rattle.dg_language.specs.State.{State, learn, assigned, with_sessions}
 use Rattle.dg_language.specs.Evaluation.{Ending, Then, closed, cut, fail, on, quoted}
 use Rattle.dg_language.specs.Variables.{touch, cannot_read}
 use Rattle.dg_language.specs.SessionWords.{spawn_words, send_words, id_words, match_words}
+use Rattle.dg_transcript.specs.declared.limits.TheConstants.{MAX_WORDS}
 
 -- ---- departures
 
@@ -150,7 +151,7 @@ spawned n words e s k =
 -- the next session is started by these words; one that fails to start has used its number
 unfoldable pub start : List (List ℕ) → State → Then → Play Ending
 start words s k =
-    elim (nat_le (length words) 64) [
+    elim (nat_le (length words) MAX_WORDS) [
       | false ↦ fail (codes "too many words") s k
       | true ↦ elim (nat_lt (length s.sessions.all) most_sessions) [
         | false ↦ fail (codes "too many sessions") s k

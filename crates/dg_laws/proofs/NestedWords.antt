@@ -7,9 +7,9 @@ use Rattle.dg_words.specs.Reading.{command_at, words_of}
 use Rattle.dg_words.specs.declared.kinds.Level.{Level}
 use Rattle.dg_words.specs.declared.kinds.Spot.{Spot}
 use Rattle.dg_words.specs.declared.word.Word.{Word}
-use Rattle.dg_grammar.specs.Words.{Begun, OneCommand, OneWord, Plain, Words, with_text}
-use Rattle.dg_grammar.specs.Words as spelled
-use Rattle.dg_grammar.proofs.CommandSpelled.{read_command_is_spelled, read_words_are_spelled}
+use Rattle.dg_words.specs.Grammar.Words.{Begun, OneCommand, OneWord, Plain, Words, with_text}
+use Rattle.dg_words.specs.Grammar.Words as spelled
+use Rattle.dg_words.proofs.GrammarLemmas.CommandSpelled.{read_command_is_spelled, read_words_are_spelled}
 use Rattle.dg_laws.specs.WordValues.{AreNested, Parts, Nothing, Text, Variable, Element, Command, in_a_row, NestedWord, word_of}
 
 -- these pieces are nested parts in a row

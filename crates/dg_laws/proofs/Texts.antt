@@ -4,7 +4,7 @@ use Rattle.std.specs.Prelude.{Option, Some, None, Result, Ok, Err}
 use Rattle.std.specs.FinMap as names
 use Rattle.dg_cmds.specs.Commands.{pure_of}
 use Rattle.dg_cmds.specs.declared.fault.CmdFault.{CmdFault}
-use Rattle.dg_cmds.specs.declared.fault.CmdFault.TheVariants.{Unknown, Tcl, TooLong, Memory}
+use Rattle.dg_cmds.specs.declared.fault.CmdFault.TheVariants.{Tcl, TooLong, Memory}
 use Rattle.dg_language.specs.declared.code.Code.TheVariants.{Done}
 use Rattle.dg_language.specs.declared.command.Builtin.{Builtin}
 use Rattle.dg_language.specs.declared.command.Builtin.TheVariants.{Immediate as ImmediateBuiltin, Variable as VariableBuiltin, Control as ControlBuiltin, Choice as ChoiceBuiltin, Target as TargetBuiltin, Flag as FlagBuiltin, Session as SessionBuiltin, LoadLib as LoadLibBuiltin, Expect as ExpectBuiltin, Regexp as RegexpBuiltin}
@@ -28,12 +28,12 @@ use Rattle.dg_laws.proofs.SessionCommands.{do_session-grafted}
 use Rattle.dg_laws.proofs.Matching.{do_regexp-grafted}
 use Rattle.dg_laws.proofs.ExpectCommands.{do_expect-grafted}
 
-pure_value-grafted : (value : Result (List ℕ) CmdFault) (n : List ℕ) (s : State) → Grafted (pure_value value n s)
-pure_value-grafted (Ok v) n s = completes Done v s
-pure_value-grafted (Err Unknown) n s = fail-grafted _ s
-pure_value-grafted (Err (Tcl message)) n s = fail-grafted message s
-pure_value-grafted (Err TooLong) n s = cut-grafted _ s
-pure_value-grafted (Err Memory) n s = cut-grafted _ s
+pure_value-grafted : (value : Option (Result (List ℕ) CmdFault)) (n : List ℕ) (s : State) → Grafted (pure_value value n s)
+pure_value-grafted None n s = fail-grafted _ s
+pure_value-grafted (Some (Ok v)) n s = completes Done v s
+pure_value-grafted (Some (Err (Tcl message))) n s = fail-grafted message s
+pure_value-grafted (Some (Err TooLong)) n s = cut-grafted _ s
+pure_value-grafted (Some (Err Memory)) n s = cut-grafted _ s
 
 module _ (nested : Nested) (inside : IsGraftedInside nested) where
   builtin-grafted : (b : Builtin) (args : List (List ℕ)) (s : State) → Grafted (builtin nested b args s)

@@ -4,7 +4,7 @@ use Rattle.std.specs.Prelude.{Option, Some, None, Result, Ok, Err}
 use Rattle.std.specs.FinMap as names
 use Rattle.dg_cmds.specs.Commands.{pure_of}
 use Rattle.dg_cmds.specs.declared.fault.CmdFault.{CmdFault}
-use Rattle.dg_cmds.specs.declared.fault.CmdFault.TheVariants.{Unknown, Tcl, TooLong, Memory}
+use Rattle.dg_cmds.specs.declared.fault.CmdFault.TheVariants.{Tcl, TooLong, Memory}
 use Rattle.dg_language.specs.declared.code.Code.TheVariants.{Done}
 use Rattle.dg_language.specs.declared.command.Builtin.{Builtin}
 use Rattle.dg_language.specs.declared.command.Builtin.TheVariants.{Immediate as ImmediateBuiltin, Variable as VariableBuiltin, Control as ControlBuiltin, Choice as ChoiceBuiltin, Target as TargetBuiltin, Flag as FlagBuiltin, Session as SessionBuiltin, LoadLib as LoadLibBuiltin, Expect as ExpectBuiltin, Regexp as RegexpBuiltin}
@@ -28,12 +28,12 @@ use Rattle.dg_living.proofs.SessionCommands.{do_session-lives}
 use Rattle.dg_living.proofs.Matching.{do_regexp-lives}
 use Rattle.dg_living.proofs.ExpectCommands.{do_expect-lives}
 
-pure_value-lives : (value : Result (List ℕ) CmdFault) (n : List ℕ) (s : State) → Lives s (pure_value value n s)
-pure_value-lives (Ok v) n s = completes Done v s
-pure_value-lives (Err Unknown) n s = fail-lives _ s
-pure_value-lives (Err (Tcl message)) n s = fail-lives message s
-pure_value-lives (Err TooLong) n s = cut-lives _ s
-pure_value-lives (Err Memory) n s = cut-lives _ s
+pure_value-lives : (value : Option (Result (List ℕ) CmdFault)) (n : List ℕ) (s : State) → Lives s (pure_value value n s)
+pure_value-lives None n s = fail-lives _ s
+pure_value-lives (Some (Ok v)) n s = completes Done v s
+pure_value-lives (Some (Err (Tcl message))) n s = fail-lives message s
+pure_value-lives (Some (Err TooLong)) n s = cut-lives _ s
+pure_value-lives (Some (Err Memory)) n s = cut-lives _ s
 
 module _ (nested : Nested) (inside : LivesInside nested) where
   builtin-lives : (b : Builtin) (args : List (List ℕ)) (s : State) → AreShort args → Lives s (builtin nested b args s)

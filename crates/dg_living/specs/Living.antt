@@ -20,6 +20,7 @@ use Rattle.dg_world.specs.Question.{fits}
 use Rattle.dg_language.specs.declared.close.Close.TheVariants.{Departed}
 use Rattle.dg_language.specs.Play.{Play, Ends, Asks}
 use Rattle.dg_language.specs.Evaluation.{Ending}
+use Rattle.dg_transcript.specs.declared.limits.TheConstants.{MAX_WAIT, MAX_WORDS}
 
 -- the texts of an entry are bytes
 abbrev pub IsOfBytes : Entry → Type 0
@@ -33,9 +34,9 @@ IsOfBytes e = Unit {0}
 
 -- what is asked of a child keeps the limits of a transcript: 1 to 64 words, 1 to 1,048,576 bytes, at most an hour
 abbrev pub ActionFits : Action → Type 0
-ActionFits (action.Spawn words) = (0 < length words) × (length words ≤ 64)
+ActionFits (action.Spawn words) = (0 < length words) × (length words ≤ MAX_WORDS)
 ActionFits (action.Send bytes) = (0 < length bytes) × (length bytes ≤ LONGEST_VALUE)
-ActionFits (action.Read limit) = limit ≤ 3600000
+ActionFits (action.Read limit) = limit ≤ MAX_WAIT
 ActionFits action.Close = Unit {0}
 ActionFits action.Wait = Unit {0}
 

@@ -203,6 +203,10 @@ Goes play known w m (Stands ask) = ⊥
 Goes play known w m (Over c) = (play ≡ ends_with c m.state) × (m.state.known ≡ known)
 Goes play known w m Lost = HasReadPattern known
 
+-- what a machine came to run, which asks no question: it has gone on with so much weight more
+abbrev pub GoesAs : (State → Then → Play Ending) → ℕ → Machine → Machine → Pace → Type 0
+GoesAs f w old new p = Goes (f old.state (all_back old.stack)) old.state.known (weight_of old + w) new p
+
 -- From this, with what is done at another try, and with so much weight more, a machine came to that one. Where a question
 -- stands, globals may have begun, and nothing else has changed: the other try goes on from there.
 abbrev pub Tries : Play Ending → (State → Play Ending) → ℕ → Machine → Machine → Pace → Type 0

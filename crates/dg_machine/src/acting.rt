@@ -7,7 +7,7 @@ ghost use Rattle.dg_language.specs.Play.{Play};
 ghost use Rattle.dg_language.specs.Evaluation.{Ending};
 ghost use Rattle.dg_machine.specs.declared.frame.Control.{Control};
 ghost use Rattle.dg_machine.specs.Acting.{acting, after_weight, naming, told_after};
-ghost use Rattle.dg_machine.specs.Meaning.{all_back, weight_of, ends_with, Comes, Goes};
+ghost use Rattle.dg_machine.specs.Meaning.{all_back, weight_of, ends_with, Comes, Goes, GoesAs};
 ghost use Rattle.dg_machine.specs.Performing.{IsNext, Performs};
 
 use crate::boxed::Boxed;
@@ -126,7 +126,7 @@ impl Machine {
         entry: &Entry,
     ) -> Result<Pace, AllocError>
         requires { self.old.control ≡ Control.Go }
-        ensures { IfOk result (λ p. Goes (spawned session words.now entry.now self.old.state (all_back self.old.stack)) self.old.state.known (weight_of self.old + 20) self.new p) }
+        ensures { IfOk result (GoesAs (spawned session words.now entry.now) 20 self.old self.new) }
     {
         if entry.is_failure() {
             let message = cannot_execute(alloc, program_of(words))?;
@@ -140,7 +140,7 @@ impl Machine {
     #[tactic(auto, unfolding(crate::specs::Meaning::rest, crate::specs::Meaning::weight))]
     fn report(&mut self, alloc: Global, session: u32, entry: &Entry) -> Result<Pace, AllocError>
         requires { self.old.control ≡ Control.Go }
-        ensures { IfOk result (λ p. Goes (unless_failed session entry.now self.old.state (all_back self.old.stack)) self.old.state.known (weight_of self.old + 10) self.new p) }
+        ensures { IfOk result (GoesAs (unless_failed session entry.now) 10 self.old self.new) }
     {
         if entry.is_failure() {
             let id = id_of(alloc, session)?;
@@ -167,7 +167,7 @@ impl Machine {
     #[tactic(auto, unfolding(dg_language::specs::Sessions::wait_for, crate::specs::Meaning::rest, crate::specs::Meaning::go, crate::specs::Meaning::weight, crate::specs::Meaning::stack_weight))]
     fn wait_for(&mut self, session: u32) -> Result<Pace, AllocError>
         requires { self.old.control ≡ Control.Go }
-        ensures { IfOk result (λ p. Goes (wait_for session self.old.state (all_back self.old.stack)) self.old.state.known (weight_of self.old + 20) self.new p) }
+        ensures { IfOk result (GoesAs (wait_for session) 20 self.old self.new) }
     {
         let acting = Acting {
             session,

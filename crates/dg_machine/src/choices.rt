@@ -5,7 +5,7 @@ ghost use Rattle.dg_language.specs.Switching.{do_choice, do_eval, do_switch, eva
 ghost use Rattle.dg_language.specs.Language.{evaluate};
 ghost use Rattle.dg_machine.specs.declared.frame.Control.{Control};
 ghost use Rattle.dg_machine.specs.Choosing.{choosing};
-ghost use Rattle.dg_machine.specs.Meaning.{all_back, weight_of, Goes};
+ghost use Rattle.dg_machine.specs.Meaning.{all_back, weight_of, Goes, GoesAs};
 
 use crate::computing::{Computed, compute_on};
 use crate::frame::{Calculation, Choice, Frame, Pace};
@@ -25,7 +25,7 @@ impl Machine {
         depth: u32,
     ) -> Result<Pace, AllocError>
         requires { self.old.control ≡ Control.Go }
-        ensures { IfOk result (λ p. Goes (do_otherwise (evaluate depth) otherwise self.old.state (all_back self.old.stack)) self.old.state.known (weight_of self.old + 4) self.new p) }
+        ensures { IfOk result (GoesAs (do_otherwise (evaluate depth) otherwise) 4 self.old self.new) }
     {
         match otherwise {
             None => {
@@ -131,7 +131,7 @@ impl Machine {
     #[tactic(auto, unfolding(dg_language::specs::Choosing::do_if))]
     fn branch(&mut self, alloc: Global, args: &[Bytes], depth: u32) -> Result<Pace, AllocError>
         requires { self.old.control ≡ Control.Go }
-        ensures { IfOk result (λ p. Goes (do_if (evaluate depth) args.now self.old.state (all_back self.old.stack)) self.old.state.known (weight_of self.old + 2 ^ 249) self.new p) }
+        ensures { IfOk result (GoesAs (do_if (evaluate depth) args.now) (2 ^ 249) self.old self.new) }
     {
         let Some(clauses) = clauses_of(alloc, args)? else {
             return Ok(self.wrong_count(alloc, b"if")?);
@@ -145,7 +145,7 @@ impl Machine {
     #[tactic(auto, unfolding(dg_language::specs::Switching::do_switch))]
     fn switch(&mut self, alloc: Global, args: &[Bytes], depth: u32) -> Result<Pace, AllocError>
         requires { self.old.control ≡ Control.Go }
-        ensures { IfOk result (λ p. Goes (do_switch (evaluate depth) args.now self.old.state (all_back self.old.stack)) self.old.state.known (weight_of self.old + 4) self.new p) }
+        ensures { IfOk result (GoesAs (do_switch (evaluate depth) args.now) 4 self.old self.new) }
     {
         match switched(alloc, args)? {
             Ok(body) => Ok(self.otherwise(alloc, body, depth)?),
@@ -161,7 +161,7 @@ impl Machine {
         depth: u32,
     ) -> Result<Pace, AllocError>
         requires { self.old.control ≡ Control.Go }
-        ensures { IfOk result (λ p. Goes (evaluated (evaluate depth) text self.old.state (all_back self.old.stack)) self.old.state.known (weight_of self.old + 4) self.new p) }
+        ensures { IfOk result (GoesAs (evaluated (evaluate depth) text) 4 self.old self.new) }
     {
         let Some(text) = text else {
             let closing = self.cut(alloc, b"value too long")?;
@@ -174,7 +174,7 @@ impl Machine {
     #[tactic(auto, unfolding(dg_language::specs::Switching::do_eval))]
     fn eval(&mut self, alloc: Global, args: &[Bytes], depth: u32) -> Result<Pace, AllocError>
         requires { self.old.control ≡ Control.Go }
-        ensures { IfOk result (λ p. Goes (do_eval (evaluate depth) args.now self.old.state (all_back self.old.stack)) self.old.state.known (weight_of self.old + 4) self.new p) }
+        ensures { IfOk result (GoesAs (do_eval (evaluate depth) args.now) 4 self.old self.new) }
     {
         let Some((_, _)) = split(args) else {
             return Ok(self.wrong_count(alloc, b"eval")?);
@@ -192,7 +192,7 @@ impl Machine {
         depth: u32,
     ) -> Result<Pace, AllocError>
         requires { self.old.control ≡ Control.Go }
-        ensures { IfOk result (λ p. Goes (do_choice (evaluate depth) which args.now self.old.state (all_back self.old.stack)) self.old.state.known (weight_of self.old + 2 ^ 249) self.new p) }
+        ensures { IfOk result (GoesAs (do_choice (evaluate depth) which args.now) (2 ^ 249) self.old self.new) }
     {
         match which {
             ChoiceCommand::Expr => Ok(self.expr(alloc, args, depth)?),

@@ -5,7 +5,7 @@ ghost use Rattle.dg_language.specs.Evaluation.{within};
 ghost use Rattle.dg_language.specs.Control.{digit_of, caught, do_catch, do_foreach, do_control, each};
 ghost use Rattle.dg_language.specs.Language.{evaluate};
 ghost use Rattle.dg_machine.specs.declared.frame.Control.{Control};
-ghost use Rattle.dg_machine.specs.Meaning.{all_back, weight_of, Comes, Goes};
+ghost use Rattle.dg_machine.specs.Meaning.{all_back, weight_of, Comes, Goes, GoesAs};
 
 use crate::frame::{Frame, Pace, Rounds};
 use crate::machine::Machine;
@@ -35,7 +35,7 @@ impl Machine {
     #[tactic(auto, unfolding(dg_language::specs::Control::do_catch, crate::specs::Meaning::back, crate::specs::Meaning::all_back, crate::specs::Meaning::weight, crate::specs::Meaning::stack_weight))]
     fn catch(&mut self, alloc: Global, args: &[Bytes], depth: u32) -> Result<Pace, AllocError>
         requires { self.old.control ≡ Control.Go }
-        ensures { IfOk result (λ p. Goes (do_catch (evaluate depth) args.now self.old.state (all_back self.old.stack)) self.old.state.known (weight_of self.old + 9) self.new p) }
+        ensures { IfOk result (GoesAs (do_catch (evaluate depth) args.now) 9 self.old self.new) }
     {
         let (script, name) = match args {
             [script] => (script, None),
@@ -107,7 +107,7 @@ impl Machine {
     #[tactic(auto, unfolding(dg_language::specs::Control::do_foreach, crate::specs::Meaning::rest, crate::specs::Meaning::go, crate::specs::Meaning::weight, crate::specs::Meaning::stack_weight))]
     fn for_each(&mut self, alloc: Global, args: &[Bytes], depth: u32) -> Result<Pace, AllocError>
         requires { self.old.control ≡ Control.Go }
-        ensures { IfOk result (λ p. Goes (do_foreach (evaluate depth) args.now self.old.state (all_back self.old.stack)) self.old.state.known (weight_of self.old + 9) self.new p) }
+        ensures { IfOk result (GoesAs (do_foreach (evaluate depth) args.now) 9 self.old self.new) }
     {
         let Some((names, values, body)) = three(args) else {
             return Ok(self.wrong_count(alloc, b"foreach")?);
@@ -145,7 +145,7 @@ impl Machine {
         depth: u32,
     ) -> Result<Pace, AllocError>
         requires { self.old.control ≡ Control.Go }
-        ensures { IfOk result (λ p. Goes (do_control (evaluate depth) which args.now self.old.state (all_back self.old.stack)) self.old.state.known (weight_of self.old + 9) self.new p) }
+        ensures { IfOk result (GoesAs (do_control (evaluate depth) which args.now) 9 self.old self.new) }
     {
         match which {
             ControlCommand::Foreach => Ok(self.for_each(alloc, args, depth)?),

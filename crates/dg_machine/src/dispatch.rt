@@ -6,7 +6,7 @@ ghost use Rattle.dg_language.specs.Control.{head_or_empty};
 ghost use Rattle.dg_language.specs.Immediate.{immediate};
 ghost use Rattle.dg_language.specs.Language.{builtin, builtin_of, usable, pure_value, known_command, command, used, evaluate};
 ghost use Rattle.dg_machine.specs.declared.frame.Control.{Control};
-ghost use Rattle.dg_machine.specs.Meaning.{all_back, weight_of, budget, Comes, Goes, RunsAs};
+ghost use Rattle.dg_machine.specs.Meaning.{all_back, weight_of, budget, Comes, RunsAs, GoesAs};
 
 use crate::frame::{Frame, Making, Pace};
 use crate::machine::Machine;
@@ -36,7 +36,7 @@ impl Machine {
         args: &[Bytes],
     ) -> Result<Pace, AllocError>
         requires { self.old.control ≡ Control.Go }
-        ensures { IfOk result (λ p. Goes (completed (immediate which args.now self.old.state) self.old.state (all_back self.old.stack)) self.old.state.known (weight_of self.old + 2) self.new p) }
+        ensures { IfOk result (GoesAs (completed (immediate which args.now self.old.state)) 2 self.old self.new) }
     {
         match run_immediate(alloc, &self.state, which, args)? {
             Ok(completion) => {
@@ -77,23 +77,23 @@ impl Machine {
     #[tactic(auto, unfolding(crate::specs::Meaning::rest, crate::specs::Meaning::weight))]
     fn pure(&mut self, alloc: Global, name: &[u8], args: &[Bytes]) -> Result<Pace, AllocError>
         requires { self.old.control ≡ Control.Go }
-        ensures { IfOk result (λ p. Goes (pure_value (pure_of name.now args.now) name.now self.old.state (all_back self.old.stack)) self.old.state.known (weight_of self.old + 2) self.new p) }
+        ensures { IfOk result (GoesAs (pure_value (pure_of name.now args.now) name.now) 2 self.old self.new) }
     {
         match run_pure(alloc, name, args) {
-            Ok(value) => {
-                self.end(Code::Done, value);
-                Ok(Pace::Moved)
-            }
-            Err(CmdFault::Unknown) => {
+            None => {
                 let message = invalid_command(alloc, name)?;
                 Ok(self.fail(alloc, message)?)
             }
-            Err(CmdFault::Tcl(message)) => Ok(self.fail(alloc, message)?),
-            Err(CmdFault::TooLong) => {
+            Some(Ok(value)) => {
+                self.end(Code::Done, value);
+                Ok(Pace::Moved)
+            }
+            Some(Err(CmdFault::Tcl(message))) => Ok(self.fail(alloc, message)?),
+            Some(Err(CmdFault::TooLong)) => {
                 let closing = self.cut(alloc, b"value too long")?;
                 Ok(Pace::Over(closing))
             }
-            Err(CmdFault::Memory) => Err(AllocError),
+            Some(Err(CmdFault::Memory)) => Err(AllocError),
         }
     }
 

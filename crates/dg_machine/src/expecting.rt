@@ -11,7 +11,7 @@ ghost use Rattle.dg_language.specs.ExpectWords.{regexes_in};
 ghost use Rattle.dg_machine.specs.Acting.{compiled_with, compiling_on, first_round};
 ghost use Rattle.dg_machine.specs.Patterns.{AreRead};
 ghost use Rattle.dg_machine.specs.Acting.{again, awaiting, limit_in, limiting, reach_weight, waiting_of};
-ghost use Rattle.dg_machine.specs.Meaning.{all_back, weight_of, Comes, Goes};
+ghost use Rattle.dg_machine.specs.Meaning.{all_back, weight_of, Comes, Goes, GoesAs};
 
 use crate::frame::{
     Came, Compiling, Fit, Frame, Limiting, Making, Pace, Reach, Sought, Stack, Wait, plain_ask,
@@ -193,7 +193,7 @@ impl Machine {
     fn first_round(&mut self, alloc: Global, compiling: Compiling) -> Result<Pace, AllocError>
         requires go { self.old.control ≡ Control.Go }
         requires read { AreRead (regexes_in compiling.pairs) self.old.state.known }
-        ensures { IfOk result (λ p. Goes (first_round compiling self.old.state (all_back self.old.stack)) self.old.state.known (weight_of self.old + 2 ^ 50) self.new p) }
+        ensures { IfOk result (GoesAs (first_round compiling) (2 ^ 50) self.old self.new) }
     {
         let Compiling {
             session,
@@ -349,7 +349,7 @@ impl Machine {
         depth: u32,
     ) -> Result<Pace, AllocError>
         requires { self.old.control ≡ Control.Go }
-        ensures { IfOk result (λ p. Goes (do_expect (evaluate depth) args.now self.old.state (all_back self.old.stack)) self.old.state.known (weight_of self.old + 2 ^ 249) self.new p) }
+        ensures { IfOk result (GoesAs (do_expect (evaluate depth) args.now) (2 ^ 249) self.old self.new) }
     {
         let Some(list) = listed(args) else {
             let mut words = Seq::new(alloc);

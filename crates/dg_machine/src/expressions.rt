@@ -7,7 +7,7 @@ ghost use Rattle.dg_language.specs.Language.{evaluate};
 ghost use Rattle.dg_machine.specs.declared.frame.Control.{Control};
 ghost use Rattle.dg_machine.specs.Choosing.{calculating, calculating_with};
 ghost use Rattle.dg_machine.specs.Computing.{Computes};
-ghost use Rattle.dg_machine.specs.Meaning.{all_back, weight_of, Goes};
+ghost use Rattle.dg_machine.specs.Meaning.{all_back, weight_of, Goes, GoesAs};
 
 use crate::computing::{Computed, compute_on};
 use crate::frame::{Calculation, Frame, Pace};
@@ -64,7 +64,7 @@ impl Machine {
     #[inline(never)]
     pub(crate) fn no_expression(&mut self, alloc: Global, text: &Bytes) -> Result<Pace, AllocError>
         requires { self.old.control ≡ Control.Go }
-        ensures { IfOk result (λ p. Goes (fail (fault_message Syntax text.now []) self.old.state (all_back self.old.stack)) self.old.state.known (weight_of self.old + 2) self.new p) }
+        ensures { IfOk result (GoesAs (fail (fault_message Syntax text.now [])) 2 self.old self.new) }
     {
         let message = syntax_error(alloc, text.as_slice())?;
         Ok(self.fail(alloc, message)?)
@@ -122,7 +122,7 @@ impl Machine {
         depth: u32,
     ) -> Result<Pace, AllocError>
         requires { self.old.control ≡ Control.Go }
-        ensures { IfOk result (λ p. Goes (do_expr (evaluate depth) args.now self.old.state (all_back self.old.stack)) self.old.state.known (weight_of self.old + 2 ^ 140) self.new p) }
+        ensures { IfOk result (GoesAs (do_expr (evaluate depth) args.now) (2 ^ 140) self.old self.new) }
     {
         let Some((first, others)) = split(args) else {
             return Ok(self.wrong_count(alloc, b"expr")?);

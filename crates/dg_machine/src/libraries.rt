@@ -4,7 +4,7 @@ ghost use Rattle.dg_language.specs.Boards.{after_library, do_load_lib, library_f
 ghost use Rattle.dg_language.specs.Evaluation.{fail};
 ghost use Rattle.dg_language.specs.Language.{evaluate};
 ghost use Rattle.dg_machine.specs.declared.frame.Control.{Control};
-ghost use Rattle.dg_machine.specs.Meaning.{all_back, weight_of, Goes, RunsAs};
+ghost use Rattle.dg_machine.specs.Meaning.{all_back, weight_of, Goes, RunsAs, GoesAs};
 
 use crate::frame::{FileText, Frame, Pace, plain_ask};
 use crate::machine::Machine;
@@ -19,7 +19,7 @@ impl Machine {
     /// A library that is not there is an error.
     fn miss_library(&mut self, alloc: Global, library: &[u8]) -> Result<Pace, AllocError>
         requires { self.old.control ≡ Control.Go }
-        ensures { IfOk result (λ p. Goes (fail (no_library library.now) self.old.state (all_back self.old.stack)) self.old.state.known (weight_of self.old + 2) self.new p) }
+        ensures { IfOk result (GoesAs (fail (no_library library.now)) 2 self.old self.new) }
     {
         let message = no_library(alloc, library)?;
         Ok(self.fail(alloc, message)?)

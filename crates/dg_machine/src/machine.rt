@@ -7,7 +7,7 @@ ghost use Rattle.dg_language.specs.Variables.{store};
 ghost use Rattle.dg_language.specs.Language.{commands_at, sequence, evaluate};
 ghost use Rattle.dg_machine.specs.declared.frame.Control.{Control};
 ghost use Rattle.dg_machine.specs.declared.frame.Frame.{Frame};
-ghost use Rattle.dg_machine.specs.Meaning.{all_back, budget, making_on, weight, weight_of, ends_with, Comes, Goes, Readies};
+ghost use Rattle.dg_machine.specs.Meaning.{all_back, budget, making_on, weight, weight_of, ends_with, Comes, Goes, Readies, GoesAs};
 
 use crate::boxed::Boxed;
 use crate::frame::{Closing, Control, Frame, Making, Pace, Stack, plain_ask};
@@ -108,7 +108,7 @@ impl Machine {
     #[tactic(auto, unfolding(crate::specs::Meaning::rest, crate::specs::Meaning::weight))]
     pub(crate) fn fail(&mut self, alloc: Global, message: Bytes) -> Result<Pace, AllocError>
         requires { self.old.control ≡ Control.Go }
-        ensures { IfOk result (λ p. Goes (fail message self.old.state (all_back self.old.stack)) self.old.state.known (weight_of self.old + 2) self.new p) }
+        ensures { IfOk result (GoesAs (fail message) 2 self.old self.new) }
     {
         if message.len() > LONGEST_VALUE {
             let closing = self.cut(alloc, b"value too long")?;
@@ -121,7 +121,7 @@ impl Machine {
     /// A command has the wrong count of arguments.
     pub(crate) fn wrong_count(&mut self, alloc: Global, name: &[u8]) -> Result<Pace, AllocError>
         requires { self.old.control ≡ Control.Go }
-        ensures { IfOk result (λ p. Goes (fail (wrong_count name.now) self.old.state (all_back self.old.stack)) self.old.state.known (weight_of self.old + 2) self.new p) }
+        ensures { IfOk result (GoesAs (fail (wrong_count name.now)) 2 self.old self.new) }
     {
         let message = wrong_count(alloc, name)?;
         let pace = self.fail(alloc, message)?;
@@ -155,7 +155,7 @@ impl Machine {
         value: Bytes,
     ) -> Result<Pace, AllocError>
         requires { self.old.control ≡ Control.Go }
-        ensures { IfOk result (λ p. Goes (store name.now value self.old.state (all_back self.old.stack)) self.old.state.known (weight_of self.old + 2) self.new p) }
+        ensures { IfOk result (GoesAs (store name.now value) 2 self.old self.new) }
     {
         if value.len() > LONGEST_VALUE {
             let closing = self.cut(alloc, b"value too long")?;
@@ -279,7 +279,7 @@ impl Machine {
         depth: u32,
     ) -> Result<Pace, AllocError>
         requires { self.old.control ≡ Control.Go }
-        ensures { IfOk result (λ p. Goes (evaluate depth text self.old.state (all_back self.old.stack)) self.old.state.known (weight_of self.old + 4) self.new p) }
+        ensures { IfOk result (GoesAs (evaluate depth text) 4 self.old self.new) }
     {
         let commands = self.script(alloc, text)?;
         Ok(self.begin(alloc, commands, depth)?)

@@ -3,7 +3,7 @@ ghost use Rattle.std.specs.Prelude.{◌≡◌, ◌+◌, ◌<◌, IfOk};
 ghost use Rattle.dg_language.specs.Procedures.{call_bound};
 ghost use Rattle.dg_language.specs.Language.{evaluate};
 ghost use Rattle.dg_machine.specs.declared.frame.Control.{Control};
-ghost use Rattle.dg_machine.specs.Meaning.{all_back, weight_of, Goes};
+ghost use Rattle.dg_machine.specs.Meaning.{all_back, GoesAs};
 
 use crate::frame::{Frame, Pace};
 use crate::machine::Machine;
@@ -24,7 +24,7 @@ impl Machine {
         depth: u32,
     ) -> Result<Pace, AllocError>
         requires { self.old.control ≡ Control.Go }
-        ensures { IfOk result (λ p. Goes (call_bound (evaluate depth) bindings name.now body self.old.state (all_back self.old.stack)) self.old.state.known (weight_of self.old + 9) self.new p) }
+        ensures { IfOk result (GoesAs (call_bound (evaluate depth) bindings name.now body) 9 self.old self.new) }
     {
         let Some(bindings) = bindings else {
             let pace = self.wrong_count(alloc, name)?;

@@ -6,7 +6,7 @@ ghost use Rattle.dg_language.specs.Language.{evaluate};
 ghost use Rattle.dg_machine.specs.declared.frame.Control.{Control};
 ghost use Rattle.dg_machine.specs.declared.frame.Stage.{Stage};
 ghost use Rattle.dg_machine.specs.Choosing.{next_script, next_test, repeat_if, repeating, stage_weight};
-ghost use Rattle.dg_machine.specs.Meaning.{all_back, weight_of, Comes, Goes};
+ghost use Rattle.dg_machine.specs.Meaning.{all_back, weight_of, Comes, GoesAs};
 
 use crate::computing::{Computed, compute_on};
 use crate::frame::{Calculation, Frame, Pace, Repetition, Stage};
@@ -206,7 +206,7 @@ impl Machine {
         depth: u32,
     ) -> Result<Pace, AllocError>
         requires { self.old.control ≡ Control.Go }
-        ensures { IfOk result (λ p. Goes (do_while (evaluate depth) args.now self.old.state (all_back self.old.stack)) self.old.state.known (weight_of self.old + 16) self.new p) }
+        ensures { IfOk result (GoesAs (do_while (evaluate depth) args.now) 16 self.old self.new) }
     {
         let Some((test, body)) = two(args) else {
             return Ok(self.wrong_count(alloc, b"while")?);
@@ -233,7 +233,7 @@ impl Machine {
         depth: u32,
     ) -> Result<Pace, AllocError>
         requires { self.old.control ≡ Control.Go }
-        ensures { IfOk result (λ p. Goes (do_for (evaluate depth) args.now self.old.state (all_back self.old.stack)) self.old.state.known (weight_of self.old + 16) self.new p) }
+        ensures { IfOk result (GoesAs (do_for (evaluate depth) args.now) 16 self.old self.new) }
     {
         let Some((start, test, next, body)) = four(args) else {
             return Ok(self.wrong_count(alloc, b"for")?);

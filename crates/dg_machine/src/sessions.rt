@@ -4,7 +4,7 @@ ghost use Rattle.dg_sessions.specs.Views.{session_at};
 ghost use Rattle.dg_language.specs.Sessions.{close_and_wait, do_close, do_match_max, do_send, do_session, do_spawn, do_wait, if_fit, later_limit, send_to, session_limit, sought, start};
 ghost use Rattle.dg_machine.specs.declared.frame.Control.{Control};
 ghost use Rattle.dg_machine.specs.Acting.{acting, after_weight};
-ghost use Rattle.dg_machine.specs.Meaning.{all_back, weight_of, Goes, RunsAs};
+ghost use Rattle.dg_machine.specs.Meaning.{all_back, weight_of, Goes, RunsAs, GoesAs};
 ghost use Rattle.dg_machine.specs.Seeking.{fit_of, Seeks, SeeksNamed};
 
 use crate::frame::{Acting, After, Fit, Frame, Pace, Sought};
@@ -114,7 +114,7 @@ impl Machine {
     #[tactic(auto, unfolding(dg_language::specs::Sessions::start, crate::specs::Meaning::rest, crate::specs::Meaning::go, crate::specs::Meaning::weight, crate::specs::Meaning::stack_weight))]
     fn start(&mut self, alloc: Global, words: &[Bytes]) -> Result<Pace, AllocError>
         requires { self.old.control ≡ Control.Go }
-        ensures { IfOk result (λ p. Goes (start words.now self.old.state (all_back self.old.stack)) self.old.state.known (weight_of self.old + 30) self.new p) }
+        ensures { IfOk result (GoesAs (start words.now) 30 self.old self.new) }
     {
         if words.len() > MOST_WORDS {
             let message = Bytes::from_slice(alloc, b"too many words")?;
@@ -140,7 +140,7 @@ impl Machine {
     #[tactic(auto, unfolding(dg_language::specs::Sessions::do_spawn))]
     fn spawn(&mut self, alloc: Global, args: &[Bytes]) -> Result<Pace, AllocError>
         requires { self.old.control ≡ Control.Go }
-        ensures { IfOk result (λ p. Goes (do_spawn args.now self.old.state (all_back self.old.stack)) self.old.state.known (weight_of self.old + 30) self.new p) }
+        ensures { IfOk result (GoesAs (do_spawn args.now) 30 self.old self.new) }
     {
         match spawn_words(alloc, args)? {
             Ok(words) => Ok(self.start(alloc, words)?),
@@ -172,7 +172,7 @@ impl Machine {
     #[tactic(auto, unfolding(dg_language::specs::Sessions::send_to, crate::specs::Meaning::rest, crate::specs::Meaning::weight))]
     fn send_to(&mut self, alloc: Global, session: u32, text: Bytes) -> Result<Pace, AllocError>
         requires { self.old.control ≡ Control.Go }
-        ensures { IfOk result (λ p. Goes (send_to session text self.old.state (all_back self.old.stack)) self.old.state.known (weight_of self.old + 30) self.new p) }
+        ensures { IfOk result (GoesAs (send_to session text) 30 self.old self.new) }
     {
         if text.is_empty() {
             self.end(Code::Done, Bytes::new(alloc));
@@ -215,7 +215,7 @@ impl Machine {
     #[tactic(auto, unfolding(dg_language::specs::Sessions::close_and_wait, dg_language::specs::Sessions::wait_for))]
     fn close_and_wait(&mut self, session: u32) -> Result<Pace, AllocError>
         requires { self.old.control ≡ Control.Go }
-        ensures { IfOk result (λ p. Goes (close_and_wait session self.old.state (all_back self.old.stack)) self.old.state.known (weight_of self.old + 30) self.new p) }
+        ensures { IfOk result (GoesAs (close_and_wait session) 30 self.old self.new) }
     {
         if self.has_session(Fit::Open, session) {
             return Ok(self.begin_action(session, Action::Close, After::ToWait)?);
@@ -241,7 +241,7 @@ impl Machine {
     #[tactic(auto, unfolding(dg_language::specs::Sessions::later_limit, crate::specs::Meaning::rest, crate::specs::Meaning::weight))]
     fn later_limit(&mut self, alloc: Global, text: Option<Bytes>) -> Result<Pace, AllocError>
         requires { self.old.control ≡ Control.Go }
-        ensures { IfOk result (λ p. Goes (later_limit text self.old.state (all_back self.old.stack)) self.old.state.known (weight_of self.old + 2) self.new p) }
+        ensures { IfOk result (GoesAs (later_limit text) 2 self.old self.new) }
     {
         let Some(text) = text else {
             let value = decimal(alloc, self.state.sessions().later_max())?;
@@ -266,7 +266,7 @@ impl Machine {
         text: Option<Bytes>,
     ) -> Result<Pace, AllocError>
         requires { self.old.control ≡ Control.Go }
-        ensures { IfOk result (λ p. Goes (session_limit number text self.old.state (all_back self.old.stack)) self.old.state.known (weight_of self.old + 2) self.new p) }
+        ensures { IfOk result (GoesAs (session_limit number text) 2 self.old self.new) }
     {
         let Some(text) = text else {
             let max = match self.state.session(number) {

@@ -6,7 +6,7 @@ ghost use Rattle.dg_expr.specs.Truth.{truth_text};
 ghost use Rattle.dg_scope.specs.Scopes.{value_of};
 ghost use Rattle.dg_language.specs.Variables.{append_elements, add_number, or_empty, or_zero, store, touch, unset_all, unset_names, unset_one, with_sum, increased, do_append, do_global, do_incr, do_info, do_lappend, do_set, do_unset, do_variable};
 ghost use Rattle.dg_machine.specs.declared.frame.Control.{Control};
-ghost use Rattle.dg_machine.specs.Meaning.{all_back, weight_of, Comes, Goes, RunsAs};
+ghost use Rattle.dg_machine.specs.Meaning.{all_back, weight_of, Comes, Goes, RunsAs, GoesAs};
 
 use crate::frame::{Frame, Pace};
 use crate::machine::Machine;
@@ -72,7 +72,7 @@ impl Machine {
     ) -> Result<Pace, AllocError>
         requires go { self.old.control ≡ Control.Go }
         requires some { values.now ≢ [] }
-        ensures { IfOk result (λ p. Goes (append_elements name.now (or_empty (value_of self.old.state.variables name.now)) values.now self.old.state (all_back self.old.stack)) self.old.state.known (weight_of self.old + 2) self.new p) }
+        ensures { IfOk result (GoesAs (append_elements name.now (or_empty (value_of self.old.state.variables name.now)) values.now) 2 self.old self.new) }
     {
         match self.state.append_elements(alloc, name, values)? {
             Ok(true) => {
@@ -96,7 +96,7 @@ impl Machine {
     #[tactic(auto, unfolding(dg_language::specs::Variables::append_elements))]
     fn append_nothing(&mut self, alloc: Global, name: &[u8]) -> Result<Pace, AllocError>
         requires { self.old.control ≡ Control.Go }
-        ensures { IfOk result (λ p. Goes (append_elements name.now (or_empty (value_of self.old.state.variables name.now)) [] self.old.state (all_back self.old.stack)) self.old.state.known (weight_of self.old + 2) self.new p) }
+        ensures { IfOk result (GoesAs (append_elements name.now (or_empty (value_of self.old.state.variables name.now)) []) 2 self.old self.new) }
     {
         let old = or_empty(alloc, self.state.value_of(name))?;
         if let Err(message) = elements_held(alloc, &old)? {
@@ -111,7 +111,7 @@ impl Machine {
     #[tactic(auto, unfolding(dg_language::specs::Variables::add_number))]
     fn add_number(&mut self, alloc: Global, name: &[u8], by: &[u8]) -> Result<Pace, AllocError>
         requires { self.old.control ≡ Control.Go }
-        ensures { IfOk result (λ p. Goes (add_number name.now by.now self.old.state (all_back self.old.stack)) self.old.state.known (weight_of self.old + 2) self.new p) }
+        ensures { IfOk result (GoesAs (add_number name.now by.now) 2 self.old self.new) }
     {
         let old = or_zero(alloc, self.state.value_of(name))?;
         Ok(self.add_to(alloc, name, old, by)?)
@@ -126,7 +126,7 @@ impl Machine {
         by: &[u8],
     ) -> Result<Pace, AllocError>
         requires { self.old.control ≡ Control.Go }
-        ensures { IfOk result (λ p. Goes (with_sum name.now (increased old by.now) self.old.state (all_back self.old.stack)) self.old.state.known (weight_of self.old + 2) self.new p) }
+        ensures { IfOk result (GoesAs (with_sum name.now (increased old by.now)) 2 self.old self.new) }
     {
         match increased(alloc, old.as_slice(), by)? {
             Ok(sum) => {
@@ -179,7 +179,7 @@ impl Machine {
     #[tactic(auto, unfolding(dg_language::specs::Variables::store, dg_language::specs::Evaluation::within, crate::specs::Meaning::rest, crate::specs::Meaning::weight))]
     fn append_text(&mut self, alloc: Global, name: &[u8], more: &[u8]) -> Result<Pace, AllocError>
         requires { self.old.control ≡ Control.Go }
-        ensures { IfOk result (λ p. Goes (store name.now (or_empty (value_of self.old.state.variables name.now) ++ more.now) self.old.state (all_back self.old.stack)) self.old.state.known (weight_of self.old + 2) self.new p) }
+        ensures { IfOk result (GoesAs (store name.now (or_empty (value_of self.old.state.variables name.now) ++ more.now)) 2 self.old self.new) }
     {
         if !self.state.append_text(alloc, name, more)? {
             let verdict = self.cut(alloc, b"value too long")?;
@@ -296,7 +296,7 @@ impl Machine {
     #[tactic(auto, unfolding(dg_language::specs::Variables::do_global, crate::specs::Meaning::rest, crate::specs::Meaning::weight))]
     fn global(&mut self, alloc: Global, args: &[Bytes]) -> Result<Pace, AllocError>
         requires { self.old.control ≡ Control.Go }
-        ensures { IfOk result (λ p. Goes (do_global args.now self.old.state (all_back self.old.stack)) self.old.state.known (weight_of self.old + 2) self.new p) }
+        ensures { IfOk result (GoesAs (do_global args.now) 2 self.old self.new) }
     {
         self.state.link_all(alloc, args)?;
         self.end(Code::Done, Bytes::new(alloc));

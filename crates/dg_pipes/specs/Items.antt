@@ -5,9 +5,10 @@ use Rattle.std.specs.declared.option.Option.{Option}
 use Rattle.std.specs.Io.KnownBytes.{Consumes, IsAtEnd}
 use Rattle.dg_pipes.specs.declared.item.Item.{Item}
 use Rattle.dg_pipes.specs.declared.item.Item.TheVariants.{Chunk, End, Fault}
+use Rattle.dg_pipes.specs.declared.reader.TheConstants.{MOST}
 
 abbrev pub IsAllowed : Item → Type 0
-IsAllowed (Chunk bytes) = (1 ≤ length bytes) × (length bytes ≤ 4096)
+IsAllowed (Chunk bytes) = (1 ≤ length bytes) × (length bytes ≤ MOST)
 IsAllowed End = Unit {0}
 IsAllowed (Fault c) = Unit {0}
 

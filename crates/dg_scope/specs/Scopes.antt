@@ -12,6 +12,7 @@ use Rattle.dg_scope.specs.declared.scope.Slot.{Slot}
 use Rattle.dg_scope.specs.declared.scope.Slot.TheVariants.{Held, Link}
 use Rattle.dg_scope.specs.declared.scope.Scope.{Scope}
 use Rattle.dg_scope.specs.declared.scope.Scope.TheVariants.{Outermost, Local}
+use Rattle.dg_scope.specs.declared.scopes.TheConstants.{LONGEST_VALUE}
 
 -- maps by names, which are bytes
 abbrev pub Names : Type 0 → Type 0
@@ -24,7 +25,7 @@ pub record Variables : Type 0 where
 
 -- the most bytes that a value may have
 abbrev pub value_limit : ℕ
-value_limit = 1048576
+value_limit = LONGEST_VALUE
 
 -- no variables, in the first scope
 abbrev pub no_variables : Variables

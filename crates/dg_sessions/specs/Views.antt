@@ -6,6 +6,7 @@ use Rattle.dg_transcript.specs.declared.cursor.Cursor.{Cursor}
 use Rattle.dg_transcript.specs.contracts.cursor.Cursor as cursor
 use Rattle.dg_sessions.specs.declared.phase.Phase.{Phase}
 use Rattle.dg_sessions.specs.contracts.phase.Phase as phase
+use Rattle.dg_sessions.specs.declared.sessions.TheConstants.{MAX_KEPT, MAX_SESSIONS, MAX_USED}
 
 -- a session: its place in its record, the bytes that were read and not yet taken, how many of them are kept at most, and
 -- how far it has come
@@ -33,13 +34,13 @@ sessions_code =
 
 -- the most sessions of a test, the most entries that one evaluation uses up, and the most bytes that a session keeps
 abbrev pub most_sessions : ℕ
-most_sessions = 64
+most_sessions = MAX_SESSIONS
 
 abbrev pub most_entries : ℕ
-most_entries = 65536
+most_entries = MAX_USED
 
 abbrev pub most_kept : ℕ
-most_kept = 65536
+most_kept = MAX_KEPT
 
 -- the name of a session in scripts
 abbrev pub id_of : ℕ → List ℕ

@@ -16,6 +16,7 @@ use Rattle.dg_transcript.specs.declared.line.Line.TheVariants as line
 use Rattle.dg_transcript.specs.declared.line.Kind.{Kind}
 use Rattle.dg_transcript.specs.declared.line.Kind.TheVariants as kind
 use Rattle.dg_transcript.specs.Step.{same_bytes}
+use Rattle.dg_transcript.specs.declared.limits.TheConstants.{MAX_CHUNK, MAX_SENT, MAX_WAIT, MAX_WORDS}
 
 infixl 10 ◌>>=◌
 abbrev pub ◌>>=◌ : {A B : Type 0} → Result A Cause → (A → Result B Cause) → Result B Cause
@@ -49,7 +50,7 @@ unfoldable pub within : ℕ → ℕ → List ℕ → Result ℕ Cause
 within low high text = number_of text >>= λ n. if nat_le low n && nat_le n high then Ok n else Err cause.Field
 
 abbrev pub wait_of : List ℕ → Result ℕ Cause
-wait_of = within 0 3600000
+wait_of = within 0 MAX_WAIT
 
 abbrev pub code_at : ℕ → Code
 code_at n = if n == 1 then NotFound else (if n == 2 then NotPermitted else (if n == 3 then BrokenPipe else Other))
@@ -78,7 +79,7 @@ each_word (field ∷ fields) = word_of field >>= λ word. each_word fields >>= �
 
 -- 1 to 64 words
 unfoldable pub words_of : List (List ℕ) → Result (List (List ℕ)) Cause
-words_of fields = if nat_lt 0 (length fields) && nat_le (length fields) 64 then each_word fields else Err cause.Field
+words_of fields = if nat_lt 0 (length fields) && nat_le (length fields) MAX_WORDS then each_word fields else Err cause.Field
 
 -- the one field
 abbrev pub only_field : List (List ℕ) → Result (List ℕ) Cause
@@ -132,9 +133,9 @@ unfoldable pub line_by : Kind → List (List ℕ) → Result Line Cause
 line_by kind.Session fs = only_field fs >>= λ f. number_of f >>= λ n. Ok (line.Session n)
 line_by kind.Started fs = words_of fs >>= λ words. said (entry.Started words)
 line_by kind.NoStart fs = first_field fs >>= λ f. code_of f.0 >>= λ code. words_of f.1 >>= λ words. said (entry.NoStart code words)
-line_by kind.Sent fs = only_field fs >>= λ f. bytes_of 1048576 f >>= λ bytes. said (entry.Sent bytes)
-line_by kind.NoSend fs = first_field fs >>= λ f. code_of f.0 >>= λ code. only_field f.1 >>= λ g. bytes_of 1048576 g >>= λ bytes. said (entry.NoSend code bytes)
-line_by kind.Chunk fs = first_field fs >>= λ f. wait_of f.0 >>= λ wait. only_field f.1 >>= λ g. bytes_of 4096 g >>= λ bytes. said (entry.Chunk wait bytes)
+line_by kind.Sent fs = only_field fs >>= λ f. bytes_of MAX_SENT f >>= λ bytes. said (entry.Sent bytes)
+line_by kind.NoSend fs = first_field fs >>= λ f. code_of f.0 >>= λ code. only_field f.1 >>= λ g. bytes_of MAX_SENT g >>= λ bytes. said (entry.NoSend code bytes)
+line_by kind.Chunk fs = first_field fs >>= λ f. wait_of f.0 >>= λ wait. only_field f.1 >>= λ g. bytes_of MAX_CHUNK g >>= λ bytes. said (entry.Chunk wait bytes)
 line_by kind.End fs = only_field fs >>= λ f. wait_of f >>= λ wait. said (entry.End wait)
 line_by kind.NoRead fs = only_field fs >>= λ f. code_of f >>= λ code. said (entry.NoRead code)
 line_by kind.Silence fs = only_field fs >>= λ f. wait_of f >>= λ wait. said (entry.Silence wait)

@@ -4,6 +4,7 @@ use Rattle.dg_transcript.specs.declared.line.Line.{Line}
 use Rattle.dg_transcript.specs.declared.line.Place.{Place}
 use Rattle.dg_transcript.specs.declared.line.Place.TheVariants as place
 use Rattle.dg_transcript.specs.Lines.{place_of, is_session, is_said}
+use Rattle.dg_transcript.specs.declared.limits.TheConstants.{MAX_ENTRIES, MAX_SESSIONS}
 
 -- the lines that are neither a session nor an entry: the header and the last line
 abbrev pub other_lines : Place → ℕ
@@ -18,6 +19,6 @@ pub record Keeps (lines : List Line) (at : Place) (sessions entries : ℕ) : Typ
   pub here : place_of lines ≡ at
   pub begun : count_by is_session lines ≡ sessions
   pub said : count_by is_said lines ≡ entries
-  pub few_begun : sessions ≤ 64
-  pub few_said : entries ≤ 65536
+  pub few_begun : sessions ≤ MAX_SESSIONS
+  pub few_said : entries ≤ MAX_ENTRIES
   pub count : length lines ≡ other_lines at + sessions + entries

@@ -10,6 +10,7 @@ use Rattle.dg_transcript.specs.declared.line.Place.TheVariants as place
 use Rattle.dg_transcript.specs.Order.{role_of, admits, opens_session, after_line}
 use Rattle.dg_transcript.specs.Fields.{◌>>=◌, read_line}
 use Rattle.dg_transcript.specs.Step.{same_bytes}
+use Rattle.dg_transcript.specs.declared.limits.TheConstants.{MAX_ENTRIES, MAX_SESSIONS}
 
 abbrev pub is_session : Line → Bool
 is_session (line.Session n) = true
@@ -37,8 +38,8 @@ may_come p sessions line.Done = opens_session p
 -- the 65th session, or the 65,537th entry
 abbrev pub is_past : ℕ → ℕ → Line → Bool
 is_past sessions entries line.Header = false
-is_past sessions entries (line.Session n) = nat_le 64 sessions
-is_past sessions entries (line.Said e) = nat_le 65536 entries
+is_past sessions entries (line.Session n) = nat_le MAX_SESSIONS sessions
+is_past sessions entries (line.Said e) = nat_le MAX_ENTRIES entries
 is_past sessions entries line.Done = false
 
 abbrev pub placed : Place → ℕ → ℕ → Line → Result Line Cause

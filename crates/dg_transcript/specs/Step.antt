@@ -8,6 +8,7 @@ use Rattle.dg_transcript.specs.declared.cursor.Act.{Act}
 use Rattle.dg_transcript.specs.declared.cursor.Act.TheVariants as act
 use Rattle.dg_transcript.specs.declared.cursor.Action.{Action}
 use Rattle.dg_transcript.specs.declared.cursor.Action.TheVariants as action
+use Rattle.dg_transcript.specs.declared.limits.TheConstants.{MAX_ENTRIES}
 
 -- an answer, the place behind it, and the action with what is left of its limit
 pub record Step : Type 0 where
@@ -76,4 +77,4 @@ step_at c a e = departs c a
 -- the step at the wanted entry; a record has none behind its end, nor behind the first 65,536
 abbrev pub step : Cursor → Action → Option Entry → Step
 step c a None = departs c a
-step c a (Some e) = if nat_lt c.place 65536 then step_at c a e else departs c a
+step c a (Some e) = if nat_lt c.place MAX_ENTRIES then step_at c a e else departs c a

@@ -22,5 +22,6 @@ pub use crate::entry::Entry;
 pub use crate::laws::{
     decode_encoded, each_text_is_decoded, one_fault, one_text, steps_are_replay,
 };
+pub use crate::limits::{MAX_WAIT, MAX_WORDS};
 pub use crate::transcript::Transcript;
 pub use crate::writing::encode;

@@ -12,13 +12,13 @@ pub(crate) const MAX_SESSIONS: usize = 64;
 /// The most entries of a transcript.
 pub(crate) const MAX_ENTRIES: usize = 65_536;
 /// The most words of a start.
-pub(crate) const MAX_WORDS: usize = 64;
+pub const MAX_WORDS: usize = 64;
 /// The most bytes that are sent at once.
 pub(crate) const MAX_SENT: usize = 1_048_576;
 /// The most bytes of a chunk.
 pub(crate) const MAX_CHUNK: usize = 4_096;
 /// The longest wait in milliseconds.
-pub(crate) const MAX_WAIT: u32 = 3_600_000;
+pub const MAX_WAIT: u32 = 3_600_000;
 /// The greatest number of a signal.
 pub(crate) const MAX_SIGNAL: u8 = 127;
 

@@ -11,3 +11,4 @@ pub mod ListRuns
 pub mod ByClass
 pub mod RoundTrip
 pub mod First
+pub mod GrammarLemmas

@@ -14,3 +14,4 @@ pub mod Canonical
 pub mod Appending
 pub mod First
 pub mod Faults
+pub mod Grammar

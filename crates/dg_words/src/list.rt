@@ -3,6 +3,8 @@ ghost use Rattle.std.specs.Prelude.{◌≡◌, ◌++◌, ◌∷◌, [], ◌+◌,
 ghost use Rattle.dg_words.specs.Appending.{Appends, Refuses};
 ghost use Rattle.dg_words.specs.Canonical.{text_of_list};
 ghost use Rattle.dg_words.specs.Elements.{elements_of, list_bare, list_behind, list_braced, list_deed, list_ends, list_follow, list_gap, list_join, list_number_ends, list_numbered, list_pair, list_quoted, list_spot, list_spot_ends, list_step, list_stop, list_turn, unread, without_place, list_read};
+ghost use Rattle.dg_words.specs.Grammar.Lists.{ListOf};
+ghost use Rattle.dg_words.specs.Grammar.Spelling.{IsListFault};
 ghost use Rattle.dg_words.specs.ListRuns.{Passes};
 ghost use Rattle.dg_words.specs.Turns.{with_digit};
 
@@ -319,16 +321,22 @@ fn read_list(alloc: Global, text: &[u8]) -> Result<Seq<Bytes>, WordFault>
 
 /// Reads the elements of a list, by Tcl(n): they are separated by blanks and newlines, and each is
 /// braced (taken as it stands), quoted or bare, the last two with the escapes of a script's words. The
-/// canonical text of a list is read as just that list.
+/// canonical text of a list is read as just that list. By the grammar the text spells this list, and no
+/// other.
 ///
 /// # Errors
 /// The first fault of the text: `ListBrace` or `ListQuote` where it ends inside an element, `ListAfter`
 /// where a braced or quoted one is followed by more, `BadCodePoint`; or `Memory` where a growth is
-/// refused.
+/// refused. What stands before a fault's place can go on to a list, and nothing that begins with the bytes
+/// up to the one there is one.
 pub fn split_list(alloc: Global, text: &[u8]) -> Result<Seq<Bytes>, WordFault>
     ensures reading { MatchResult result (λ xs. elements_of text.now ≡ Ok xs) (λ f. (f ≡ WordFault.Memory) ⊎ (elements_of text.now ≡ Err f)) }
     // A canonical text gives its list back.
     ensures canonical { (xs : List (List ℕ)) → text.now ≡ text_of_list xs → MatchResult result (λ ys. ys ≡ xs) (λ f. f ≡ WordFault.Memory) }
+    // By the grammar the text spells this list.
+    ensures spelled { IfOk result (λ xs. ListOf text.now xs) }
+    // Before the fault the text can go on to a list, up to it nothing is one, and its kind says what is wrong.
+    ensures fault { IfErr result (λ f. (f ≡ WordFault.Memory) ⊎ IsListFault f text.now) }
 {
     read_list(alloc, text)
 }
@@ -371,7 +379,10 @@ fn shared(alloc: Global, texts: &[Text]) -> Result<Seq<Bytes>, AllocError>
 /// # Errors
 /// As `split_list`.
 pub fn list_elements(alloc: Global, list: &Bytes) -> Result<Seq<Bytes>, WordFault>
-    ensures { MatchResult result (λ xs. elements_of list.now ≡ Ok xs) (λ f. (f ≡ WordFault.Memory) ⊎ (elements_of list.now ≡ Err f)) }
+    ensures reading { MatchResult result (λ xs. elements_of list.now ≡ Ok xs) (λ f. (f ≡ WordFault.Memory) ⊎ (elements_of list.now ≡ Err f)) }
+    // By the grammar the text spells this list, or it has a first fault, as for `split_list`.
+    ensures spelled { IfOk result (λ xs. ListOf list.now xs) }
+    ensures fault { IfErr result (λ f. (f ≡ WordFault.Memory) ⊎ IsListFault f list.now) }
 {
     if let Some(kept) = kept_elements(list) {
         return Ok(shared(alloc, kept)?);

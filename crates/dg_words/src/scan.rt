@@ -1,7 +1,9 @@
 //! The reading of a command, of the words of a list, and of an operand.
-ghost use Rattle.std.specs.Prelude.{◌≡◌, ◌++◌, ◌∷◌, [], ◌+◌, ◌==◌, ◌<◌, ◌≤◌, ◌≢◌, ◌^◌, ◌⊎◌, OnOk, IfOk, MatchOption, MatchResult, length, drop, Ok, Err, ℕ, List};
+ghost use Rattle.std.specs.Prelude.{◌≡◌, ◌++◌, ◌∷◌, [], ◌+◌, ◌==◌, ◌<◌, ◌≤◌, ◌≢◌, ◌^◌, ◌⊎◌, OnOk, IfErr, IfOk, MatchOption, MatchResult, length, drop, Ok, Err, ℕ, List};
 ghost use Rattle.dg_words.specs.Answers.{Gives, Made};
 ghost use Rattle.dg_words.specs.First.{FirstCommand, FirstFault};
+ghost use Rattle.dg_words.specs.Grammar.Spelling.{IsCommandFault, IsOperandFault, IsWordsFault, SpellsCommand, SpellsOperand};
+ghost use Rattle.dg_words.specs.Grammar.Words.{WordsOf};
 ghost use Rattle.dg_words.specs.Machine.{Go, follow, follow_inside, fresh, has_room, is_none, leaves, level_in, read, spot_of, step, stop, take_turn};
 ghost use Rattle.dg_words.specs.Reading.{command_at, operand_at, words_of};
 ghost use Rattle.dg_words.specs.Runs.{Reaches};
@@ -336,10 +338,14 @@ fn scan(
 
 /// Reads one command from a place on, by Tcl(n): its words, and the place just behind the newline or
 /// `;` that ends it, or the length of the text. Newlines, `;`, blanks and comments before it are
-/// skipped; there are no words only at the end of the text.
+/// skipped; there are no words only at the end of the text. By the grammar a command of these words is
+/// spelled there, up to that place, and no other.
 ///
 /// # Errors
-/// The first fault of the text from there on, or `Memory` where a growth is refused.
+/// The first fault of the text from there on, or `Memory` where a growth is refused. What stands before a
+/// fault's place can go on to a command, nothing that begins with the bytes up to the one there begins with
+/// one, and the kind says what is wrong: which end is missing, that a word has ended, or that an escape
+/// writes no character.
 pub fn parse_command(alloc: Global, text: &[u8], at: usize) -> Result<Parsed, WordFault>
     requires { at ≤ length text.now }
     ensures reading { MatchResult result (λ p. command_at text.now at ≡ Ok (p.words, p.next)) (λ f. (f ≡ WordFault.Memory) ⊎ (command_at text.now at ≡ Err f)) }
@@ -348,17 +354,26 @@ pub fn parse_command(alloc: Global, text: &[u8], at: usize) -> Result<Parsed, Wo
     ensures onward { IfOk result (λ p. p.words ≢ [] → at < p.next) }
     // No words: nothing is left.
     ensures over { IfOk result (λ p. p.words ≡ [] → p.next ≡ length text.now) }
+    // By the grammar these words are spelled there, up to the place behind.
+    ensures spelled { IfOk result (λ p. SpellsCommand text.now at p.words p.next) }
+    // Before the fault the text can go on to a command, up to it nothing begins with one, and its kind says what is wrong.
+    ensures fault { IfErr result (λ f. (f ≡ WordFault.Memory) ⊎ IsCommandFault f (drop at text.now)) }
 {
     scan(alloc, Level::Top, Mode::Start, text, at)
 }
 
 /// Reads the words of a text, by the same rules, but newlines are blanks, and `;` and `#` stand for
-/// themselves.
+/// themselves. By the grammar the text spells these words, and no others.
 ///
 /// # Errors
-/// The first fault of the text, or `Memory` where a growth is refused.
+/// The first fault of the text, or `Memory` where a growth is refused. A fault has its place and says what
+/// is wrong there, as for a command.
 pub fn parse_words(alloc: Global, text: &[u8]) -> Result<Seq<Word>, WordFault>
-    ensures { MatchResult result (λ ws. words_of text.now ≡ Ok ws) (λ f. (f ≡ WordFault.Memory) ⊎ (words_of text.now ≡ Err f)) }
+    ensures reading { MatchResult result (λ ws. words_of text.now ≡ Ok ws) (λ f. (f ≡ WordFault.Memory) ⊎ (words_of text.now ≡ Err f)) }
+    // By the grammar the text spells these words.
+    ensures spelled { IfOk result (λ ws. WordsOf text.now ws) }
+    // Before the fault the text can go on to words, up to it nothing spells any, and its kind says what is wrong.
+    ensures fault { IfErr result (λ f. (f ≡ WordFault.Memory) ⊎ IsWordsFault f text.now) }
 {
     match scan(alloc, Level::List, Mode::Gap, text, 0) {
         Ok(Parsed { words, .. }) => Ok(words),
@@ -368,15 +383,21 @@ pub fn parse_words(alloc: Global, text: &[u8]) -> Result<Seq<Word>, WordFault>
 
 /// Reads the operand at a place, by the same rules: a quoted or a braced text, a variable, an element or
 /// a command, as one word, and the place just behind it, whatever stands there. A dollar sign that begins
-/// no variable is a text; where nothing else begins there the word has no parts and takes no bytes.
+/// no variable is a text; where nothing else begins there the word has no parts and takes no bytes. By the
+/// grammar this operand is spelled there, up to that place, and no other.
 ///
 /// # Errors
-/// The first fault of the text from there on, or `Memory` where a growth is refused.
+/// The first fault of the text from there on, or `Memory` where a growth is refused. A fault has its place
+/// and says what is wrong there, as for a command.
 pub fn parse_operand(alloc: Global, text: &[u8], at: usize) -> Result<Parsed, WordFault>
     requires { at ≤ length text.now }
     ensures reading { MatchResult result (λ p. operand_at text.now at ≡ Ok (p.words, p.next)) (λ f. (f ≡ WordFault.Memory) ⊎ (operand_at text.now at ≡ Err f)) }
     // The place behind is within the text.
     ensures within { IfOk result (λ p. p.next ≤ length text.now) }
+    // By the grammar this operand is spelled there, up to the place behind.
+    ensures spelled { IfOk result (λ p. SpellsOperand text.now at p.words p.next) }
+    // Before the fault the text can go on to an operand, up to it nothing begins with one, and its kind says what is wrong.
+    ensures fault { IfErr result (λ f. (f ≡ WordFault.Memory) ⊎ IsOperandFault f (drop at text.now)) }
 {
     scan(alloc, Level::Alone, Mode::Operand, text, at)
 }

@@ -8,6 +8,7 @@ use Rattle.dg_world.specs.declared.question.Machine.{Machine}
 use Rattle.dg_world.specs.declared.question.Machine.TheVariants.{Target, Host, Build}
 use Rattle.dg_world.specs.declared.selection.Selection.{Selection}
 use Rattle.dg_world.specs.declared.setting.Setting.{Setting}
+use Rattle.dg_world.specs.declared.selection.TheConstants.{MAX_BOARDS, MAX_NAMES, MAX_SETTINGS}
 
 -- whether no two are the same
 abbrev pub are_distinct : List (List ℕ) → Bool
@@ -16,16 +17,16 @@ are_distinct (x ∷ xs) = not (list_any (same x) xs) && are_distinct xs
 
 -- at most 4,096 names
 abbrev pub are_names : List (List ℕ) → Bool
-are_names names = nat_le (length names) 4096 && list_all is_name names
+are_names names = nat_le (length names) MAX_NAMES && list_all is_name names
 
 -- 1 to 16 distinct boards
 abbrev pub are_boards : List (List ℕ) → Bool
 are_boards boards =
-    nat_le 1 (length boards) && nat_le (length boards) 16 && list_all is_single_part boards && are_distinct boards
+    nat_le 1 (length boards) && nat_le (length boards) MAX_BOARDS && list_all is_single_part boards && are_distinct boards
 
 -- at most 64 settings of distinct variables
 abbrev pub are_settings : List Setting → Bool
-are_settings settings = nat_le (length settings) 64 && list_all is_setting settings && are_distinct (map (λ s. s.name) settings)
+are_settings settings = nat_le (length settings) MAX_SETTINGS && list_all is_setting settings && are_distinct (map (λ s. s.name) settings)
 
 -- whether a selection is valid
 unfoldable pub is_selection : Selection → Bool

@@ -4,6 +4,7 @@ use Rattle.std.specs.Option.{option_map}
 use Rattle.std.specs.List.{list_all, find}
 use Rattle.dg_world.specs.Script.{same}
 use Rattle.dg_world.specs.declared.setting.Setting.{Setting}
+use Rattle.dg_world.specs.declared.setting.TheConstants.{MAX_VALUE_LENGTH}
 
 -- a letter or `_`
 abbrev pub is_variable_start : ℕ → Bool
@@ -20,7 +21,7 @@ is_variable (b ∷ bs) = is_variable_start b && list_all is_variable_byte bs && 
 
 -- a setting: such a variable, and a value of at most 65,536 bytes
 abbrev pub is_setting : Setting → Bool
-is_setting s = is_variable s.name && nat_le (length s.value) 65536
+is_setting s = is_variable s.name && nat_le (length s.value) MAX_VALUE_LENGTH
 
 -- what a variable is set to, if it is
 abbrev pub value_of : List Setting → List ℕ → Option (List ℕ)

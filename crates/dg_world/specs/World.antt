@@ -30,6 +30,7 @@ use Rattle.dg_world.specs.declared.edit.Edit.{Edit}
 use Rattle.dg_world.specs.declared.edit.Edit.TheVariants.{PutFile, RemoveFile, Select, PutTranscript, DropTranscript}
 use Rattle.dg_world.specs.declared.refusal.Refusal.{Refusal}
 use Rattle.dg_world.specs.declared.refusal.Refusal.TheVariants.{BadName, TooLong, TooMany, NoSuchFile, NoSuchTranscript, BadSelection}
+use Rattle.dg_world.specs.declared.world.TheConstants.{MAX_FILES, MAX_FILE_LENGTH, MAX_TRANSCRIPTS}
 
 -- the files, each name with its bytes, in byte order of the names and each name once; what is run; the sessions of
 -- each test that has a transcript, in the tests' order and each test once; and the book of patterns
@@ -41,11 +42,11 @@ pub record WorldView : Type 0 where
 
 -- a file of a world: a name, and at most 1,048,576 bytes
 abbrev pub is_file : List ℕ × List ℕ → Bool
-is_file file = is_name file.0 && nat_le (length file.1) 1048576
+is_file file = is_name file.0 && nat_le (length file.1) MAX_FILE_LENGTH
 
 -- whether a world is within the limits: at most 4,096 files and 65,536 transcripts, and a valid selection
 unfoldable pub is_world : WorldView → Bool
-is_world w = nat_le (length w.files) 4096 && list_all is_file w.files && is_selection w.selection && nat_le (length w.transcripts) 65536
+is_world w = nat_le (length w.files) MAX_FILES && list_all is_file w.files && is_selection w.selection && nat_le (length w.transcripts) MAX_TRANSCRIPTS
 
 -- a new world has no files and no transcripts, and was asked for no pattern
 abbrev pub new_world : WorldView
@@ -100,7 +101,7 @@ without_transcript w t = record w { transcripts = remove_entry (is_at (test_cmp 
 
 -- whether there is no room for a transcript of this test
 abbrev pub lacks_room : WorldView → TestView → Bool
-lacks_room w t = not (is_some (transcript_of w t)) && nat_le 65536 (length w.transcripts)
+lacks_room w t = not (is_some (transcript_of w t)) && nat_le MAX_TRANSCRIPTS (length w.transcripts)
 
 -- the world with the transcript of a test, or the refusal for want of room
 abbrev pub recorded : WorldView → TestView → List (List EntryOfSession) → Result WorldView Refusal
@@ -110,8 +111,8 @@ recorded w t ss = cond (lacks_room w t) (Err TooMany) (Ok (with_transcript w t s
 abbrev pub edited : WorldView → Edit → Result WorldView Refusal
 edited w (PutFile name bytes) =
     cond (not (is_name name)) (Err BadName)
-    (cond (not (nat_le (length bytes) 1048576)) (Err TooLong)
-    (cond (not (is_some (content_of w name)) && nat_le 4096 (length w.files)) (Err TooMany)
+    (cond (not (nat_le (length bytes) MAX_FILE_LENGTH)) (Err TooLong)
+    (cond (not (is_some (content_of w name)) && nat_le MAX_FILES (length w.files)) (Err TooMany)
     (Ok (with_file w name bytes))))
 edited w (RemoveFile name) =
     cond (not (is_name name)) (Err BadName)

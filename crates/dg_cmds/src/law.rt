@@ -1,0 +1,8 @@
+//! The law on what commands come to.
+ghost use Rattle.dg_cmds.specs.Commands.{NoCommandWantsMemory};
+
+/// What a string, list or format command comes to is never want of memory, but a value, a script error, or
+/// that the value is too long.
+pub fn no_command_wants_memory()
+    ensures { NoCommandWantsMemory }
+{}

@@ -1,5 +1,0 @@
-use Rattle.dg_grammar.proofs.Faults.{open_operand_misses_its_inmost_end}
-use Rattle.dg_grammar.proofs.operands.open_operand_misses_its_inmost_end.Goals as goal
-
-pub returns : goal.returns
-returns c = λ text at k ks o. open_operand_misses_its_inmost_end text at k ks o

@@ -1,5 +1,0 @@
-use Rattle.dg_grammar.proofs.Faults.{operand_fault_has_its_place}
-use Rattle.dg_grammar.proofs.operands.operand_fault_has_its_place.Goals as goal
-
-pub returns : goal.returns
-returns c = λ text at fault e. operand_fault_has_its_place text at fault e

@@ -1,5 +1,0 @@
-use Rattle.dg_grammar.proofs.CommandSpelled.{read_operand_is_spelled}
-use Rattle.dg_grammar.proofs.operands.read_operand_is_spelled.Goals as goal
-
-pub returns : goal.returns
-returns c = λ text at next ws h. read_operand_is_spelled text at next ws h

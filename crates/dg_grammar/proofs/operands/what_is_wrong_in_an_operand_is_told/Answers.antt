@@ -1,5 +1,0 @@
-use Rattle.dg_grammar.proofs.Faults.{what_is_wrong_in_an_operand_is_told}
-use Rattle.dg_grammar.proofs.operands.what_is_wrong_in_an_operand_is_told.Goals as goal
-
-pub returns : goal.returns
-returns c = λ text at place fault x y w. what_is_wrong_in_an_operand_is_told text at place fault x y w

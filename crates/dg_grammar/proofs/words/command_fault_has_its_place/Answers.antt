@@ -1,5 +1,0 @@
-use Rattle.dg_grammar.proofs.Faults.{command_fault_has_its_place}
-use Rattle.dg_grammar.proofs.words.command_fault_has_its_place.Goals as goal
-
-pub returns : goal.returns
-returns c = λ text at fault e. command_fault_has_its_place text at fault e

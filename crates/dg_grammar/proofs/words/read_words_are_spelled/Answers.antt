@@ -1,5 +1,0 @@
-use Rattle.dg_grammar.proofs.CommandSpelled.{read_words_are_spelled}
-use Rattle.dg_grammar.proofs.words.read_words_are_spelled.Goals as goal
-
-pub returns : goal.returns
-returns c = λ text ws h. read_words_are_spelled text ws h

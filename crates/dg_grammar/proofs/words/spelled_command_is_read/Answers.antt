@@ -1,5 +1,0 @@
-use Rattle.dg_grammar.proofs.WordRead.{spelled_command_is_read}
-use Rattle.dg_grammar.proofs.words.spelled_command_is_read.Goals as goal
-
-pub returns : goal.returns
-returns c = λ text at n ws h. spelled_command_is_read text at n ws h

@@ -1,5 +1,0 @@
-use Rattle.dg_grammar.proofs.WordRead.{spelled_words_are_read}
-use Rattle.dg_grammar.proofs.words.spelled_words_are_read.Goals as goal
-
-pub returns : goal.returns
-returns c = λ text ws h. spelled_words_are_read text ws h

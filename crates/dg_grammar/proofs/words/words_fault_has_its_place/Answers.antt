@@ -1,5 +1,0 @@
-use Rattle.dg_grammar.proofs.Faults.{words_fault_has_its_place}
-use Rattle.dg_grammar.proofs.words.words_fault_has_its_place.Goals as goal
-
-pub returns : goal.returns
-returns c = λ text fault e. words_fault_has_its_place text fault e

@@ -1,7 +1,0 @@
-pub mod Escapes
-pub mod Lists
-pub mod Words
-pub mod Operands
-pub mod Continuing
-pub mod Ends
-pub mod Saying
