@@ -19,7 +19,7 @@ use Rattle.dg_language.specs.declared.command.TargetCommand.TheVariants.{IsTarge
 use Rattle.dg_language.specs.declared.command.FlagCommand.{FlagCommand}
 use Rattle.dg_language.specs.declared.command.FlagCommand.TheVariants.{SetupXfail, SetupKfail, ClearXfail, ClearKfail}
 use Rattle.dg_language.specs.Play.{Play}
-use Rattle.dg_language.specs.State.{State, with_call, in_library, setting_of, departed}
+use Rattle.dg_language.specs.State.{State, with_call, in_library, marked, setting_of, departed}
 use Rattle.dg_language.specs.Evaluation.{Ending, Then, Nested, ask, fail, if_done, on, one_of, two_of, first_of, outside, quoted, wrong_count}
 use Rattle.dg_language.specs.Variables.{or_empty}
 use Rattle.dg_language.specs.Completing.{Immediately, gives, does, counted}
@@ -74,8 +74,9 @@ content_of _ = None
 unfoldable pub after_library : Then → Then
 after_library k c v s = outside (if_done (λ _ s'. k Done [] s') k) c v (departed s)
 
+-- a library begins, also where there is no file of it: only the first `load_lib` of that one is an error
 abbrev pub found : Nested → List ℕ → Option (List ℕ) → State → Then → Play Ending
-found nested f None s k = fail (no_library f) s k
+found nested f None s k = fail (no_library f) (marked (library_file f) s) k
 found nested f (Some t) s k = nested t (in_library (library_file f) s) (after_library k)
 
 -- a library that has begun is not evaluated again

@@ -30,7 +30,7 @@ after_library-at ExpContinued v s = completes Failed _ (departed s)
 
 module _ (nested : Nested) (inside : IsGraftedInside nested) where
   found-grafted : (f : List ℕ) (content : Option (List ℕ)) (s : State) → Grafted (found nested f content s)
-  found-grafted f None s = fail-grafted _ s
+  found-grafted f None s = fail-grafted _ _
   found-grafted f (Some t) s = one_after_another (inside t (in_library (library_file f) s)) after_library-at
 
   load-grafted : (f : List ℕ) (s : State) → Grafted (load nested f s)

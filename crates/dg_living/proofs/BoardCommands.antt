@@ -16,7 +16,7 @@ use Rattle.dg_language.specs.State.{State, in_library, departed}
 use Rattle.dg_language.specs.Evaluation.{Nested, one_of}
 use Rattle.dg_language.specs.Boards.{library_file, content_of, after_library, found, load, load_named, do_load_lib, do_is, do_is_native, do_target, is_pattern, triplet_of, do_flag}
 use Rattle.dg_living.proofs.Steps.{Lives}
-use Rattle.dg_living.proofs.Changes.{departed-same, in_library-same, flagged-same}
+use Rattle.dg_living.proofs.Changes.{departed-same, in_library-same, flagged-same, marked-same}
 use Rattle.dg_living.proofs.Steps.{LivesInside, completes, along, one_after_another, either, on-lives, ask-lives, fail-lives}
 
 after_library-at : (c : Code) (v : List ℕ) (s : State) → Lives s (λ k. after_library k c v s)
@@ -30,7 +30,7 @@ after_library-at ExpContinued v s = along (departed-same s) (completes Failed _ 
 
 module _ (nested : Nested) (inside : LivesInside nested) where
   found-lives : (f : List ℕ) (content : Option (List ℕ)) (s : State) → Lives s (found nested f content s)
-  found-lives f None s = fail-lives _ s
+  found-lives f None s = along (marked-same (library_file f) s) (fail-lives _ _)
   found-lives f (Some t) s = along (in_library-same (library_file f) s) (one_after_another (inside t (in_library (library_file f) s)) after_library-at)
 
   load-lives : (f : List ℕ) (s : State) → Lives s (load nested f s)

@@ -25,7 +25,7 @@ impl Machine {
         Ok(self.fail(alloc, message)?)
     }
 
-    /// A library is evaluated, if it has not begun before.
+    /// A library is evaluated, if it has not begun before. One that is not there has begun too, by its error.
     fn load_library(
         &mut self,
         alloc: Global,
@@ -46,7 +46,10 @@ impl Machine {
                 let ask = plain_ask(alloc, question)?;
                 Ok(Pace::Stands(ask))
             }
-            FileText::Known(None) => Ok(self.miss_library(alloc, library)?),
+            FileText::Known(None) => {
+                self.state.mark(alloc, file.as_slice())?;
+                Ok(self.miss_library(alloc, library)?)
+            }
             FileText::Known(Some(text)) => {
                 self.state.enter_library(alloc, file.as_slice())?;
                 self.stack.push(Frame::Loading)?;

@@ -3,7 +3,7 @@ use Rattle.dg_language.specs.Boards.{load}
 use Rattle.dg_language.specs.Language.{evaluate}
 use Rattle.dg_machine.specs.Meaning.{rest, back, all_back, weight}
 use Rattle.dg_machine.proofs.StepLemmas.{Goes-runs}
-use Rattle.dg_machine.proofs.OpeningLemmas.{weight-pushed}
+use Rattle.dg_machine.proofs.OpeningLemmas.{known-marked, weight-marked, weight-pushed}
 use Rattle.dg_machine.proofs.BoardLemmas.{load-begun, load-asks, load-known, known-in_library, weight-in_library}
 use Rattle.dg_machine.proofs.machine.Machine.load_library.Goals as goal
 
@@ -23,8 +23,9 @@ pub returns-in_ok-miss_library-in-Known-None : goal.returns-in_ok-miss_library-i
 returns-in_ok-miss_library-in-Known-None c =
     let new = rw (c.as_slice.ensures.bytes, c.requires.file) at (sym c.has_begun.ensures ∙ c.if-has_begun.false) in
     let held = rw c.requires.file at (rw c.in-Known-None.field-0-is at (rw c.in-Known-None.is at c.in_ok-question.ensures)) in
-    Goes-runs _ _ _ (λ s. load (evaluate c.args.depth) c.args.library.now s (all_back c.args.self.now.stack)) _ _ _ _ c.in_ok-miss_library-in-Known-None.ensures
-    (load-known _ _ _ _ _ new held) refl (omega arith)
+    let went = rw (c.in_ok-mark-in-Known-None.ensures, c.as_slice-in-Known-None.ensures.bytes, c.requires.file) at c.in_ok-miss_library-in-Known-None.ensures in
+    Goes-runs _ _ _ (λ s. load (evaluate c.args.depth) c.args.library.now s (all_back c.args.self.now.stack)) _ _ _ _ went
+    (load-known _ _ _ _ _ new held) (known-marked _ _) (rw weight-marked (omega arith))
 
 pub returns-in_ok-enter-in-Known-Some : goal.returns-in_ok-enter-in-Known-Some
 unfolding all_back back
