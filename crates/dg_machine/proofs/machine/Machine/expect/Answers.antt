@@ -20,7 +20,7 @@ returns-in_ok-push-in-Ok c =
     let k = all_back c.args.self.now.stack in
     let nested = evaluate c.args.depth in
     let steps = c.in_ok-steps_of-in-Ok.ensures in
-    let words = rw c.as_slice.ensures at c.in-Ok.ensures in
+    let words = rw c.as_slice.ensures at c.in-Ok.ensures.reading in
     let listed = expect-listed nested _ s k _ _ c.in-Some.ensures words in
     rw (c.in_ok-push-in-Ok.ensures, c.new.ensures, c.new-in-Ok.ensures, c.new-in-Ok-2.ensures, c.requires) (
       ap (λ ps. gather nested (expect_with nested) [] [] [] ps s k) (steps ∙ ap substitutions c.as_slice-in-Ok.ensures) ∙ sym listed,
@@ -30,6 +30,6 @@ returns-in_ok-push-in-Ok c =
 
 pub returns-in_ok-fail-in_default-fault : goal.returns-in_ok-fail-in_default-fault
 returns-in_ok-fail-in_default-fault c =
-    let unread = the-other (rw c.as_slice.ensures at c.in-Err.ensures) c.in_default-fault.not-Memory in
+    let unread = the-other (rw c.as_slice.ensures at c.in-Err.ensures.reading) c.in_default-fault.not-Memory in
     let went = rw (c.in_ok-message-in_default-fault.ensures, c.fault_text.ensures) at c.in_ok-fail-in_default-fault.ensures in
     Goes-along _ _ _ _ _ _ _ _ went (expect-unreadable _ _ _ _ _ _ c.in-Some.ensures unread) refl (omega arith)
