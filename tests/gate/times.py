@@ -1,5 +1,6 @@
 #!/usr/bin/env python3
-"""Runs the gate and writes docs/TIMES.md: how many processor seconds each crate took for its proof, its tests and its wrong bodies.
+"""Runs the gate and writes docs/TIMES.md anew up to its first heading of the second level: how many processor seconds each crate
+took for its proof, its tests and its wrong bodies.
 
     python3 tests/gate/times.py              runs `rt ci` at the top of the repository
     python3 tests/gate/times.py WORD ..      runs another command in its place, as `rt must-fail dg_glob`, and prints the table
@@ -138,7 +139,9 @@ def main(words):
     if words:
         print(rows)
     else:
-        (TOP / "docs" / "TIMES.md").write_text(page(rows, (time.time() - begun) / 60))
+        file = TOP / "docs" / "TIMES.md"
+        _, heading, rest = file.read_text().partition("\n## ")
+        file.write_text(page(rows, (time.time() - begun) / 60) + heading + rest)
     return gate.returncode
 
 
