@@ -6,11 +6,12 @@ top=$(cd "$(dirname "$0")/../.." && pwd)
 work=$(mktemp -d)
 trap 'rm -rf "$work"' EXIT
 mkdir -p "$work/crates/transcript_times/src" "$work/crates/transcript_times/specs" "$work/crates/transcript_times/proofs"
-cp -r "$top/crates/dg_words" "$top/crates/dg_transcript" "$work/crates"
+cp -r "$top/crates/dg_bytes" "$top/crates/dg_transcript" "$work/crates"
 cp "$top/bench/transcript/main.rt.in" "$work/crates/transcript_times/src/main.rt"
 : > "$work/crates/transcript_times/specs/Lib.antt"
 : > "$work/crates/transcript_times/proofs/Lib.antt"
-printf 'dg_words: thiserror\ndg_transcript: dg_words hex bstr thiserror\ntranscript_times: dg_transcript\n' > "$work/crates.txt"
+grep -E '^dg_(bytes|transcript):' "$top/crates.txt" > "$work/crates.txt"
+echo 'transcript_times: dg_transcript' >> "$work/crates.txt"
 echo 'name, ms, MB of the chunks a second:'
 cd "$work/crates/transcript_times"
 "${RT:-rt}" run 2>/dev/null | grep -E '^[a-z]+ [0-9]+ [0-9]+$'

@@ -5,7 +5,7 @@
 # The signal goes to the group of the run and its children, of which some read their input and some sleep: none may be left. Each
 # third goes to the run alone: those that read their input may not be left. After each kill every file of the run's folder has to be
 # whole, of the run before or of this one, and the next run has to work, and to leave just the files that an undisturbed run leaves.
-# What the killed one was writing may stand beside its place, as NAME.PID.new. Half of the moments are near the time in which files
+# What the killed one was writing may stand beside its place, as NAME.N.new. Half of the moments are near the time in which files
 # are written. A kill that comes when the run has ended is none: another moment is drawn, COUNT times 10 at most.
 set -e
 top=$(cd "$(dirname "$0")/../.." && pwd)
