@@ -6,7 +6,7 @@ mod law;
 mod replays;
 
 pub use crate::law::{
-    each_text_comes_to_an_outcome, each_text_is_grafted, no_peek_is_grafted,
+    each_text_comes_to_an_outcome, each_text_is_grafted, no_peek_is_grafted, read_words_are_nested,
     the_judging_is_grafted, words_are_made_of_their_parts,
 };
 pub use crate::replays::{
