@@ -129,34 +129,6 @@ fn ends_once(alloc: Global) -> Result<bool, AllocError> {
     )
 }
 
-/// The job, if its next turn asks for the board's file.
-fn at_its_first_question(alloc: Global, mut job: Job) -> Option<Job> {
-    if asks_for_file(alloc, &mut job, b"boards/unix.exp") {
-        return Some(job);
-    }
-    None
-}
-
-/// Whether a job at its first question is told all that it asks, and ends with one line, which passes with the message `one`.
-fn is_told_to_its_end(alloc: Global, mut job: Job, tool: Bytes, script: Bytes) -> bool {
-    comes_to_its_script(alloc, &mut job, tool)
-        && job.answer(Answer::Content(script)).is_ok()
-        && ends_with_pass(alloc, &mut job, b"one")
-}
-
-/// Whether a job asks in one thread, and is told in another.
-fn goes_to_another_thread(rt: &impl Threads, alloc: Global) -> Result<bool, AllocError> {
-    let begun = begun(alloc)?;
-    let tool = Bytes::from_slice(alloc, b"t")?;
-    let script = Bytes::from_slice(alloc, b"pass one")?;
-    let asker = thread::spawn(rt, move || at_its_first_question(alloc, begun))?;
-    let Some(asked) = asker.join(rt) else {
-        return Ok(false);
-    };
-    let teller = thread::spawn(rt, move || is_told_to_its_end(alloc, asked, tool, script))?;
-    Ok(teller.join(rt))
-}
-
 /// Whether the next turn asks how this pattern is read.
 fn asks_for_pattern(alloc: Global, job: &mut Job, wanted: &[u8]) -> bool {
     match plain_question(alloc, job) {
@@ -209,14 +181,9 @@ pub fn fails_for_good(rt: &impl Threads, alloc: Global) -> Result<bool, AllocErr
 }
 
 /// Tries all cases.
-pub fn try_cases(rt: &(impl Print + Threads), alloc: Global) -> Tried<()> {
+pub fn try_cases(rt: &impl Print, alloc: Global) -> Tried<()> {
     tell(rt, "a new job has asked nothing", has_asked_nothing(alloc))?;
     tell(rt, "a question stands", stands_until_answered(alloc))?;
     tell(rt, "a job ends once", ends_once(alloc))?;
-    tell(
-        rt,
-        "a job goes to another thread",
-        goes_to_another_thread(rt, alloc),
-    )?;
     tell(rt, "a lost pattern", tells_a_lost_pattern(alloc))
 }
