@@ -8,8 +8,8 @@ work=$(mktemp -d)
 trap 'rm -rf "$work"' EXIT
 tar -C "$top" --exclude=out/incremental --exclude=must-fail -cf - crates crates.txt HANDLES | tar -C "$work" -xf -
 trials="$work/crates/dg_trials"
-rm -r "$trials/src/live" "$trials/src/live.rt" "$trials/src/reports" "$trials/src/reports.rt" "$trials/src/sessions" \
-    "$trials/src/sessions.rt" "$trials/src/jobs.rt" "$trials/src/memory.rt" "$trials/src/lines.rt"
+find "$trials/src" -mindepth 1 -maxdepth 1 ! -name 'bench*' ! -name wanted.rt -exec rm -r {} +
+rm -r "$trials/proofs/rows" "$trials/proofs/pipes"
 cat > "$trials/src/main.rt" <<'END'
 //! Edits of one bench.
 #![tactic(auto)]

@@ -1,6 +1,6 @@
 //! Jobs, turn by turn: answers and lines written out by hand.
 use crate::lines::tell;
-use crate::memory::take_all;
+use crate::memory::Taken;
 use anyhow::Result as Tried;
 use dg_boards::Triplet;
 use dg_bytes::Bytes;
@@ -11,8 +11,6 @@ use dg_records::Record;
 use dg_results::Class;
 use dg_world::{Answer, Question, TestId};
 use std::alloc::{AllocError, Global};
-use std::thread;
-use std::thread::Threads;
 
 /// A job that has just begun, of the script t/a.exp.
 fn begun(alloc: Global) -> Result<Job, AllocError> {
@@ -164,20 +162,13 @@ fn has_failed(alloc: Global, job: &mut Job) -> bool {
 }
 
 /// Whether a growth that is refused ends a job for good, where all memory is taken.
-fn fails_here(alloc: Global) -> Result<bool, AllocError> {
+pub fn fails_for_good(alloc: Global) -> Result<bool, AllocError> {
     let mut job = begun(alloc)?;
-    let mut blocks: Vec<Vec<u8>> = Vec::with_capacity(alloc, 400_001)?;
-    take_all(alloc, &mut blocks);
-    let is_full = Vec::<u8>::with_capacity(alloc, 16).is_err();
+    let mut taken = Taken::new(alloc)?;
+    let is_full = taken.take_all(alloc);
     let is_refused = matches!(job.advance(alloc), Err(JobFault::Memory));
-    blocks.clear();
+    drop(taken);
     Ok(is_refused == is_full && (!is_refused || has_failed(alloc, &mut job)))
-}
-
-/// The same in a thread, whose stack is there as a whole.
-pub fn fails_for_good(rt: &impl Threads, alloc: Global) -> Result<bool, AllocError> {
-    let thread = thread::spawn(rt, move || fails_here(alloc))?;
-    thread.join(rt)
 }
 
 /// Tries all cases.

@@ -8,12 +8,14 @@ mod rows;
 mod runs;
 mod steps;
 
+use crate::files::bytes_of;
 use crate::live::drawing::try_drawn;
 use crate::live::rows::try_rows;
 use crate::live::steps::try_steps;
 use anyhow::Result;
+use std::io;
 use std::io::{BufWriter, Write};
-use std::{fs, io};
+use std::rt::Files;
 
 /// The rows of runs.
 const ROWS: &str = "live.rows";
@@ -21,14 +23,8 @@ const ROWS: &str = "live.rows";
 /// The pieces that scripts are drawn from.
 const PIECES: &str = "random.pieces";
 
-/// The bytes of a file, which stands in this folder.
-fn bytes_of(rt: &HostRuntime, folder: &str, file: &str) -> Result<Vec<u8>> {
-    let path = format!(in rt.alloc(); "{folder}/{file}")?;
-    Ok(fs::read(rt, path.as_str())?)
-}
-
 /// Tries the files of this folder. For each it tells how many runs there are, and before that each one that gives something else.
-pub fn try_files(rt: &HostRuntime, folder: &str) -> Result<()> {
+pub fn try_files<R: Print + Files + AllocGlobal>(rt: &R, folder: &str) -> Result<()> {
     let alloc = rt.alloc();
     let mut out = BufWriter::new(alloc, io::writer(rt))?;
     let rows = bytes_of(rt, folder, ROWS)?;

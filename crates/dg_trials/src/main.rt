@@ -1,59 +1,98 @@
-//! The program that tries what neither a clause nor a row of calls can say. Each line that it writes is a case, and whether it came
-//! out as it has to, or a file of data, and how much of it was tried. No line depends on how threads run.
+//! The program that tries what no clause says: rows of calls, each with the answer that it must give, and what no row says. Each line
+//! that it writes is a case, and whether it came out as it has to, or a file of data, and how much of it was tried. No line depends on
+//! how threads run.
 #![tactic(auto)]
 
 mod bench;
+mod files;
+mod growths;
 mod jobs;
 mod lines;
 mod live;
 mod memory;
+mod pipes;
 mod reports;
+mod rows;
 mod sessions;
 mod wanted;
 
-use crate::lines::tell;
-use anyhow::Result;
-use std::alloc::Global;
+use anyhow::{Result, bail};
 use std::env;
+use std::process::{Processes, SystemProcess};
+use std::rt::Files;
+use std::sync::Wait;
 use std::thread::Threads;
+use std::time::Clock;
 
-/// Tries calls with ever more memory. They come first, where the heap is as at the start.
-fn try_growths(rt: &(impl Print + Threads), alloc: Global) -> Result<()> {
-    tell(
-        rt,
-        "a job's refused growth",
-        jobs::fails_for_good(rt, alloc),
-    )?;
-    tell(
-        rt,
-        "a core's refused growths",
-        reports::growth::are_told(rt, alloc),
-    )?;
-    tell(
-        rt,
-        "a session's refused growths",
-        sessions::growth::are_told(rt, alloc),
-    )?;
-    tell(
-        rt,
-        "a live run's refused growths",
-        sessions::live::are_told(rt, alloc),
-    )
+/// The parts that are tried in turn.
+const PARTS: [&str; 7] = [
+    "jobs", "cores", "sessions", "live", "benches", "rows", "pipes",
+];
+
+/// Tries a part, with the data of this folder.
+fn try_part<R>(rt: R, folder: &str, part: &str) -> Result<()>
+where
+    R: Print
+        + Files
+        + AllocGlobal
+        + Processes<Started = SystemProcess>
+        + Threads
+        + Wait
+        + Clock
+        + Copy
+        + Drop
+        + Send
+        + Sync
+        + 'static,
+{
+    match part {
+        "growths" => growths::try_all(&rt, folder),
+        "jobs" => jobs::try_cases(&rt, rt.alloc()),
+        "cores" => reports::try_cases(&rt, rt.alloc()),
+        "sessions" => sessions::try_cases(&rt, rt.alloc()),
+        "live" => live::try_files(&rt, folder),
+        "benches" => bench::try_cases(&rt),
+        "rows" => rows::try_files(&rt, folder),
+        "pipes" => pipes::try_file(rt, folder),
+        _ => bail!("there is no part of this name"),
+    }
 }
 
-/// Tries all with the data of the folder where the program runs, or of the one that the command line names. Under `rt try` memory
-/// can't be taken whole, so where a folder is named growths are left out.
+/// Tries all parts, with the data of this folder.
+fn try_parts<R>(rt: R, folder: &str) -> Result<()>
+where
+    R: Print
+        + Files
+        + AllocGlobal
+        + Processes<Started = SystemProcess>
+        + Threads
+        + Wait
+        + Clock
+        + Copy
+        + Drop
+        + Send
+        + Sync
+        + 'static,
+{
+    for part in PARTS {
+        try_part(rt, folder, part)?;
+    }
+    Ok(())
+}
+
+/// Tries all with the data of the folder where the program runs. Growths come first, where the heap is as at the start. Where a folder
+/// is named its data are taken, and growths are left out, since under `rt try` memory can't be taken whole; a word behind it names the
+/// one part that is tried.
 fn main(rt: HostRuntime) -> Result<()> {
-    let named = env::args(&rt)?.nth(1);
-    if named.is_none() {
-        try_growths(&rt, rt.alloc())?;
+    let mut words = env::args(&rt)?;
+    let folder = words.nth(1);
+    let part = words.next();
+    match (folder, part) {
+        (Some(folder), Some(part)) => try_part(rt, folder.as_str(), part.as_str()),
+        (Some(folder), None) => try_parts(rt, folder.as_str()),
+        (None, _) => {
+            try_part(rt, ".", "growths")?;
+            try_parts(rt, ".")
+        }
     }
-    jobs::try_cases(&rt, rt.alloc())?;
-    reports::try_cases(&rt, rt.alloc())?;
-    sessions::try_cases(&rt, rt.alloc())?;
-    match named {
-        Some(folder) => live::try_files(&rt, folder.as_str())?,
-        None => live::try_files(&rt, ".")?,
-    }
-    bench::try_cases(&rt)
 }

@@ -1,11 +1,8 @@
-//! Growths that are refused, one after another.
+//! Growths that are refused to a session.
 use super::streams::{Front, Pieces};
-use crate::memory::{ROOM, ROUNDS, Rounds, take_all};
 use dg_core::Core;
 use dg_session::{SessionFault, run_session};
-use std::alloc::{AllocError, Global};
-use std::thread;
-use std::thread::Threads;
+use std::alloc::Global;
 
 const INPUT: &[u8] = b"put t/a.exp 7061737320226f6e65220a\nreport\nput ../x -\nreport\n";
 
@@ -23,6 +20,9 @@ const EMPTY: &[u8] =
 
 /// The bytes of all answers where there is memory enough.
 const WHOLE: usize = 335;
+
+/// The bytes of a buffer that has room for them.
+const HELD_MOST: usize = 4096;
 
 /// What is behind the one of these answers that comes first.
 fn behind<'a>(held: &'a [u8], answers: &[&[u8]]) -> Option<&'a [u8]> {
@@ -95,35 +95,12 @@ fn is_whole(held: &[u8], ended: Option<Result<(), SessionFault>>) -> Option<bool
     }
 }
 
-/// The sessions beside ever smaller blocks.
-fn sessions(alloc: Global, mut held: Vec<u8>) -> Rounds {
-    let mut rounds = Rounds::new();
-    for step in 0..ROUNDS {
-        let pad = Vec::<u8>::with_capacity(alloc, ROOM - 16 * step);
-        held.clear();
-        let (written, ended) = session(alloc, held);
-        rounds.count(is_whole(written.as_slice(), ended));
-        held = written;
-        drop(pad);
-    }
-    rounds
-}
-
-/// Whether each refused growth is told, where all memory but a block is taken and ever more of that block is left.
-fn are_told_here(alloc: Global) -> Result<bool, AllocError> {
-    let held = Vec::<u8>::with_capacity(alloc, 4096)?;
-    let mut blocks: Vec<Vec<u8>> = Vec::with_capacity(alloc, 400_001)?;
-    let room = Vec::<u8>::with_capacity(alloc, ROOM)?;
-    take_all(alloc, &mut blocks);
-    let is_full = Vec::<u8>::with_capacity(alloc, 16).is_err();
-    drop(room);
-    let rounds = sessions(alloc, held);
-    blocks.clear();
-    Ok(rounds.are_right(is_full))
-}
-
-/// The same in a thread, whose stack is there as a whole: that of the first thread can't grow once all memory is taken.
-pub fn are_told(rt: &impl Threads, alloc: Global) -> Result<bool, AllocError> {
-    let thread = thread::spawn(rt, move || are_told_here(alloc))?;
-    thread.join(rt)
+/// A session beside a buffer for its answers and a block, which take so many bytes together.
+pub fn round(alloc: Global, pad: usize) -> Option<bool> {
+    let Ok(held) = Vec::<u8>::with_capacity(alloc, HELD_MOST) else {
+        return Some(false);
+    };
+    let _pad = Vec::<u8>::with_capacity(alloc, pad.saturating_sub(HELD_MOST));
+    let (written, ended) = session(alloc, held);
+    is_whole(written.as_slice(), ended)
 }

@@ -1,6 +1,5 @@
 //! Growths that are refused in a live run, and where it is kept.
 use crate::live::desk::Desk;
-use crate::memory::{ROOM, ROUNDS, Rounds, take_all};
 use dg_bytes::Bytes;
 use dg_core::{Core, Reply as Told};
 use dg_eval::JobFault;
@@ -11,8 +10,6 @@ use dg_transcript::{Transcript, encode};
 use dg_world::{Edit, Refusal, TestId};
 use std::alloc::{AllocError, Global};
 use std::collections::VecDeque;
-use std::thread;
-use std::thread::Threads;
 
 /// Starts a child, talks to it, and ends it.
 const SCRIPT: &[u8] =
@@ -25,12 +22,6 @@ const TRANSCRIPT: &[u8] =
 /// The report of it.
 const REPORT: &[u8] =
     b"\t\t=== t tests ===\n\nSchedule of variations:\n    unix\n\nRunning target unix\nRunning t/a.exp ...\nPASS: x\nNOTE: 0\n\n\t\t=== t Summary ===\n\n# of expected passes\t\t1\n";
-
-/// The bytes that are left to a run, and 64 more in each round: four blocks beside one another, each small enough to come from the heap.
-const ALL_ROOM: usize = 4 * ROOM;
-
-/// How many rounds with room enough show that there is.
-const ENOUGH: usize = 100;
 
 /// Why a run was not kept: for want of memory, or for anything else.
 #[derive(Drop)]
@@ -148,7 +139,7 @@ fn is_pending(alloc: Global, desk: &Desk) -> bool {
 
 /// Whether the test is run and kept beside a block of so many bytes, or not for want of memory. The core is then as it was, and
 /// keeps a run once the block is gone. Nothing where anything else comes of it.
-fn round(alloc: Global, pad: usize) -> Option<bool> {
+pub fn round(alloc: Global, pad: usize) -> Option<bool> {
     let mut desk = desk_of(alloc)?;
     let is_first = match attempt(alloc, &mut desk, pad) {
         Ok(()) => true,
@@ -163,40 +154,4 @@ fn round(alloc: Global, pad: usize) -> Option<bool> {
     } else {
         None
     }
-}
-
-/// The runs beside ever smaller blocks, until there is room enough.
-fn runs(alloc: Global) -> Rounds {
-    let mut rounds = Rounds::new();
-    for step in 0..ROUNDS {
-        if rounds.whole == ENOUGH {
-            break;
-        }
-        rounds.count(round(alloc, ALL_ROOM - 64 * step));
-    }
-    rounds
-}
-
-/// Whether each refused growth is told, where all memory but four blocks is taken and ever more of these is left.
-fn are_told_here(alloc: Global) -> Result<bool, AllocError> {
-    let mut blocks: Vec<Vec<u8>> = Vec::with_capacity(alloc, 400_001)?;
-    let first = Vec::<u8>::with_capacity(alloc, ROOM)?;
-    let second = Vec::<u8>::with_capacity(alloc, ROOM)?;
-    let third = Vec::<u8>::with_capacity(alloc, ROOM)?;
-    let fourth = Vec::<u8>::with_capacity(alloc, ROOM)?;
-    take_all(alloc, &mut blocks);
-    let is_full = Vec::<u8>::with_capacity(alloc, 16).is_err();
-    drop(first);
-    drop(second);
-    drop(third);
-    drop(fourth);
-    let rounds = runs(alloc);
-    blocks.clear();
-    Ok(rounds.are_right(is_full))
-}
-
-/// The same in a thread, whose stack is there as a whole: that of the first thread can't grow once all memory is taken.
-pub fn are_told(rt: &impl Threads, alloc: Global) -> Result<bool, AllocError> {
-    let thread = thread::spawn(rt, move || are_told_here(alloc))?;
-    thread.join(rt)
 }

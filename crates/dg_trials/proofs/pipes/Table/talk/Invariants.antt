@@ -1,0 +1,4 @@
+use Rattle.dg_trials.proofs.pipes.Table.talk.Given as goal
+
+abbrev pub invariant-loop : goal.invariant-loop
+invariant-loop g l = g.G.Gate.is_ready l.self.gate

@@ -1,4 +1,0 @@
-use Rattle.pipe_rows.proofs.Table.drain.Given as goal
-
-abbrev pub invariant-loop : goal.invariant-loop
-invariant-loop g l = g.G.Gate.is_ready l.self.gate
