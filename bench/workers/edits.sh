@@ -8,13 +8,14 @@ work=$(mktemp -d)
 trap 'rm -rf "$work"' EXIT
 tar -C "$top" --exclude=out/incremental --exclude=must-fail -cf - crates crates.txt HANDLES | tar -C "$work" -xf -
 trials="$work/crates/dg_trials"
-find "$trials/src" -mindepth 1 -maxdepth 1 ! -name 'bench*' ! -name wanted.rt -exec rm -r {} +
+find "$trials/src" -mindepth 1 -maxdepth 1 ! -name 'bench*' ! -name parts.rt ! -name wanted.rt -exec rm -r {} +
 rm -r "$trials/proofs/rows" "$trials/proofs/pipes"
 cat > "$trials/src/main.rt" <<'END'
 //! Edits of one bench.
 #![tactic(auto)]
 
 mod bench;
+mod parts;
 mod wanted;
 
 use anyhow::Result;

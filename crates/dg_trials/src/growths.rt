@@ -6,6 +6,7 @@ use crate::files::bytes_of;
 use crate::growths::kept::{output_is_kept, results_are_kept, variables_are_kept};
 use crate::lines::tell;
 use crate::memory::{Rounds, Taken};
+use crate::parts::rows_of;
 use crate::rows::calls::{answer, pattern};
 use crate::rows::row::{fields, number};
 use crate::{jobs, reports, sessions};
@@ -75,12 +76,14 @@ fn row_outcome(alloc: Global, row: &[Bytes]) -> Option<bool> {
     }
 }
 
-/// The bytes that are left to a trial, how many more in each round, and how many rounds that were whole end them.
+/// The bytes that are left to a trial, how many more in each round, how many rounds that were whole there have to be, and how many
+/// end them.
 #[derive(Clone, Copy)]
 struct Steps {
     room: usize,
     step: usize,
-    enough: usize,
+    least: usize,
+    most: usize,
 }
 
 impl Steps {
@@ -89,26 +92,33 @@ impl Steps {
         Steps {
             room: 400_000,
             step,
-            enough: 32,
+            least: 32,
+            most: 32,
         }
     }
 
-    /// The steps of what needs more memory than a call.
+    /// The steps of what keeps a part of the memory for the next round: a block that is too large for what is left makes a round whole.
     fn of_trial(room: usize, step: usize) -> Steps {
         Steps {
             room,
             step,
-            enough: 100,
+            least: 100,
+            most: usize::MAX,
         }
     }
 }
 
 /// The rounds of a trial.
 fn rounds_of(alloc: Global, trial: &Trial<'_>, steps: Steps) -> Rounds {
-    let Steps { room, step, enough } = steps;
+    let Steps {
+        room,
+        step,
+        most,
+        ..
+    } = steps;
     let mut rounds = Rounds::new();
     for round in 0..room / step.max(16) {
-        if rounds.whole >= enough {
+        if rounds.whole >= most {
             break;
         }
         let pad = room.saturating_sub(round.saturating_mul(step));
@@ -125,7 +135,7 @@ fn is_told(alloc: Global, trial: &Trial<'_>, steps: Steps) -> Result<bool, Alloc
     drop(room);
     let rounds = rounds_of(alloc, trial, steps);
     drop(taken);
-    Ok(rounds.are_right(steps.enough, is_full))
+    Ok(rounds.are_right(steps.least, is_full))
 }
 
 /// The pattern of a kind, in a list of its own.
@@ -153,30 +163,28 @@ fn is_row_told(alloc: Global, row: &[Bytes], steps: Steps) -> Result<bool, Alloc
 /// How many rows there are, and the lines of those that don't tell each refused growth.
 #[derive(Drop)]
 struct Table {
-    count: u64,
+    count: usize,
     untold: Vec<u64>,
 }
 
 /// Tries the rows of a file, each with the step that its first field names.
 fn table_of(alloc: Global, text: &[u8]) -> Result<Table, AllocError> {
-    let (mut line, mut count) = (0u64, 0u64);
+    let rows = rows_of(alloc, text)?;
     let mut untold = Vec::new(alloc);
-    for row in text.split(|byte| *byte == b'\n') {
-        line = line.wrapping_add(1);
-        if row.is_empty() || row.starts_with(b"#") {
-            continue;
-        }
-        count = count.wrapping_add(1);
+    for (line, row) in &rows {
         let fields = fields(alloc, row)?;
         let is_told = match fields.as_slice() {
             [step, row @ ..] => is_row_told(alloc, row, Steps::of_call(number(step.as_slice())))?,
             [] => false,
         };
         if !is_told {
-            untold.push(line)?;
+            untold.push(*line)?;
         }
     }
-    Ok(Table { count, untold })
+    Ok(Table {
+        count: rows.len(),
+        untold,
+    })
 }
 
 /// What came of all growths.

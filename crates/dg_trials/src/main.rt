@@ -10,6 +10,7 @@ mod jobs;
 mod lines;
 mod live;
 mod memory;
+mod parts;
 mod pipes;
 mod reports;
 mod rows;

@@ -70,7 +70,7 @@ impl Rounds {
     }
 
     /// Whether each was whole or short, and so many were whole. Where all memory was taken some were short too.
-    pub fn are_right(&self, enough: usize, is_full: bool) -> bool {
-        self.others == 0 && self.whole >= enough && (!is_full || self.short > 0)
+    pub fn are_right(&self, least: usize, is_full: bool) -> bool {
+        self.others == 0 && self.whole >= least && (!is_full || self.short > 0)
     }
 }

@@ -75,7 +75,7 @@ pub fn waits_for_an_edit<B: Room + Send + Sync, R: Threads + Wait + Clock + Sync
         maker: &maker,
     };
     let (reply, seen) = run_and_edit(rt, &bench, run, edit);
-    Some(passes(&reply?) == Some(1) && seen? == 2)
+    Some(passes(alloc, &reply?) == Some(1) && seen? == 2)
 }
 
 /// Whether so many workers run so many tests at once: each child waits until all of them run.
@@ -99,5 +99,5 @@ pub fn waits_for_all<B: Room + Send + Sync, R: Threads + Wait + Clock + Sync>(
     let pass = put_scripts(rt, alloc, &bench, bench.pass(), workers)?;
     let count = workers as usize;
     let (_pass, reply) = run_workers(rt, alloc, &bench, pass, &maker, count, Work::Live).ok()?;
-    Some(passes(&reply) == Some(count))
+    Some(passes(alloc, &reply) == Some(count))
 }

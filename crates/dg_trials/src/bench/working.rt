@@ -1,6 +1,7 @@
 //! Workers over stored worlds, and over gates that wait for nothing.
 use crate::bench::gates::{Deaf, Signal, Waiting};
 use crate::bench::replies::{is_sum, put_on};
+use crate::parts::count_of;
 use crate::wanted::PASSED;
 use dg_bench::{Bench, Call, MakeGate, Pass, Room, Work, run_workers};
 use dg_bytes::Bytes;
@@ -30,14 +31,9 @@ pub fn put_scripts<B: Room, R: Wait>(
 }
 
 /// How many passes a sum of status 0 has, if it is one.
-pub fn passes(reply: &Reply) -> Option<usize> {
+pub fn passes(alloc: Global, reply: &Reply) -> Option<usize> {
     match reply {
-        Reply::Sum(text, 0) => Some(
-            text.as_slice()
-                .split(|byte| *byte == b'\n')
-                .filter(|line| *line == b"PASS: one".as_slice())
-                .count(),
-        ),
+        Reply::Sum(text, 0) => count_of(alloc, text.as_slice(), b"PASS: one").ok(),
         _ => None,
     }
 }
@@ -94,7 +90,9 @@ pub fn runs_live<B: Room + Send + Sync, R: Threads + Wait + Clock + Sync>(
     let pass = put_scripts(rt, alloc, &bench, bench.pass(), 3)?;
     let (mut pass, reply) = run_workers(rt, alloc, &bench, pass, &maker, 2, Work::Live).ok()?;
     let history = bench.into_history(&mut pass).ok()?;
-    Some(passes(&reply) == Some(3) && live_runs(history.calls()) == 3 && signal.raised() == 3)
+    Some(
+        passes(alloc, &reply) == Some(3) && live_runs(history.calls()) == 3 && signal.raised() == 3,
+    )
 }
 
 /// A script that tells of a send that fails, and passes.

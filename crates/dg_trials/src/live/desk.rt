@@ -1,4 +1,5 @@
 //! A core with one script, which answers what a live run asks of it.
+use crate::parts::parts;
 use anyhow::Result;
 use dg_bytes::{Bytes, TryCopy};
 use dg_core::{Core, Reply};
@@ -93,7 +94,7 @@ fn test_names(alloc: Global) -> Result<(Bytes, Bytes), AllocError> {
 pub fn lines_in(alloc: Global, report: &[u8]) -> Result<Bytes, AllocError> {
     let mut told = Bytes::new(alloc);
     let mut runs = false;
-    for line in report.split(|byte| *byte == b'\n') {
+    for line in parts(alloc, report, b'\n')? {
         if runs && line.is_empty() {
             break;
         }

@@ -2,8 +2,9 @@
 //! `;` between them, and `|` between one choice and the next. Each script begins with the first piece.
 use crate::live::chance::Chance;
 use crate::live::desk::lines_in;
-use crate::live::entries::{code, pieces, reply};
+use crate::live::entries::{code, reply};
 use crate::live::runs::{Run, run_script};
+use crate::parts::{parts, rows_of};
 use anyhow::Result;
 use dg_gate::Reply;
 use std::alloc::{AllocError, Global};
@@ -37,10 +38,7 @@ struct Piece<'a> {
 /// The pieces of a file.
 fn read_pieces<'a>(alloc: Global, text: &'a [u8]) -> Result<Vec<Piece<'a>>, AllocError> {
     let mut read = Vec::new(alloc);
-    for line in text.split(|byte| *byte == b'\n') {
-        if line.is_empty() || line.starts_with(b"#") {
-            continue;
-        }
+    for (_, line) in rows_of(alloc, text)? {
         let place = line.iter().position(|byte| *byte == b'\t');
         let (script, choices) = line.split_at(place.unwrap_or(line.len()));
         read.push(Piece { script, choices })?;
@@ -73,11 +71,12 @@ impl Drawn {
     fn add(&mut self, alloc: Global, chance: &mut Chance, piece: Piece<'_>) -> Result<()> {
         self.script.extend_from_slice(piece.script)?;
         self.script.push(b'\n')?;
-        let choices: Vec<&[u8]> = piece.choices.split(|byte| *byte == b'|').collect(alloc)?;
+        let choices = parts(alloc, piece.choices, b'|')?;
         let Some(choice) = chance.pick(choices.as_slice()) else {
             return Ok(());
         };
-        for entry in &pieces(alloc, choice)? {
+        for entry in &parts(alloc, choice, b';')? {
+            let entry = entry.trim_ascii();
             if !entry.is_empty() {
                 self.answer(alloc, chance, entry)?;
             }

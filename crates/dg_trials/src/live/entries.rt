@@ -1,5 +1,6 @@
 //! Entries as rows spell them: as the lines of a transcript, with `; ` between them. Before an entry of another session than the first
 //! stand its number and a colon.
+use crate::parts::{cut, parts};
 use anyhow::{Result, bail};
 use dg_bytes::Bytes;
 use dg_gate::{Ended, Piece, Reply};
@@ -10,17 +11,6 @@ use std::str;
 
 /// The most sessions of a test.
 const SESSIONS: u32 = 64;
-
-/// A word and what stands behind its first space.
-fn cut(spelled: &[u8]) -> (&[u8], &[u8]) {
-    match spelled.iter().position(|byte| *byte == b' ') {
-        Some(place) => {
-            let (word, rest) = spelled.split_at(place);
-            (word, rest.strip_prefix(b" ").unwrap_or(rest))
-        }
-        None => (spelled, b""),
-    }
-}
 
 /// The number that a field spells.
 fn number(field: &[u8]) -> Result<u32> {
@@ -86,20 +76,11 @@ fn entry(spelled: &[u8]) -> Result<Spelled<'_>> {
     }
 }
 
-/// The pieces of a text between semicolons, without the space before each.
-pub fn pieces<'a>(alloc: Global, text: &'a [u8]) -> Result<Vec<&'a [u8]>, AllocError> {
-    let mut pieces = Vec::new(alloc);
-    for piece in text.split(|byte| *byte == b';') {
-        pieces.push(piece.trim_ascii())?;
-    }
-    Ok(pieces)
-}
-
 /// The entries of a row.
 pub fn entries<'a>(alloc: Global, text: &'a [u8]) -> Result<Vec<Spelled<'a>>> {
     let mut entries = Vec::new(alloc);
-    for piece in &pieces(alloc, text)? {
-        entries.push(entry(piece)?)?;
+    for piece in &parts(alloc, text, b';')? {
+        entries.push(entry(piece.trim_ascii())?)?;
     }
     Ok(entries)
 }

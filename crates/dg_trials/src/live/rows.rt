@@ -4,6 +4,7 @@
 use crate::live::desk::lines_in;
 use crate::live::entries::{entries, replies, transcript};
 use crate::live::runs::run_script;
+use crate::parts::parts;
 use anyhow::Result;
 use dg_bytes::Bytes;
 use std::alloc::{AllocError, Global};
@@ -19,14 +20,9 @@ fn with_code(alloc: Global, row: &[u8], code: u8) -> Result<Vec<u8>, AllocError>
         .collect(alloc)
 }
 
-/// The fields of a row.
-fn fields<'a>(alloc: Global, row: &'a [u8]) -> Result<Vec<&'a [u8]>, AllocError> {
-    row.split(|byte| *byte == b'\t').collect(alloc)
-}
-
 /// What a run gives in place of what its row says.
 fn other_answer(alloc: Global, script: &[u8], row: &[u8]) -> Result<Option<Bytes>> {
-    let fields = fields(alloc, row)?;
+    let fields = parts(alloc, row, b'\t')?;
     let [_name, spelled, lines] = fields.as_slice() else {
         return Ok(Some(Bytes::from_slice(alloc, b"(no such row)")?));
     };
@@ -127,7 +123,7 @@ pub fn try_rows<W: Write>(alloc: Global, out: &mut W, name: &str, text: &[u8]) -
         rows: 0,
         runs: 0,
     };
-    for line in text.split(|byte| *byte == b'\n') {
+    for line in &parts(alloc, text, b'\n')? {
         table.take(alloc, out, name, line)?;
     }
     let (rows, runs) = (table.rows, table.runs);

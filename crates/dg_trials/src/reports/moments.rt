@@ -1,6 +1,7 @@
 //! A record whose answers are of different moments.
 use super::core_with;
 use super::patterns::{TURNS, is_pending, tell};
+use crate::parts::count_of;
 use dg_bytes::Bytes;
 use dg_core::{Core, Reply};
 use dg_eval::{Job, Turn};
@@ -40,13 +41,10 @@ fn judged_meanwhile(alloc: Global, core: &mut Core) -> Result<Record, AllocError
 }
 
 /// Whether a reply is a sum with this line.
-fn has_line(reply: &Reply, wanted: &[u8]) -> bool {
+fn has_line(alloc: Global, reply: &Reply, wanted: &[u8]) -> Result<bool, AllocError> {
     match reply {
-        Reply::Sum(text, _) => text
-            .as_slice()
-            .split(|byte| *byte == b'\n')
-            .any(|line| line == wanted),
-        Reply::Pending(_) => false,
+        Reply::Sum(text, _) => Ok(count_of(alloc, text.as_slice(), wanted)? > 0),
+        Reply::Pending(_) => Ok(false),
     }
 }
 
@@ -59,6 +57,6 @@ pub fn waits_for_both(alloc: Global) -> Result<bool, AllocError> {
     let is_kept = core.commit(alloc, mixed).is_ok();
     let waits = is_pending(&core.report(alloc)?);
     let is_back = sets(alloc, &mut core, b"lib/a.exp", b"set A 1\n")?;
-    let is_told = has_line(&core.report(alloc)?, b"PASS: 12");
+    let is_told = has_line(alloc, &core.report(alloc)?, b"PASS: 12")?;
     Ok(is_first && is_second && is_kept && waits && is_back && is_told && core.evaluations() == 0)
 }

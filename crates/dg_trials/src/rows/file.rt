@@ -1,4 +1,5 @@
 //! The rows of a file: a call, its arguments and the answer that is wanted. Empty lines and those that begin with `#` are none.
+use crate::parts::rows_of;
 use crate::rows::calls::answer;
 use crate::rows::row::fields;
 use anyhow::Result as Tried;
@@ -25,20 +26,14 @@ fn other_answer(alloc: Global, row: &[u8]) -> Result<Option<Bytes>, AllocError> 
 
 /// Tries the rows of a file. Each one that gives something else is told, by its line, and then how many rows there are.
 pub fn try_file<W: Write>(alloc: Global, out: &mut W, name: &str, text: &[u8]) -> Tried<()> {
-    let mut line = 0u64;
-    let mut rows = 0u64;
-    for row in text.split(|byte| *byte == b'\n') {
-        line = line.wrapping_add(1);
-        if row.is_empty() || row.starts_with(b"#") {
-            continue;
-        }
-        rows = rows.wrapping_add(1);
+    let rows = rows_of(alloc, text)?;
+    for (line, row) in &rows {
         if let Some(given) = other_answer(alloc, row)? {
             write!(out, "{name}:{line}: gives ")?;
             out.write_all(given.as_slice())?;
             out.write_all(b"\n")?;
         }
     }
-    writeln!(out, "{name}: {rows} rows")?;
+    writeln!(out, "{name}: {} rows", rows.len())?;
     Ok(())
 }

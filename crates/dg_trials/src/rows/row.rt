@@ -1,5 +1,6 @@
 //! A row: fields with tabs between them. In a field `\n`, `\t`, `\r`, `\\` and `\xHH` stand for a byte each. Anywhere in a row
 //! `\<COUNT*TEXT>` stands for so many times a text (which has no `>`, but maybe `\x3e`).
+use crate::parts::parts;
 use dg_bytes::Bytes;
 use std::alloc::{AllocError, Global};
 
@@ -150,7 +151,7 @@ fn named(letter: u8) -> u8 {
 pub fn fields(alloc: Global, row: &[u8]) -> Result<Vec<Bytes>, AllocError> {
     let row = expanded(alloc, row)?;
     let mut fields = Vec::new(alloc);
-    for field in row.as_slice().split(|byte| *byte == b'\t') {
+    for field in &parts(alloc, row.as_slice(), b'\t')? {
         fields.push(unescaped(alloc, field)?)?;
     }
     Ok(fields)

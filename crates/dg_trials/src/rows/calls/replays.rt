@@ -1,4 +1,5 @@
 //! Actions on entries of a session: an action and an entry, again and again. The action `same` goes on with the one before.
+use crate::parts::cut;
 use crate::rows::calls::text::{Line, Words};
 use crate::rows::row::number;
 use dg_bytes::{Bytes, Seq};
@@ -10,17 +11,6 @@ fn words(alloc: Global, word: &[u8]) -> Result<Seq<Bytes>, AllocError> {
     let mut words = Vec::new(alloc);
     words.push(Bytes::from_slice(alloc, word)?)?;
     Ok(Seq::from_vec(words))
-}
-
-/// A word and what stands behind its first space.
-fn cut(spelled: &[u8]) -> (&[u8], &[u8]) {
-    match spelled.iter().position(|byte| *byte == b' ') {
-        Some(place) => {
-            let (word, rest) = spelled.split_at(place);
-            (word, rest.strip_prefix(b" ").unwrap_or(rest))
-        }
-        None => (spelled, b""),
-    }
 }
 
 /// A number of milliseconds, or a small one.

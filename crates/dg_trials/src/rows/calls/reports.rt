@@ -1,4 +1,5 @@
 //! Reports: the boards with spaces between them, then for each test `BOARD SCRIPT CALL,CALL..`.
+use crate::parts::parts;
 use crate::rows::calls::results::judged;
 use crate::rows::calls::text::text;
 use dg_bytes::{Bytes, Seq};
@@ -9,12 +10,12 @@ use std::alloc::{AllocError, Global};
 use std::marker::Model;
 
 /// The parts of a text between bytes of a kind.
-fn parts(alloc: Global, text: &[u8], between: u8) -> Result<Vec<Bytes>, AllocError> {
-    let mut parts = Vec::new(alloc);
-    for part in text.split(|byte| *byte == between) {
-        parts.push(Bytes::from_slice(alloc, part)?)?;
+fn texts(alloc: Global, text: &[u8], between: u8) -> Result<Vec<Bytes>, AllocError> {
+    let mut texts = Vec::new(alloc);
+    for part in &parts(alloc, text, between)? {
+        texts.push(Bytes::from_slice(alloc, part)?)?;
     }
-    Ok(parts)
+    Ok(texts)
 }
 
 /// A test, the lines that it wrote, and their block.
@@ -60,8 +61,8 @@ fn test(alloc: Global, field: &[u8]) -> Result<Option<Told>, AllocError> {
     let [board, script, calls] = words.as_slice() else {
         return Ok(None);
     };
-    let calls = parts(alloc, calls.as_slice(), b',')?;
-    match TestId::new(alloc, board.as_slice(), script.as_slice()) {
+    let calls = texts(alloc, calls, b',')?;
+    match TestId::new(alloc, board, script) {
         Ok(test) => {
             let verdict = judged(alloc, calls.as_slice())?;
             Ok(Some(Told::new(alloc, test, verdict)?))
@@ -74,7 +75,7 @@ fn test(alloc: Global, field: &[u8]) -> Result<Option<Told>, AllocError> {
 /// The selection of a new world, on these boards.
 fn selection(alloc: Global, boards: &[u8]) -> Result<Selection, AllocError> {
     let mut selection = Selection::of_new_world(alloc)?;
-    selection.boards = Seq::from_vec(parts(alloc, boards, b' ')?);
+    selection.boards = Seq::from_vec(texts(alloc, boards, b' ')?);
     Ok(selection)
 }
 

@@ -1,4 +1,5 @@
 //! Result calls. Each argument is a call, maybe with a count behind it; the message of the nth is the nth letter.
+use crate::parts::cut;
 use crate::rows::calls::text::Line;
 use crate::rows::row::number;
 use dg_bytes::Bytes;
@@ -39,17 +40,6 @@ fn unexpected(alloc: Global) -> Result<Bytes, AllocError> {
         }
     }
     Ok(line.into_bytes())
-}
-
-/// A word and what stands behind its first space.
-fn cut(call: &[u8]) -> (&[u8], &[u8]) {
-    match call.iter().position(|byte| *byte == b' ') {
-        Some(place) => {
-            let (word, rest) = call.split_at(place);
-            (word, rest.strip_prefix(b" ").unwrap_or(rest))
-        }
-        None => (call, b""),
-    }
 }
 
 /// The count behind a call, if there is one.
