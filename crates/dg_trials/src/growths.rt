@@ -97,7 +97,8 @@ impl Steps {
         }
     }
 
-    /// The steps of what keeps a part of the memory for the next round: a block that is too large for what is left makes a round whole.
+    /// The steps of a trial that frees what it took in small pieces. Where the block doesn't fit between these, all memory is there and
+    /// the round is whole; so no number of such rounds ends them.
     fn of_trial(room: usize, step: usize) -> Steps {
         Steps {
             room,
