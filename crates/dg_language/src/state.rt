@@ -167,6 +167,14 @@ impl State {
         self.steps += 1;
     }
 
+    /// Gives back a step that was taken for nothing.
+    pub fn give_step_back(&mut self)
+        requires { 0 < self.old.steps }
+        ensures { stepped self.new ≡ self.old }
+    {
+        self.steps -= 1;
+    }
+
     /// Adds a result call.
     pub fn add_call(&mut self, call: ResultCall) -> Result<(), AllocError>
         ensures { OnOk result (self.new ≡ with_call (call_of call) self.old) }

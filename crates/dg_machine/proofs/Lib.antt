@@ -8,6 +8,7 @@ pub mod ReadyLemmas
 pub mod StepLemmas
 pub mod VariableLemmas
 pub mod ExpressionLemmas
+pub mod SettlingLemmas
 pub mod ComputingLemmas
 pub mod ChoiceLemmas
 pub mod OpeningLemmas

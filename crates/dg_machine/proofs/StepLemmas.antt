@@ -60,7 +60,7 @@ Tries-along Lost play play' again again' w w' old new h e g l = h
 abbrev pub by_table : ℕ → List ℕ → List (List ℕ) → State → Then → Play Ending
 by_table d n args s k = known_command (evaluate d) (usable s.on_board (builtin_of n)) n args s k
 
-command-known : (d : ℕ) (words : List (List ℕ)) (n : List ℕ) (args : List (List ℕ)) (s : State) (k : Then) → words ≡ n ∷ args → names.get s.procedures n ≡ None
+pub command-known : (d : ℕ) (words : List (List ℕ)) (n : List ℕ) (args : List (List ℕ)) (s : State) (k : Then) → words ≡ n ∷ args → names.get s.procedures n ≡ None
     → command (evaluate d) words s k ≡ by_table d n args s k
 unfolding command
 command-known d words n args s k e h = rw e (ap (λ o. by_name (evaluate d) o n args s k) h)

@@ -2,6 +2,7 @@ pub mod Script
 pub mod Source
 pub mod Steps
 pub mod Texts
+pub mod Settling
 pub mod Instructions
 pub mod Choosing
 pub mod Opening

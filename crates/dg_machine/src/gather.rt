@@ -215,6 +215,9 @@ impl Machine {
         requires { self.old.control ≡ Control.Go }
         ensures { IfOk result (λ p. Goes (evaluate depth script self.old.state (if_done (λ v s. making_with making depth v s (all_back self.old.stack)) (all_back self.old.stack))) self.old.state.known (weight_of self.old + budget making.purpose + 8 + 4 * length making.left) self.new p) }
     {
+        if let Some(value) = self.value_of_script(alloc, &script, depth)? {
+            return Ok(self.add_value(alloc, making, value, depth)?);
+        }
         self.stack.push(Frame::Gathering { making, depth })?;
         let pace = self.enter(alloc, script, depth)?;
         Ok(pace)

@@ -25,6 +25,7 @@ mod repeats;
 mod rounds;
 mod script;
 mod sessions;
+mod settling;
 mod step;
 mod steps;
 mod targets;

@@ -188,8 +188,8 @@ impl Machine {
         Ok(pace)
     }
 
-    /// The commands that are left go on: the words of the next one are made, or the value of the last is theirs.
-    pub(crate) fn sequence(
+    /// The words of the next command are made, or the value of the last is that of all.
+    pub(crate) fn next_command(
         &mut self,
         alloc: Global,
         mut commands: Script,
@@ -220,6 +220,22 @@ impl Machine {
                 Ok(pace)
             }
         }
+    }
+
+    /// The commands that are left go on: those that run where they stand do, and the words of the next one are made, or the
+    /// value of the last is theirs.
+    pub(crate) fn sequence(
+        &mut self,
+        alloc: Global,
+        mut commands: Script,
+        mut value: Bytes,
+        depth: u32,
+    ) -> Result<Pace, AllocError>
+        requires { self.old.control ≡ Control.Go }
+        ensures { IfOk result (λ p. Comes (sequence (evaluate depth) commands value self.old.state (all_back self.old.stack)) self.old.state.known (weight_of self.old + 3) self.new p) }
+    {
+        commands.settle(alloc, self, &mut value, depth)?;
+        Ok(self.next_command(alloc, commands, value, depth)?)
     }
 
     /// The evaluation of a text begins, whose commands these are, inside as many others as this leaves.

@@ -1,8 +1,9 @@
 //! The loops over a condition: `while` and `for`.
-ghost use Rattle.std.specs.Prelude.{◌≡◌, ◌+◌, ◌*◌, ◌^◌, ◌<◌, ◌∷◌, [], IfOk, MatchOption, None, length};
+ghost use Rattle.std.specs.Prelude.{ℕ, List, ◌≡◌, ◌+◌, ◌*◌, ◌^◌, ◌<◌, ◌∷◌, [], IfOk, MatchOption, None, length};
 ghost use Rattle.dg_language.specs.Choosing.{do_for, do_while};
 ghost use Rattle.dg_language.specs.Expressions.{calculate};
-ghost use Rattle.dg_language.specs.Language.{evaluate};
+ghost use Rattle.dg_language.specs.declared.code.Code.{Code};
+ghost use Rattle.dg_language.specs.Language.{commands_at, evaluate};
 ghost use Rattle.dg_machine.specs.declared.frame.Control.{Control};
 ghost use Rattle.dg_machine.specs.declared.frame.Stage.{Stage};
 ghost use Rattle.dg_machine.specs.Choosing.{next_script, next_test, repeat_if, repeating, stage_weight};
@@ -12,7 +13,7 @@ use crate::computing::{Computed, compute_on};
 use crate::frame::{Calculation, Frame, Pace, Repetition, Stage};
 use crate::instructions::Condition;
 use crate::machine::Machine;
-use crate::script::Body;
+use crate::script::{Body, Script};
 use dg_bytes::{Bytes, TryCopy};
 use dg_forms::{four, truth_in, two};
 use dg_language::{Code, STEPS};
@@ -73,15 +74,72 @@ impl Machine {
             return Ok(Pace::Moved);
         }
         repetition.stage = Stage::Body;
-        let commands = repetition.body.script(alloc)?;
+        Ok(self.run_body(alloc, repetition)?)
+    }
+
+    /// The body of a loop runs. Where all of it runs where it stands, no frame stands around it.
+    #[tactic(auto, unfolding(crate::specs::Meaning::back, crate::specs::Meaning::all_back, crate::specs::Meaning::weight, crate::specs::Meaning::stack_weight))]
+    fn run_body(&mut self, alloc: Global, repetition: Repetition) -> Result<Pace, AllocError>
+        requires go { self.old.control ≡ Control.Go }
+        requires stage { repetition.stage ≡ Stage.Body }
+        ensures { IfOk result (λ p. Comes (evaluate repetition.depth repetition.body self.old.state (repeating repetition Stage.Body (all_back self.old.stack))) self.old.state.known (weight_of self.old + 24) self.new p) }
+    {
         let depth = repetition.depth;
+        if depth == 0 {
+            let closing = self.cut(alloc, b"too many nested evaluations")?;
+            return Ok(Pace::Over(closing));
+        }
+        let mut commands = repetition.body.script(alloc)?;
+        let mut value = Bytes::new(alloc);
+        commands.settle(alloc, self, &mut value, depth - 1)?;
+        if commands.is_over() {
+            return Ok(self.end_body(alloc, repetition, value)?);
+        }
+        self.stack.push(Frame::Repeating { repetition })?;
+        Ok(self.next_command(alloc, commands, value, depth - 1)?)
+    }
+
+    /// The body of a loop has run where it stands: the third script of `for` begins, or the loop goes on at its next move.
+    #[tactic(auto, unfolding(crate::specs::Meaning::rest, crate::specs::Meaning::back, crate::specs::Meaning::all_back, crate::specs::Meaning::weight, crate::specs::Meaning::stack_weight))]
+    fn end_body(
+        &mut self,
+        alloc: Global,
+        repetition: Repetition,
+        value: Bytes,
+    ) -> Result<Pace, AllocError>
+        requires go { self.old.control ≡ Control.Go }
+        requires stage { repetition.stage ≡ Stage.Body }
+        ensures { IfOk result (λ p. Comes (repeating repetition Stage.Body (all_back self.old.stack) Code.Done value self.old.state) self.old.state.known (weight_of self.old + 24) self.new p) }
+    {
+        let Some(next) = &repetition.next else {
+            self.stack.push(Frame::Repeating { repetition })?;
+            self.end(Code::Done, value);
+            return Ok(Pace::Moved);
+        };
+        let commands = next.script(alloc)?;
+        Ok(self.begin_next(alloc, repetition, commands)?)
+    }
+
+    /// The third script of `for` begins, whose commands these are.
+    #[tactic(auto, unfolding(crate::specs::Meaning::back, crate::specs::Meaning::all_back, crate::specs::Meaning::weight, crate::specs::Meaning::stack_weight))]
+    fn begin_next(
+        &mut self,
+        alloc: Global,
+        mut repetition: Repetition,
+        commands: Script,
+    ) -> Result<Pace, AllocError>
+        requires { self.old.control ≡ Control.Go }
+        ensures { IfOk result (λ p. (text : List ℕ) → commands ≡ commands_at text 0 → Comes (evaluate repetition.depth text self.old.state (repeating repetition Stage.Next (all_back self.old.stack))) self.old.state.known (weight_of self.old + 16) self.new p) }
+    {
+        let depth = repetition.depth;
+        repetition.stage = Stage::Next;
         self.stack.push(Frame::Repeating { repetition })?;
         Ok(self.begin_now(alloc, commands, depth)?)
     }
 
     /// What comes behind the body of a loop: the third script of `for`, or the next test.
     #[tactic(auto, unfolding(crate::specs::Meaning::back, crate::specs::Meaning::all_back, crate::specs::Meaning::weight, crate::specs::Meaning::stack_weight))]
-    fn next_script(&mut self, alloc: Global, mut repetition: Repetition) -> Result<Pace, AllocError>
+    fn next_script(&mut self, alloc: Global, repetition: Repetition) -> Result<Pace, AllocError>
         requires { self.old.control ≡ Control.Go }
         ensures { IfOk result (λ p. Comes (next_script repetition self.old.state (all_back self.old.stack)) self.old.state.known (weight_of self.old + 16) self.new p) }
     {
@@ -89,10 +147,7 @@ impl Machine {
             return Ok(self.next_test(alloc, repetition)?);
         };
         let commands = next.script(alloc)?;
-        let depth = repetition.depth;
-        repetition.stage = Stage::Next;
-        self.stack.push(Frame::Repeating { repetition })?;
-        Ok(self.begin_now(alloc, commands, depth)?)
+        Ok(self.begin_next(alloc, repetition, commands)?)
     }
 
     /// A loop goes on behind its first script.

@@ -1,15 +1,17 @@
 //! The commands of a text, read one after another, and texts whose commands are read once.
-ghost use Rattle.std.specs.Prelude.{◌≡◌, ◌++◌, ◌∷◌, [], ◌≤◌, ◌<◌, ℕ, drop, length, map, IfOk, MatchOption};
+ghost use Rattle.std.specs.Prelude.{◌≡◌, [], ◌≤◌, ◌<◌, ℕ, length, map, IfOk, IfSome, OnOk};
 ghost use Rattle.std.specs.Arc.{arc_value};
 ghost use Rattle.std.specs.Bool.{OnTrue};
 ghost use Rattle.dg_language.specs.Evaluation.{Then};
 ghost use Rattle.dg_language.specs.Language.{commands_at};
 ghost use Rattle.dg_language.specs.declared.substitution.Purpose.{Purpose};
 ghost use Rattle.dg_machine.specs.Meaning.{making_on};
+ghost use Rattle.dg_machine.specs.Settling.{AsksNothing, GoesOnAs, HasSteps};
 ghost use Rattle.dg_machine.specs.Script.{Begins, Reads, Takes, begins, steps_of};
 ghost use Rattle.dg_machine.specs.Steps.{steps_in};
 
 use crate::frame::Making;
+use crate::machine::Machine;
 use crate::steps::kept_steps;
 use crate::texts::begun_with;
 use dg_bytes::{Bytes, Seq, TryCopy};
@@ -57,6 +59,29 @@ impl Reading for Commands {
         let all = commands_of(alloc, text)?;
         let steps = steps_of_all(alloc, all.as_slice())?;
         Ok(Commands { all, steps })
+    }
+}
+
+impl Commands {
+    /// How many commands there are.
+    pub fn count(&self) -> usize
+        ensures { result ≡ length self.now }
+    {
+        self.all.len()
+    }
+
+    /// The steps in which the words of the command at a place are made, if there is one that can be read.
+    pub fn steps_at(&self, at: usize) -> Option<&[Substitution]>
+        ensures steps { IfSome result (λ r. HasSteps self.now at r.now) }
+        ensures within { IfSome result (λ r. at < length self.now) }
+    {
+        if at >= self.all.len() {
+            return None;
+        }
+        match &self.all.as_slice()[at] {
+            Command::Words(_) => Some(self.steps.as_slice()[at].as_slice()),
+            Command::Unreadable(_) => None,
+        }
     }
 }
 
@@ -252,6 +277,24 @@ impl Script {
             Source::Text(_) => false,
             Source::Kept(commands) => self.at >= commands.all.len(),
         }
+    }
+
+    /// Runs the commands that are next as far as they are kept and run where they stand.
+    pub fn settle(
+        &mut self,
+        alloc: Global,
+        machine: &mut Machine,
+        value: &mut Bytes,
+        depth: u32,
+    ) -> Result<(), AllocError>
+        ensures goes_on { OnOk result (GoesOnAs depth self.old value.old machine.old.state self.new value.new machine.new.state) }
+        ensures asks { OnOk result (AsksNothing machine.old.state machine.new.state) }
+        ensures same { OnOk result (machine.new ≡ record machine.old { state = machine.new.state }) }
+    {
+        if let Source::Kept(commands) = &self.source {
+            self.at = machine.settle(alloc, commands, self.at, value, depth)?;
+        }
+        Ok(())
     }
 
     /// Takes the next command.

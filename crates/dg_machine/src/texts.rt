@@ -153,7 +153,7 @@ pub(crate) fn begun_with(
 }
 
 /// Whether a word ends by this step.
-fn ends_word(step: &Substitution) -> bool
+pub(crate) fn ends_word(step: &Substitution) -> bool
     ensures { OnTrue result (step.now ≡ Step.WordEnds) }
 {
     matches!(step, Substitution::WordEnds)
@@ -171,7 +171,7 @@ fn one_text<'a>(state: &'a State, step: &'a Substitution) -> Option<&'a Bytes>
 }
 
 /// The same, unless it is longer than a value may be.
-fn short_text<'a>(state: &'a State, step: &'a Substitution) -> Option<&'a Bytes>
+pub(crate) fn short_text<'a>(state: &'a State, step: &'a Substitution) -> Option<&'a Bytes>
     ensures text { IfSome result (λ v. IsText state.now step.now v.now) }
     ensures short { IfSome result (λ v. length v.now ≤ value_limit) }
 {
