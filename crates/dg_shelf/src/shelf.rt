@@ -38,6 +38,18 @@ impl<T: Reading> Model for Entry<T> {
 }
 
 impl<T: Reading> Entry<T> {
+    /// A text and what was read of it.
+    fn new(alloc: Global, text: &Bytes, reading: &Arc<T>) -> Result<Entry<T>, AllocError>
+        requires { arc_value reading.now ≡ T.read_of text.now }
+        ensures { IfOk result (λ e. e ≡ text.now) }
+    {
+        let reading = Arc::try_clone(reading)?;
+        Ok(Entry {
+            text: text.to_text(alloc)?,
+            reading,
+        })
+    }
+
     /// What was read of this text, if the entry is of it.
     fn of(&self, text: &[u8]) -> Result<Option<Arc<T>>, AllocError>
         ensures { IfOk result (λ o. IfSome o (λ r. arc_value r ≡ T.read_of text.now)) }
@@ -100,23 +112,33 @@ impl<T: Reading> Shelf<T> {
         }
     }
 
+    /// What was read of this text, if it is kept.
+    fn kept(&self, text: &[u8]) -> Result<Option<Arc<T>>, AllocError>
+        ensures { IfOk result (λ o. IfSome o (λ r. arc_value r ≡ T.read_of text.now)) }
+    {
+        match self.places.get(place_of(text, self.places.len())) {
+            Some(Some(entry)) => entry.of(text),
+            _ => Ok(None),
+        }
+    }
+
     /// What is read of a text. It is read only where it isn't kept.
     pub fn reading(&mut self, alloc: Global, text: &Bytes) -> Result<Arc<T>, AllocError>
         ensures { IfOk result (λ r. arc_value r ≡ T.read_of text.now) }
     {
-        let place = place_of(text.as_slice(), self.places.len());
-        if let Some(Some(entry)) = self.places.get(place) {
-            if let Some(reading) = entry.of(text.as_slice())? {
-                return Ok(reading);
-            }
+        match self.kept(text.as_slice())? {
+            Some(reading) => Ok(reading),
+            None => self.read(alloc, text),
         }
+    }
+
+    /// Reads a text, and keeps what was read unless the text is too long.
+    fn read(&mut self, alloc: Global, text: &Bytes) -> Result<Arc<T>, AllocError>
+        ensures { IfOk result (λ r. arc_value r ≡ T.read_of text.now) }
+    {
         let reading = Arc::new(alloc, T::read(alloc, text.as_slice())?)?;
         if text.len() <= self.longest {
-            let entry = Entry {
-                text: text.to_text(alloc)?,
-                reading: Arc::try_clone(&reading)?,
-            };
-            self.keep(entry)?;
+            self.keep(Entry::new(alloc, text, &reading)?)?;
         }
         Ok(reading)
     }
