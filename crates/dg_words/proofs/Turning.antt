@@ -1,6 +1,7 @@
 -- What each turn keeps: its faults are the text's own, an index is left only by its end, and behind a word there are words.
 use Rattle.std.specs.Prelude.{◌≡◌, ◌≢◌, ℕ, zero, suc, Bool, true, false, cond, ◌⊎◌, Option, None, Some, ◌==◌, ◌-◌, nat_lt, refl}
 use Rattle.std.proofs.Common.{inl, inr}
+use Rattle.std.proofs.lemmas.Bool.{false≢true}
 use Rattle.dg_words.specs.declared.fault.WordFault.TheVariants.{Memory}
 use Rattle.dg_words.specs.declared.kinds.Class.{Class}
 use Rattle.dg_words.specs.declared.kinds.Class.TheVariants as class
@@ -75,28 +76,28 @@ stays s w d m e h b = ((λ i. cc, λ x. absurd cc), λ x. absurd cc)
 
 -- a byte of a bare word, at the top
 bare_flows : (w : Bool) (c : Class) (b : ℕ) → Flows Bare w (in_bare level.Top (heard level.Top c) b)
-bare_flows w class.Blank b = ((λ i. cc, λ x. inr refl), λ x. refl)
+bare_flows w class.Blank b = ((λ i. absurd (false≢true i), λ x. inr refl), λ x. refl)
 bare_flows w class.Newline b = (inr refl, λ x. refl)
 bare_flows w class.Semicolon b = (inr refl, λ x. refl)
-bare_flows w class.LeftBracket b = (λ i. cc, λ x. refl)
-bare_flows w class.RightBracket b = ((λ i. cc, λ x. absurd cc), λ x. refl)
-bare_flows w class.Backslash b = ((λ i. cc, λ x. absurd cc), λ x. refl)
-bare_flows w class.Dollar b = ((λ i. cc, λ x. absurd cc), λ x. refl)
-bare_flows w c b = ((λ i. cc, λ x. absurd cc), λ x. refl)
+bare_flows w class.LeftBracket b = (λ i. absurd (false≢true i), λ x. refl)
+bare_flows w class.RightBracket b = ((λ i. absurd (false≢true i), λ x. absurd (false≢true x)), λ x. refl)
+bare_flows w class.Backslash b = ((λ i. absurd (false≢true i), λ x. absurd (false≢true x)), λ x. refl)
+bare_flows w class.Dollar b = ((λ i. absurd (false≢true i), λ x. absurd (false≢true x)), λ x. refl)
+bare_flows w c b = ((λ i. absurd (false≢true i), λ x. absurd (false≢true x)), λ x. refl)
 
 quoted_flows : (w : Bool) (c : Class) (b : ℕ) → Flows Quoted w (in_quoted c b)
-quoted_flows w class.Quote b = ((λ i. cc, λ x. inr refl), λ x. refl)
-quoted_flows w class.LeftBracket b = (λ i. cc, λ x. refl)
-quoted_flows w class.Backslash b = ((λ i. cc, λ x. absurd cc), λ x. refl)
-quoted_flows w class.Dollar b = ((λ i. cc, λ x. absurd cc), λ x. refl)
-quoted_flows w c b = ((λ i. cc, λ x. absurd cc), λ x. refl)
+quoted_flows w class.Quote b = ((λ i. absurd (false≢true i), λ x. inr refl), λ x. refl)
+quoted_flows w class.LeftBracket b = (λ i. absurd (false≢true i), λ x. refl)
+quoted_flows w class.Backslash b = ((λ i. absurd (false≢true i), λ x. absurd (false≢true x)), λ x. refl)
+quoted_flows w class.Dollar b = ((λ i. absurd (false≢true i), λ x. absurd (false≢true x)), λ x. refl)
+quoted_flows w c b = ((λ i. absurd (false≢true i), λ x. absurd (false≢true x)), λ x. refl)
 
 index_flows : (w : Bool) (c : Class) (b : ℕ) → Flows Index w (in_index c b)
-index_flows w class.RightParen b = (refl, λ x. absurd cc)
-index_flows w class.LeftBracket b = (λ i. refl, λ x. absurd cc)
-index_flows w class.Backslash b = ((λ i. refl, λ x. absurd cc), λ x. absurd cc)
-index_flows w class.Dollar b = ((λ i. refl, λ x. absurd cc), λ x. absurd cc)
-index_flows w c b = ((λ i. refl, λ x. absurd cc), λ x. absurd cc)
+index_flows w class.RightParen b = (refl, λ x. absurd (false≢true x))
+index_flows w class.LeftBracket b = (λ i. refl, λ x. absurd (false≢true x))
+index_flows w class.Backslash b = ((λ i. refl, λ x. absurd (false≢true x)), λ x. absurd (false≢true x))
+index_flows w class.Dollar b = ((λ i. refl, λ x. absurd (false≢true x)), λ x. absurd (false≢true x))
+index_flows w c b = ((λ i. refl, λ x. absurd (false≢true x)), λ x. absurd (false≢true x))
 
 spot_flows : (w : Bool) (s : Spot) (c : Class) (b : ℕ) → Flows s w (in_spot level.Top s c b)
 spot_flows w Bare c b = bare_flows w c b
@@ -120,13 +121,13 @@ escaped_flows w s b =
 
 written_flows : (w : Bool) (s : Spot) (d : Option Deed) (t : Turn) → Flows s w t → Flows s w (behind_number d t)
 written_flows w s (Some d) t h = h
-written_flows w s None t h = (λ x. cc, λ x. absurd cc)
+written_flows w s None t h = (λ x. cc, λ x. absurd (false≢true x))
 
 same_flows : (w : Bool) (s : Spot) → Flows s w (goes (In s))
 same_flows w s = stays s w deed.Nothing (In s) refl refl refl
 
 counted_flows : (w : Bool) (s : Spot) (e : Escape) (n v : ℕ) → Flows s w (counted s e n v)
-counted_flows w s e zero v = (λ x. cc, λ x. absurd cc)
+counted_flows w s e zero v = (λ x. cc, λ x. absurd (false≢true x))
 counted_flows w s e (suc zero) v = written_flows w s (written e v) (goes (In s)) (same_flows w s)
 counted_flows w s e (suc (suc n)) v = num_flows w s (record { escape = e; left = suc n; value = v })
 
@@ -135,7 +136,7 @@ numbered_flows w s n c b (Some v) = counted_flows w s n.escape n.left v
 numbered_flows w s n c b None = written_flows w s (whole n) (in_spot level.Top s c b) (spot_flows w s c b)
 
 joined_flows : (w : Bool) (s : Spot) → Flows s w (joined s)
-joined_flows w Bare = ((λ i. cc, λ x. inr refl), λ x. refl)
+joined_flows w Bare = ((λ i. absurd (false≢true i), λ x. inr refl), λ x. refl)
 joined_flows w Quoted = stays Quoted w (deed.Byte 32) (Join Quoted) refl refl refl
 joined_flows w Index = stays Index w (deed.Byte 32) (Join Index) refl refl refl
 joined_flows w Alone = stays Alone w (deed.Byte 32) (Join Alone) refl refl refl
@@ -150,7 +151,7 @@ join_flows w s c b = either s w (is_space b) _ _ (stays s w deed.Nothing (Join s
 dollar_flows : (w : Bool) (s : Spot) (c : Class) (b : ℕ) → Flows s w (in_dollar level.Top s c b)
 dollar_flows w s class.Name b = stays s w (deed.Byte b) (Name s) refl refl refl
 dollar_flows w s class.Colon b = stays s w deed.Nothing (Colon s) refl refl refl
-dollar_flows w s class.LeftParen b = (λ i. i, λ x. absurd cc)
+dollar_flows w s class.LeftParen b = (λ i. i, λ x. absurd (false≢true x))
 dollar_flows w s class.Open b = stays s w deed.Close (NameBrace s) refl refl refl
 dollar_flows w s c b = spot_flows w s c b
 
@@ -160,7 +161,7 @@ colon_flows w s c b = spot_flows w s c b
 
 name_flows : (w : Bool) (s : Spot) (c : Class) (b : ℕ) → Flows s w (in_name level.Top s c b)
 name_flows w s class.Name b = stays s w (deed.Byte b) (Name s) refl refl refl
-name_flows w s class.LeftParen b = (λ i. i, λ x. absurd cc)
+name_flows w s class.LeftParen b = (λ i. i, λ x. absurd (false≢true x))
 name_flows w s c b = spot_flows w s c b
 
 name_brace_flows : (w : Bool) (s : Spot) (c : Class) (b : ℕ) → Flows s w (in_name_brace s c b)
@@ -168,89 +169,89 @@ name_brace_flows w s class.Close b = stays s w deed.Value (In s) refl refl refl
 name_brace_flows w s c b = stays s w (deed.Byte b) (NameBrace s) refl refl refl
 
 gap_flows : (c : Class) (b : ℕ) → Flows Bare true (in_gap level.Top (heard level.Top c) b)
-gap_flows class.Blank b = ((λ i. cc, λ x. inl refl), λ x. refl)
+gap_flows class.Blank b = ((λ i. absurd (false≢true i), λ x. inl refl), λ x. refl)
 gap_flows class.Newline b = (inl refl, λ x. refl)
 gap_flows class.Semicolon b = (inl refl, λ x. refl)
-gap_flows class.Quote b = ((λ i. cc, λ x. absurd cc), λ x. refl)
-gap_flows class.Open b = ((λ i. cc, λ x. absurd cc), λ x. refl)
-gap_flows class.Backslash b = ((λ i. cc, λ x. inl refl), λ x. refl)
-gap_flows class.LeftBracket b = (λ i. cc, λ x. refl)
-gap_flows class.RightBracket b = ((λ i. cc, λ x. absurd cc), λ x. refl)
-gap_flows class.Dollar b = ((λ i. cc, λ x. absurd cc), λ x. refl)
-gap_flows c b = ((λ i. cc, λ x. absurd cc), λ x. refl)
+gap_flows class.Quote b = ((λ i. absurd (false≢true i), λ x. absurd (false≢true x)), λ x. refl)
+gap_flows class.Open b = ((λ i. absurd (false≢true i), λ x. absurd (false≢true x)), λ x. refl)
+gap_flows class.Backslash b = ((λ i. absurd (false≢true i), λ x. inl refl), λ x. refl)
+gap_flows class.LeftBracket b = (λ i. absurd (false≢true i), λ x. refl)
+gap_flows class.RightBracket b = ((λ i. absurd (false≢true i), λ x. absurd (false≢true x)), λ x. refl)
+gap_flows class.Dollar b = ((λ i. absurd (false≢true i), λ x. absurd (false≢true x)), λ x. refl)
+gap_flows c b = ((λ i. absurd (false≢true i), λ x. absurd (false≢true x)), λ x. refl)
 
 start_flows : (c : Class) (b : ℕ) → Flows Bare false (in_start level.Top (heard level.Top c) b)
-start_flows class.Blank b = ((λ i. cc, λ x. absurd cc), λ x. refl)
-start_flows class.Newline b = ((λ i. cc, λ x. absurd cc), λ x. refl)
-start_flows class.Semicolon b = ((λ i. cc, λ x. absurd cc), λ x. refl)
-start_flows class.Hash b = ((λ i. cc, λ x. absurd cc), λ x. refl)
-start_flows class.Quote b = ((λ i. cc, λ x. absurd cc), λ x. refl)
-start_flows class.Open b = ((λ i. cc, λ x. absurd cc), λ x. refl)
-start_flows class.Backslash b = ((λ i. cc, λ x. absurd cc), λ x. refl)
-start_flows class.LeftBracket b = (λ i. cc, λ x. refl)
-start_flows class.RightBracket b = ((λ i. cc, λ x. absurd cc), λ x. refl)
-start_flows class.Dollar b = ((λ i. cc, λ x. absurd cc), λ x. refl)
-start_flows c b = ((λ i. cc, λ x. absurd cc), λ x. refl)
+start_flows class.Blank b = ((λ i. absurd (false≢true i), λ x. absurd (false≢true x)), λ x. refl)
+start_flows class.Newline b = ((λ i. absurd (false≢true i), λ x. absurd (false≢true x)), λ x. refl)
+start_flows class.Semicolon b = ((λ i. absurd (false≢true i), λ x. absurd (false≢true x)), λ x. refl)
+start_flows class.Hash b = ((λ i. absurd (false≢true i), λ x. absurd (false≢true x)), λ x. refl)
+start_flows class.Quote b = ((λ i. absurd (false≢true i), λ x. absurd (false≢true x)), λ x. refl)
+start_flows class.Open b = ((λ i. absurd (false≢true i), λ x. absurd (false≢true x)), λ x. refl)
+start_flows class.Backslash b = ((λ i. absurd (false≢true i), λ x. absurd (false≢true x)), λ x. refl)
+start_flows class.LeftBracket b = (λ i. absurd (false≢true i), λ x. refl)
+start_flows class.RightBracket b = ((λ i. absurd (false≢true i), λ x. absurd (false≢true x)), λ x. refl)
+start_flows class.Dollar b = ((λ i. absurd (false≢true i), λ x. absurd (false≢true x)), λ x. refl)
+start_flows c b = ((λ i. absurd (false≢true i), λ x. absurd (false≢true x)), λ x. refl)
 
 comment_flows : (c : Class) → Flows Bare false (in_comment c)
-comment_flows class.Newline = ((λ i. cc, λ x. absurd cc), λ x. refl)
-comment_flows class.Backslash = ((λ i. cc, λ x. absurd cc), λ x. refl)
-comment_flows c = ((λ i. cc, λ x. absurd cc), λ x. refl)
+comment_flows class.Newline = ((λ i. absurd (false≢true i), λ x. absurd (false≢true x)), λ x. refl)
+comment_flows class.Backslash = ((λ i. absurd (false≢true i), λ x. absurd (false≢true x)), λ x. refl)
+comment_flows c = ((λ i. absurd (false≢true i), λ x. absurd (false≢true x)), λ x. refl)
 
 gap_pair_flows : (c : Class) (b : ℕ) → Flows Bare true (in_gap_pair c b)
-gap_pair_flows class.Newline b = ((λ i. cc, λ x. inl refl), λ x. refl)
+gap_pair_flows class.Newline b = ((λ i. absurd (false≢true i), λ x. inl refl), λ x. refl)
 gap_pair_flows c b = escaped_flows true Bare b
 
 start_pair_flows : (c : Class) (b : ℕ) → Flows Bare false (in_start_pair c b)
-start_pair_flows class.Newline b = ((λ i. cc, λ x. absurd cc), λ x. refl)
+start_pair_flows class.Newline b = ((λ i. absurd (false≢true i), λ x. absurd (false≢true x)), λ x. refl)
 start_pair_flows c b = escaped_flows false Bare b
 
 operand_flows : (c : Class) → Flows Bare false (in_operand c)
-operand_flows class.Quote = ((λ i. cc, λ x. absurd cc), λ x. refl)
-operand_flows class.Open = ((λ i. cc, λ x. absurd cc), λ x. refl)
-operand_flows class.LeftBracket = (λ i. cc, λ x. refl)
-operand_flows class.Dollar = ((λ i. cc, λ x. absurd cc), λ x. refl)
+operand_flows class.Quote = ((λ i. absurd (false≢true i), λ x. absurd (false≢true x)), λ x. refl)
+operand_flows class.Open = ((λ i. absurd (false≢true i), λ x. absurd (false≢true x)), λ x. refl)
+operand_flows class.LeftBracket = (λ i. absurd (false≢true i), λ x. refl)
+operand_flows class.Dollar = ((λ i. absurd (false≢true i), λ x. absurd (false≢true x)), λ x. refl)
 operand_flows c = (inr refl, λ x. refl)
 
 braced_flows : (deep : Bool) (c : Class) (b : ℕ) → Flows Bare false (in_braced deep c b)
 braced_flows true class.Open b = (refl, λ x. refl)
 braced_flows false class.Open b = (refl, λ x. refl)
 braced_flows true class.Close b = (refl, λ x. refl)
-braced_flows false class.Close b = ((λ i. cc, λ x. inr refl), λ x. refl)
-braced_flows true class.Backslash b = ((λ i. cc, λ x. absurd cc), λ x. refl)
-braced_flows false class.Backslash b = ((λ i. cc, λ x. absurd cc), λ x. refl)
-braced_flows true c b = ((λ i. cc, λ x. absurd cc), λ x. refl)
-braced_flows false c b = ((λ i. cc, λ x. absurd cc), λ x. refl)
+braced_flows false class.Close b = ((λ i. absurd (false≢true i), λ x. inr refl), λ x. refl)
+braced_flows true class.Backslash b = ((λ i. absurd (false≢true i), λ x. absurd (false≢true x)), λ x. refl)
+braced_flows false class.Backslash b = ((λ i. absurd (false≢true i), λ x. absurd (false≢true x)), λ x. refl)
+braced_flows true c b = ((λ i. absurd (false≢true i), λ x. absurd (false≢true x)), λ x. refl)
+braced_flows false c b = ((λ i. absurd (false≢true i), λ x. absurd (false≢true x)), λ x. refl)
 
 braced_pair_flows : (c : Class) (b : ℕ) → Flows Bare false (in_braced_pair c b)
-braced_pair_flows class.Newline b = ((λ i. cc, λ x. absurd cc), λ x. refl)
-braced_pair_flows c b = ((λ i. cc, λ x. absurd cc), λ x. refl)
+braced_pair_flows class.Newline b = ((λ i. absurd (false≢true i), λ x. absurd (false≢true x)), λ x. refl)
+braced_pair_flows c b = ((λ i. absurd (false≢true i), λ x. absurd (false≢true x)), λ x. refl)
 
 braced_join_flows : (deep : Bool) (c : Class) (b : ℕ) → Flows Bare false (in_braced_join deep c b)
-braced_join_flows deep c b = either Bare false (is_space b) _ _ ((λ i. cc, λ x. absurd cc), λ x. refl) (braced_flows deep c b)
+braced_join_flows deep c b = either Bare false (is_space b) _ _ ((λ i. absurd (false≢true i), λ x. absurd (false≢true x)), λ x. refl) (braced_flows deep c b)
 
 first_flows : (c : Class) (b : ℕ) → Flows Bare false (in_brace_first c b)
-first_flows class.Star b = ((λ i. cc, λ x. absurd cc), λ x. refl)
+first_flows class.Star b = ((λ i. absurd (false≢true i), λ x. absurd (false≢true x)), λ x. refl)
 first_flows c b = braced_flows false c b
 
 brace_star_flows : (c : Class) (b : ℕ) → Flows Bare false (in_brace_star c b)
-brace_star_flows class.Close b = ((λ i. cc, λ x. absurd cc), λ x. refl)
+brace_star_flows class.Close b = ((λ i. absurd (false≢true i), λ x. absurd (false≢true x)), λ x. refl)
 brace_star_flows c b = braced_flows false c b
 
 star_flows : (c : Class) (b : ℕ) → Flows Bare false (behind_star level.Top (heard level.Top c) b)
-star_flows class.Blank b = ((λ i. cc, λ x. inr refl), λ x. refl)
+star_flows class.Blank b = ((λ i. absurd (false≢true i), λ x. inr refl), λ x. refl)
 star_flows class.Newline b = (inr refl, λ x. refl)
 star_flows class.Semicolon b = (inr refl, λ x. refl)
-star_flows class.Quote b = ((λ i. cc, λ x. absurd cc), λ x. refl)
-star_flows class.Open b = ((λ i. cc, λ x. absurd cc), λ x. refl)
-star_flows class.Backslash b = ((λ i. cc, λ x. absurd cc), λ x. refl)
-star_flows class.LeftBracket b = (λ i. cc, λ x. refl)
-star_flows class.RightBracket b = ((λ i. cc, λ x. absurd cc), λ x. refl)
-star_flows class.Dollar b = ((λ i. cc, λ x. absurd cc), λ x. refl)
-star_flows c b = ((λ i. cc, λ x. absurd cc), λ x. refl)
+star_flows class.Quote b = ((λ i. absurd (false≢true i), λ x. absurd (false≢true x)), λ x. refl)
+star_flows class.Open b = ((λ i. absurd (false≢true i), λ x. absurd (false≢true x)), λ x. refl)
+star_flows class.Backslash b = ((λ i. absurd (false≢true i), λ x. absurd (false≢true x)), λ x. refl)
+star_flows class.LeftBracket b = (λ i. absurd (false≢true i), λ x. refl)
+star_flows class.RightBracket b = ((λ i. absurd (false≢true i), λ x. absurd (false≢true x)), λ x. refl)
+star_flows class.Dollar b = ((λ i. absurd (false≢true i), λ x. absurd (false≢true x)), λ x. refl)
+star_flows c b = ((λ i. absurd (false≢true i), λ x. absurd (false≢true x)), λ x. refl)
 
 star_pair_flows : (c : Class) (b : ℕ) → Flows Bare false (in_star_pair c b)
-star_pair_flows class.Newline b = ((λ i. cc, λ x. inr refl), λ x. refl)
+star_pair_flows class.Newline b = ((λ i. absurd (false≢true i), λ x. inr refl), λ x. refl)
 star_pair_flows c b = escaped_flows false Bare b
 
 after_own : (d : Delimiter) → after d ≢ Memory
@@ -258,15 +259,15 @@ after_own delimiter.Brace e = cc
 after_own delimiter.Quote e = cc
 
 behind_flows : (d : Delimiter) (c : Class) → Flows Bare true (behind level.Top d (heard level.Top c))
-behind_flows d class.Blank = ((λ i. cc, λ x. inl refl), λ x. refl)
+behind_flows d class.Blank = ((λ i. absurd (false≢true i), λ x. inl refl), λ x. refl)
 behind_flows d class.Newline = (inl refl, λ x. refl)
 behind_flows d class.Semicolon = (inl refl, λ x. refl)
-behind_flows d class.Backslash = ((λ i. cc, λ x. inl refl), λ x. refl)
+behind_flows d class.Backslash = ((λ i. absurd (false≢true i), λ x. inl refl), λ x. refl)
 behind_flows d class.RightBracket = (after_own d, λ x. refl)
 behind_flows d c = (after_own d, λ x. refl)
 
 behind_pair_flows : (d : Delimiter) (c : Class) → Flows Bare true (behind_pair d c)
-behind_pair_flows d class.Newline = ((λ i. cc, λ x. inl refl), λ x. refl)
+behind_pair_flows d class.Newline = ((λ i. absurd (false≢true i), λ x. inl refl), λ x. refl)
 behind_pair_flows d c = (after_own d, λ x. refl)
 
 pub turn_flows : (deep : Bool) (m : Mode) (c : Class) (b : ℕ) → Flows (home m) (behind_word m) (turn level.Top deep m c b)
@@ -274,7 +275,7 @@ unfolding turn
 turn_flows deep Start c b = start_flows c b
 turn_flows deep StartPair c b = start_pair_flows c b
 turn_flows deep Comment c b = comment_flows c
-turn_flows deep CommentPair c b = ((λ i. cc, λ x. absurd cc), λ x. refl)
+turn_flows deep CommentPair c b = ((λ i. absurd (false≢true i), λ x. absurd (false≢true x)), λ x. refl)
 turn_flows deep Gap c b = gap_flows c b
 turn_flows deep GapPair c b = gap_pair_flows c b
 turn_flows deep Operand c b = operand_flows c

@@ -217,6 +217,23 @@ impl Draft {
         }
     }
 
+    /// The word that is open ends after two deeds.
+    fn end(&mut self, first: Deed, second: Deed) -> Result<(), AllocError>
+        ensures { OnOk result (self.new ≡ perform Deed.Word (perform second (perform first self.old))) }
+    {
+        self.perform(first)?;
+        self.perform(second)?;
+        self.perform(Deed::Word)
+    }
+
+    /// The words, once the word that is open has ended after two deeds.
+    pub fn ended(mut self, first: Deed, second: Deed) -> Result<Seq<Word>, AllocError>
+        ensures { IfOk result (λ words. words ≡ (perform Deed.Word (perform second (perform first self))).words) }
+    {
+        self.end(first, second)?;
+        Ok(self.into_words())
+    }
+
     /// The text is the name of an element, whose index begins.
     pub fn open_index(&mut self, spot: Spot) -> Result<(), AllocError>
         ensures { OnOk result (self.new ≡ open_index spot self.old) }

@@ -4,8 +4,8 @@ ghost use Rattle.dg_words.specs.Answers.{Gives, Made};
 ghost use Rattle.dg_words.specs.First.{FirstCommand, FirstFault};
 ghost use Rattle.dg_words.specs.Grammar.Spelling.{IsCommandFault, IsOperandFault, IsWordsFault, SpellsCommand, SpellsOperand};
 ghost use Rattle.dg_words.specs.Grammar.Words.{WordsOf};
-ghost use Rattle.dg_words.specs.Machine.{Go, follow, follow_inside, fresh, has_room, is_none, leaves, level_in, read, spot_of, step, stop, take_turn};
-ghost use Rattle.dg_words.specs.Reading.{command_at, operand_at, words_of};
+ghost use Rattle.dg_words.specs.Machine.{Go, follow, follow_inside, fresh, has_room, is_none, leaves, level_in, read, spot_of, step, stop, stopped, take_turn};
+ghost use Rattle.dg_words.specs.Reading.{command_at, kind_of, operand_at, words_of};
 ghost use Rattle.dg_words.specs.Runs.{Reaches};
 
 use crate::draft::Draft;
@@ -176,13 +176,12 @@ impl Scanner {
             self.mode = Mode::In(Spot::Bare);
             return Ok(());
         };
-        if self.inner.is_empty() {
-            self.draft.command()?;
-        } else {
-            self.draft.put(byte)?;
-        }
         self.mode = Mode::In(outer.spot());
-        Ok(())
+        if self.inner.is_empty() {
+            self.draft.command()
+        } else {
+            self.draft.put(byte)
+        }
     }
 
     /// Goes there within brackets, whose text every byte belongs to. Behind a command another may begin.
@@ -230,11 +229,11 @@ impl Scanner {
         ensures { IfOk result (λ pace. Made (take_turn turn self.old.depth self.old.inner self.old.draft byte) pace self.new) }
     {
         if !self.inner.is_empty() {
-            return Ok(self.follow_inside(turn.next, byte)?);
+            return self.follow_inside(turn.next, byte);
         }
         self.draft.perform(turn.first)?;
         self.draft.perform(turn.second)?;
-        Ok(self.follow(turn.next)?)
+        self.follow(turn.next)
     }
 
     /// One more byte.
@@ -249,7 +248,7 @@ impl Scanner {
             Level::Inside
         };
         let turn = self.mode.turn(here, self.depth > 0, class_of(byte), byte);
-        Ok(self.take_turn(turn, byte)?)
+        self.take_turn(turn, byte)
     }
 
     /// Passes over the bytes from a place on that only add to what is open, and tells the place behind them.
@@ -284,20 +283,55 @@ impl Scanner {
 
     /// The text ends: its words, or what is missing.
     #[tactic(auto, unfolding(crate::specs::Machine::stop))]
-    fn stop(mut self) -> Result<Seq<Word>, WordFault>
+    fn stop(self) -> Result<Seq<Word>, WordFault>
         ensures { MatchResult result (λ words. stop self ≡ Ok words) (λ f. (f ≡ WordFault.Memory) ⊎ (stop self ≡ Err f)) }
     {
-        match self.mode.ends(self.inner.is_empty()) {
-            Ending::Word(first, second) => {
-                self.draft.perform(first)?;
-                self.draft.perform(second)?;
-                self.draft.perform(Deed::Word)?;
-            }
-            Ending::Done => {}
-            Ending::Bad(fault) => return Err(fault),
-        }
+        let ending = self.mode.ends(self.inner.is_empty());
         let Scanner { draft, .. } = self;
-        Ok(draft.into_words())
+        match ending {
+            Ending::Word(first, second) => Ok(draft.ended(first, second)?),
+            Ending::Done => Ok(draft.into_words()),
+            Ending::Bad(fault) => Err(fault),
+        }
+    }
+
+    /// The text ends at a place: the words and that place, or what is missing.
+    fn at_end(self, place: usize) -> Result<Parsed, WordFault>
+        ensures { Gives (λ p. (p.words, p.next)) result (stopped (stop self) place) }
+    {
+        match self.stop() {
+            Ok(words) => Ok(Parsed { words, next: place }),
+            Err(fault) => Err(fault),
+        }
+    }
+
+    /// The whole words.
+    fn into_words(self) -> Seq<Word>
+        ensures { result ≡ self.draft.words }
+    {
+        let Scanner { draft, .. } = self;
+        draft.into_words()
+    }
+
+    /// Reads on from a place until what is read is over, and tells the place behind it, or none where the
+    /// text ends.
+    fn read_on(&mut self, level: Level, text: &[u8], at: usize) -> Result<Option<usize>, WordFault>
+        requires within { at ≤ length text.now }
+        requires deep { self.now.depth ≤ at }
+        ensures { let answer = read level (drop at text.now) self.old at in
+            MatchResult result
+            (λ next. MatchOption next (answer ≡ stopped (stop self.new) (length text.now)) (λ n. answer ≡ Ok (self.new.draft.words, n)))
+            (λ f. (f ≡ WordFault.Memory) ⊎ (kind_of answer ≡ Err f)) }
+    {
+        let mut place = at;
+        while place < text.len() {
+            match self.step(level, text[place])? {
+                Pace::Go => place = self.pass(text, place + 1)?,
+                Pace::Over(taken) => return Ok(Some(place + taken)),
+                Pace::Bad(fault) => return Err(fault),
+            }
+        }
+        Ok(None)
     }
 }
 
@@ -313,25 +347,12 @@ fn scan(
     ensures { Gives (λ p. (p.words, p.next)) result (read level (drop at text.now) (fresh mode) at) }
 {
     let mut scanner = Scanner::new(alloc, mode);
-    let mut place = at;
-    while place < text.len() {
-        match scanner.step(level, text[place])? {
-            Pace::Go => place = scanner.pass(text, place + 1)?,
-            Pace::Over(taken) => {
-                let Scanner { draft, .. } = scanner;
-                return Ok(Parsed {
-                    words: draft.into_words(),
-                    next: place + taken,
-                });
-            }
-            Pace::Bad(fault) => return Err(fault),
-        }
-    }
-    match scanner.stop() {
-        Ok(words) => Ok(Parsed {
-            words,
-            next: text.len(),
+    match scanner.read_on(level, text, at) {
+        Ok(Some(next)) => Ok(Parsed {
+            words: scanner.into_words(),
+            next,
         }),
+        Ok(None) => scanner.at_end(text.len()),
         Err(fault) => Err(fault),
     }
 }
