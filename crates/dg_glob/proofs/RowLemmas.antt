@@ -1,11 +1,11 @@
 -- The rows of marks, one cell and one row further.
-use Rattle.std.proofs.Common.{◌≡◌, ◌≢◌, ◌≤◌, ◌<◌, ◌+◌, ◌-◌, ◌↔◌, ◌⊎◌, inl, inr, ⊎_elim, ℕ, suc, Bool, true, false, ◌||◌, ◌&&◌, ◌==◌, cond, List, [], ◌∷◌, Option, Some, None, length, get_or, drop, refl, sym, ap, ◌∙◌, subst, arith}
+use Rattle.std.proofs.Common.{◌≡◌, ◌≢◌, ◌≤◌, ◌<◌, ◌+◌, ◌-◌, ◌↔◌, ◌⊎◌, inl, inr, ⊎_elim, ℕ, suc, Bool, true, false, ◌||◌, ◌&&◌, ◌==◌, cond, List, [], ◌∷◌, Option, Some, None, IfSome, IfNone, length, get_or, drop, refl, sym, ap, ◌∙◌, subst, arith}
 use Rattle.std.proofs.lemmas.Bool.{cases_eq, cases_lt, eqb-true}
 use Rattle.std.proofs.lemmas.List.{drop-drop, drop_all, drop_more, length-drop, length-append, nil_from_length}
 use Rattle.dg_glob.specs.Items.{Item, single, items, past_close, takes, after_first, after_escaped, after_item}
-use Rattle.dg_glob.specs.Search.{Ends, IsLongest}
+use Rattle.dg_glob.specs.Search.{Ends, IsAnswer, IsLongest}
 use Rattle.dg_glob.specs.Marks.{marked}
-use Rattle.dg_glob.specs.Rows.{FewLeft, last, IsRow, marked_left, cell}
+use Rattle.dg_glob.specs.Rows.{AreFewest, FewLeft, last, IsRow, marked_left, cell}
 use Rattle.dg_glob.proofs.ItemLemmas.{after_item_shorter}
 use Rattle.dg_glob.proofs.LeavesLemmas.{IsAtItem, leaves_all, all_left, leaves_item, item_goes, item_stops, item_wants}
 use Rattle.dg_glob.proofs.SearchLemmas.{star_here, star_next, star_or_next, star_at_end}
@@ -305,3 +305,8 @@ least_left whole p t low high met cap found none =
       count = omega arith;
       least = λ r e. ⊎_elim (λ less. absurd (none (length r) (omega arith) (record { rest = r; leaves = e.leaves; few = omega arith }))) (λ more. more) (cases_lt (length r) high);
     }
+
+-- the fewest bytes are those that the longest match leaves
+pub fewest_is_answer : (whole : Bool) (p t : List ℕ) (most : ℕ) (r : Option ℕ) → most ≡ cond whole 0 (length t) → IfSome r (AreFewest p t most) → IfNone r (FewLeft most p t → ⊥) → IsAnswer whole p t r
+fewest_is_answer whole p t most None is some none = none_left whole p t most is none
+fewest_is_answer whole p t most (Some n) is some none = let cap = some.cap in least_left whole p t n n (omega arith) (omega arith) some.found some.least

@@ -1,6 +1,6 @@
 -- The search behind a `*`: the next text, the next `*`, and its end.
-use Rattle.std.proofs.Common.{◌≡◌, ◌≤◌, ◌+◌, ◌-◌, ◌⊎◌, inl, inr, ⊎_elim, ℕ, zero, suc, min, Bool, true, IsTrue, List, [], ◌∷◌, ◌++◌, Option, Some, None, is_some, length, take, drop, refl, sym, ap, ◌∙◌, subst, arith, append_assoc}
-use Rattle.std.proofs.lemmas.List.{drop-drop, take-append-drop, drop_at, append-nil}
+use Rattle.std.proofs.Common.{◌≡◌, ◌≤◌, ◌+◌, ◌-◌, ◌⊎◌, inl, inr, ⊎_elim, ℕ, zero, suc, min, Bool, true, IsTrue, List, [], ◌∷◌, ◌++◌, Option, Some, None, IfSome, is_some, length, take, drop, refl, sym, ap, ◌∙◌, subst, arith, append_assoc}
+use Rattle.std.proofs.lemmas.List.{drop-drop, take-append-drop, drop_at, append-nil, length-append}
 use Rattle.std.proofs.lemmas.Bool.{cases_lt}
 use Rattle.dg_glob.specs.Glob.{Matches}
 use Rattle.dg_glob.specs.Search.{Leaves, Ends, IsRun, IsLongest, IsAnswer, fewest, IsAtStar, IsSkipped, IsAhead}
@@ -133,6 +133,14 @@ answer_along whole p t q u s o run h =
 
 pub no_answer : (whole : Bool) (p t : List ℕ) → ((r : List ℕ) → Leaves p t r → ⊥) → IsAnswer whole p t None
 no_answer whole p t h r e = h r e.leaves
+
+-- no match leaves more than the text
+pub answer_within : (whole : Bool) (p t : List ℕ) (o : Option ℕ) → IsAnswer whole p t o → IfSome o (λ n. n ≤ length t)
+answer_within whole p t None h = tt
+answer_within whole p t (Some n) h =
+    let size = ap length h.ends.leaves.split ∙ length-append h.ends.leaves.taken h.rest in
+    let count = h.count in
+    omega arith
 
 -- a pattern at a star, and what stands behind it
 pub at_star : (q' q : List ℕ) (x : ℕ) → q' ≡ x ∷ q → IsAtStar q' → q' ≡ 42 ∷ q

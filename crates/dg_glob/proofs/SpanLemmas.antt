@@ -127,6 +127,11 @@ bound_span p t n bound h =
       longest = λ e span. let g = h.least (drop e t) (span_ends p t 0 e span) in let m = length-drop e t in let w = span.within in omega arith;
     }
 
+pub span_at_start : (p t : List ℕ) (s e : ℕ) → IsTrue (binds_start p) → s ≡ 0 → e ≤ length t → IsLongest (binds_end p) (body p) t (length t - e) → IsFirstSpan p t s e
+span_at_start p t s e bound zero within h =
+    let same : length t - (length t - e) ≡ e = omega arith in
+    subst (λ (k : ℕ). IsFirstSpan p t k e) (sym zero) (subst (λ (k : ℕ). IsFirstSpan p t 0 k) same (bound_span p t (length t - e) bound h))
+
 pub no_bound_span : (p t : List ℕ) → IsTrue (binds_start p) → IsAnswer (binds_end p) (body p) t None → (s e : ℕ) → IsSpan p t s e → ⊥
 no_bound_span p t bound none s e span =
     none (drop e t) (subst (λ k. Ends (binds_end p) (body p) (drop k t) (drop e t)) (span.at_start bound) (span_ends p t s e span))

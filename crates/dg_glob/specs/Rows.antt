@@ -1,5 +1,5 @@
 -- One row of marks: for each end of a pattern whether it matches a text so that few bytes are left.
-use Rattle.std.specs.Prelude.{ℕ, Bool, true, false, Option, None, Some, List, [], ◌∷◌, ◌≡◌, ◌≤◌, ◌-◌, ◌↔◌, ◌==◌, ◌&&◌, ◌||◌, if◌then◌else◌, length, drop}
+use Rattle.std.specs.Prelude.{ℕ, Bool, true, false, Option, None, Some, List, [], ◌∷◌, ◌≡◌, ◌≤◌, ◌<◌, ◌-◌, ◌↔◌, ◌==◌, ◌&&◌, ◌||◌, if◌then◌else◌, length, drop}
 use Rattle.dg_glob.specs.Items.{after_item}
 use Rattle.dg_glob.specs.Search.{Leaves}
 use Rattle.dg_glob.specs.Marks.{marked}
@@ -9,6 +9,12 @@ pub record FewLeft (limit : ℕ) (pattern text : List ℕ) : Type 0 where
   pub rest : List ℕ
   pub leaves : Leaves pattern text rest
   pub few : length rest ≤ limit
+
+-- A match leaves at most so many bytes, which are no more than the most, and none leaves at most fewer.
+pub record AreFewest (pattern text : List ℕ) (most few : ℕ) : Type 0 where
+  pub cap : few ≤ most
+  pub found : FewLeft few pattern text
+  pub least : (k : ℕ) → k < few → FewLeft k pattern text → ⊥
 
 -- the last n bytes of a pattern
 abbrev pub last : ℕ → List ℕ → List ℕ

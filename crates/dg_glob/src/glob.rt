@@ -2,7 +2,7 @@
 ghost use Rattle.std.specs.Prelude.{◌≡◌, ◌≤◌, ◌<◌, ◌-◌, ◌↔◌, ◌∷◌, [], IfSome, IfNone, IsTrue, List, ℕ, length, drop, None, option_map};
 ghost use Rattle.dg_glob.specs.Glob as word;
 ghost use Rattle.dg_glob.specs.Tests.{first_span, glob_matches};
-ghost use Rattle.dg_glob.specs.Search.{Ends, IsFirstReach};
+ghost use Rattle.dg_glob.specs.Search.{Ends, IsAnswer, IsFirstReach, IsLongest};
 
 use crate::search::{longest, skip_ahead};
 
@@ -86,6 +86,20 @@ fn first_reach(body: &[u8], text: &[u8], whole: bool) -> Option<Span>
     }
 }
 
+/// The longest match of a pattern at the text's start.
+fn reach_at_start(body: &[u8], text: &[u8], whole: bool) -> Option<Span>
+    ensures some { IfSome result (λ s. (s.start ≡ 0) × (s.end ≤ length text.now) × IsLongest whole body.now text.now (length text.now - s.end)) }
+    ensures none { IfNone result (IsAnswer whole body.now text.now None) }
+{
+    match longest(body, text, whole).left {
+        Some(left) => Some(Span {
+            start: 0,
+            end: text.len() - left,
+        }),
+        None => None,
+    }
+}
+
 /// The span of the pattern in the text with the least start, and of those the one with the greatest
 /// end. It takes no memory.
 ///
@@ -101,9 +115,5 @@ pub fn find_glob(pattern: &[u8], text: &[u8]) -> Option<Span>
     if !binds_start(pattern) {
         return first_reach(body, text, whole);
     }
-    let left = longest(body, text, whole).left?;
-    Some(Span {
-        start: 0,
-        end: text.len() - left,
-    })
+    reach_at_start(body, text, whole)
 }

@@ -1,5 +1,5 @@
 //! A search that marks places of the pattern, for one whose brackets lead to several places.
-ghost use Rattle.std.specs.Prelude.{◌≡◌, ◌<◌, ◌≤◌, ◌/◌, ◌↔◌, ◌∷◌, length, drop, IsTrue};
+ghost use Rattle.std.specs.Prelude.{◌≡◌, ◌<◌, ◌≤◌, ◌/◌, ◌↔◌, ◌∷◌, length, drop, IsTrue, IfSome, IfNone, if◌then◌else◌};
 ghost use Rattle.dg_glob.specs.Rows as word;
 ghost use Rattle.dg_glob.specs.Search.{IsAnswer};
 
@@ -68,6 +68,43 @@ fn matches_within(
     found
 }
 
+/// The fewest bytes that a match of a `*` and the pattern behind it leaves, if one leaves at most so
+/// many. They are found by halving.
+fn fewest_left(
+    pattern: &[u8],
+    text: &[u8],
+    most: usize,
+    later: &mut [u64],
+    row: &mut [u64],
+) -> Option<usize>
+    requires room { length pattern.now / 64 < length row.old }
+    requires same_room { length later.old ≡ length row.old }
+    ensures some { IfSome result (word.AreFewest (42 ∷ pattern.now) text.now most) }
+    ensures none { IfNone result (word.FewLeft most (42 ∷ pattern.now) text.now → ⊥) }
+{
+    if !matches_within(pattern, text, most, later, row) {
+        return None;
+    }
+    let mut low = 0;
+    let mut high = most;
+    while low < high {
+        let middle = low + (high - low) / 2;
+        if matches_within(pattern, text, middle, later, row) {
+            high = middle;
+        } else {
+            low = middle + 1;
+        }
+    }
+    Some(high)
+}
+
+/// How many bytes of a text a match may leave.
+fn most_left(text: &[u8], whole: bool) -> usize
+    ensures { result ≡ (if whole then 0 else length text.now) }
+{
+    if whole { 0 } else { text.len() }
+}
+
 /// How many bytes the longest match leaves of a `*` and the pattern behind it, whatever its
 /// brackets lead to: in steps as many as the pattern's length times the text's, for each of the
 /// bounds that halving the text's length gives.
@@ -81,18 +118,5 @@ pub(crate) fn after_star_by_rows(pattern: &[u8], text: &[u8], whole: bool) -> Op
     let words = pattern.len() / 64 + 1;
     let later = &mut later_marks[..words];
     let row = &mut marks[..words];
-    let mut high = if whole { 0 } else { text.len() };
-    if !matches_within(pattern, text, high, later, row) {
-        return None;
-    }
-    let mut low = 0;
-    while low < high {
-        let middle = low + (high - low) / 2;
-        if matches_within(pattern, text, middle, later, row) {
-            high = middle;
-        } else {
-            low = middle + 1;
-        }
-    }
-    Some(high)
+    fewest_left(pattern, text, most_left(text, whole), later, row)
 }

@@ -133,6 +133,7 @@ pub(crate) struct Reach {
 /// The longest match of the pattern at the front of the text, or of the whole text.
 pub(crate) fn longest(pattern: &[u8], text: &[u8], whole: bool) -> Reach
     ensures answer { IsAnswer whole pattern.now text.now result.left }
+    ensures within { IfSome result.left (λ n. n ≤ length text.now) }
     ensures later { IsTrue result.final_word → result.left ≡ None →
         (k : ℕ) (rest : List ℕ) → Ends whole pattern.now (drop k text.now) rest → ⊥ }
 {

@@ -1,8 +1,8 @@
-use Rattle.std.proofs.Common.{ℕ, sym, subst, ◌∙◌, ◌∷◌}
+use Rattle.std.proofs.Common.{ℕ, length, sym, ap, subst, ◌∙◌, ◌∷◌, arith}
 use Rattle.std.proofs.lemmas.Bool.{eqb-true}
-use Rattle.std.proofs.lemmas.List.{nil_from_length}
+use Rattle.std.proofs.lemmas.List.{length-drop, nil_from_length}
 use Rattle.dg_glob.specs.Search.{IsAnswer}
-use Rattle.dg_glob.proofs.SearchLemmas.{IsSearch, search_takes_all, search_jump, search_skip, search_next, search_ends, search_closes, no_answer, answer_along_is, at_star}
+use Rattle.dg_glob.proofs.SearchLemmas.{IsSearch, search_begins, search_takes_all, search_jump, search_skip, search_next, search_ends, search_closes, no_answer, answer_along_is, at_star}
 use Rattle.dg_glob.proofs.search.+after_star.Goals as goal
 use Rattle.dg_glob.proofs.search.+after_star.Goals.{After-fewest-best, in-None, in-Some+in-None-split_first, in-Some+in-Some-split_first+else-run+else-rest-le-LONGEST}
 
@@ -32,3 +32,21 @@ loop-rest-preserved t c =
 pub returns-then-rest-le-LONGEST : goal.returns-then-rest-le-LONGEST
 returns-then-rest-le-LONGEST t c =
     subst (IsAnswer c.args.whole (42 ∷ c.args.pattern.now) c.args.text.now) (sym c.fewest.ensures) (search_closes _ _ _ _ _ _ (search_skip _ _ _ _ _ _ c.loop-rest.invariant _ c.skip_ahead-later.ensures) _ c.after_star_by_rows.ensures)
+
+pub loop-rest-init : goal.loop-rest-init
+loop-rest-init t c = search_begins _ _ _
+
+pub loop-rest-smaller-then-run : goal.loop-rest-smaller-then-run
+loop-rest-smaller-then-run t c =
+    let ahead = ap length c.skip_ahead-later.ensures.left ∙ length-drop c.skip_ahead-later.ensures.skipped c.loop-rest.later.now in
+    let run = c.in-Some.ensures.some in
+    let left = ap length run.left ∙ length-drop run.passed c.skip_ahead-later.result.now in
+    let shorter = run.shorter in
+    let behind = ap length c.in-Some-split_first.ensures.cases.0 in
+    omega arith
+
+pub loop-rest-smaller : goal.loop-rest-smaller
+loop-rest-smaller t c =
+    let ahead = ap length c.skip_ahead-later.ensures.left ∙ length-drop c.skip_ahead-later.ensures.skipped c.loop-rest.later.now in
+    let behind = ap length c.in-Some-split_first-2.ensures.cases.0 in
+    omega arith

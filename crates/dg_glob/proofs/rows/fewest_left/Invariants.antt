@@ -1,10 +1,10 @@
-use Rattle.std.proofs.Common.{ℕ, ◌≤◌, ◌<◌, ◌-◌, ◌∷◌, cond, length}
+use Rattle.std.proofs.Common.{ℕ, ◌≤◌, ◌<◌, ◌-◌, ◌∷◌}
 use Rattle.dg_glob.specs.Rows.{FewLeft}
-use Rattle.dg_glob.proofs.rows.after_star_by_rows.Given as goal
+use Rattle.dg_glob.proofs.rows.fewest_left.Given as goal
 
 abbrev pub invariant-loop-low : goal.invariant-loop-low
 invariant-loop-low l = record {
-  cap : l.high ≤ cond l.whole 0 (length l.text);
+  cap : l.high ≤ l.most;
   found : FewLeft l.high (42 ∷ l.pattern) l.text;
   none : (k : ℕ) → k < l.low → FewLeft k (42 ∷ l.pattern) l.text → ⊥;
 }
