@@ -4,7 +4,7 @@ use Rattle.dg_expr.specs.declared.fault.ExprFault.{ExprFault}
 use Rattle.dg_expr.specs.declared.fault.ExprFault.TheVariants.{Memory, Syntax}
 use Rattle.dg_expr.specs.declared.frame.Frame.{Frame}
 use Rattle.dg_expr.specs.declared.token.Lexeme.{Lexeme}
-use Rattle.dg_expr.specs.Reading.{Place, is_low, read_behind}
+use Rattle.dg_expr.specs.Reading.{is_low, read_behind}
 use Rattle.dg_expr.specs.Token.{lexeme_at, tokens_of}
 use Rattle.dg_expr.specs.Tree.{Tree}
 
@@ -27,10 +27,6 @@ Leads o fs (Err f) = (f ≡ Memory) ⊎ ((f ≡ Syntax) × (o ≡ None))
 abbrev pub Lexes : List ℕ → Result Lexeme ExprFault → Type 0
 Lexes text (Ok l) = (lexeme_at text ≡ Some l) × (1 ≤ l.length) × (l.length ≤ length text)
 Lexes text (Err f) = (f ≡ Memory) ⊎ ((f ≡ Syntax) × (lexeme_at text ≡ None))
-
-abbrev pub LeadsTo : Option Place → List Frame → Result (Unit {0}) ExprFault → Type 0
-LeadsTo o fs (Ok x) = o ≡ Some (fs, None)
-LeadsTo o fs (Err f) = (f ≡ Memory) ⊎ ((f ≡ Syntax) × (o ≡ None))
 
 -- A lexeme of so many bytes.
 abbrev pub LexesTo : Option Lexeme → ℕ → Result Lexeme ExprFault → Type 0

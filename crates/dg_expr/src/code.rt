@@ -1,5 +1,5 @@
 //! The flat code of a tree.
-ghost use Rattle.std.specs.Prelude.{◌≡◌, ◌++◌, ◌∷◌, [], ℕ, List, OnOk, IfOk};
+ghost use Rattle.std.specs.Prelude.{◌≡◌, ◌++◌, ◌∷◌, ◌+◌, [], ℕ, List, OnOk, IfOk, length};
 ghost use Rattle.dg_expr.specs.Code.{Host, code_of, joining, right_code, run, value};
 ghost use Rattle.dg_expr.specs.Tree.{Tree as Spelled};
 
@@ -52,14 +52,47 @@ impl Infix {
     }
 }
 
+/// Adds an instruction behind code.
+fn add(code: &mut Seq<Instruction>, instruction: Instruction) -> Result<(), AllocError>
+    ensures { OnOk result (code.new ≡ code.old ++ instruction ∷ []) }
+{
+    code.push(instruction)?;
+    Ok(())
+}
+
 /// Adds code behind other code.
 fn append(code: &mut Seq<Instruction>, more: Seq<Instruction>) -> Result<(), AllocError>
     ensures { OnOk result (code.new ≡ code.old ++ more) }
 {
     for instruction in more.into_vec() {
-        code.push(instruction)?;
+        add(code, instruction)?;
     }
     Ok(())
+}
+
+/// Adds the code of a right operand and the operator.
+fn add_applied(
+    code: &mut Seq<Instruction>,
+    op: Infix,
+    right: Seq<Instruction>,
+) -> Result<(), AllocError>
+    ensures { OnOk result (code.new ≡ code.old ++ (right ++ Instruction.Apply op ∷ [])) }
+{
+    append(code, right)?;
+    add(code, Instruction::Apply(op))
+}
+
+/// Adds the code of a right operand whose truth is the value, behind an instruction that may pass over it.
+fn add_truth(
+    code: &mut Seq<Instruction>,
+    pass: Instruction,
+    right: Seq<Instruction>,
+) -> Result<(), AllocError>
+    ensures { OnOk result (code.new ≡ code.old ++ (pass ∷ (right ++ Instruction.Truth ∷ []))) }
+{
+    add(code, pass)?;
+    append(code, right)?;
+    add(code, Instruction::Truth)
 }
 
 /// Adds what follows the code of the left operand.
@@ -72,22 +105,24 @@ fn add_right(
 {
     let passed = right.len() + 1;
     match op.joins() {
-        Joins::Always => {
-            append(code, right)?;
-            code.push(Instruction::Apply(op))?;
-        }
-        Joins::WhereTrue => {
-            code.push(Instruction::And(passed))?;
-            append(code, right)?;
-            code.push(Instruction::Truth)?;
-        }
-        Joins::WhereFalse => {
-            code.push(Instruction::Or(passed))?;
-            append(code, right)?;
-            code.push(Instruction::Truth)?;
-        }
+        Joins::Always => add_applied(code, op, right),
+        Joins::WhereTrue => add_truth(code, Instruction::And(passed), right),
+        Joins::WhereFalse => add_truth(code, Instruction::Or(passed), right),
     }
-    Ok(())
+}
+
+/// Adds what follows the code of a condition: the code of both branches, of which one is passed over.
+fn add_branches(
+    code: &mut Seq<Instruction>,
+    first: Seq<Instruction>,
+    second: Seq<Instruction>,
+) -> Result<(), AllocError>
+    ensures { OnOk result (code.new ≡ code.old ++ (Instruction.Unless (length first + 1) ∷ (first ++ (Instruction.Skip (length second) ∷ second)))) }
+{
+    add(code, Instruction::Unless(first.len() + 1))?;
+    append(code, first)?;
+    add(code, Instruction::Skip(second.len()))?;
+    append(code, second)
 }
 
 /// Adds the code of a tree.
@@ -96,16 +131,16 @@ fn add_code(alloc: Global, tree: Tree, code: &mut Seq<Instruction>) -> Result<()
     ensures { OnOk result (code.new ≡ code.old ++ code_of tree) }
 {
     match tree.into_node() {
-        Node::Operand(parts) => code.push(Instruction::Push(parts))?,
+        Node::Operand(parts) => add(code, Instruction::Push(parts)),
         Node::One(op, a) => {
             add_code(alloc, a, code)?;
-            code.push(Instruction::ApplyOne(op))?;
+            add(code, Instruction::ApplyOne(op))
         }
         Node::Two(op, a, b) => {
             let mut right = Seq::new(alloc);
             add_code(alloc, b, &mut right)?;
             add_code(alloc, a, code)?;
-            add_right(code, op, right)?;
+            add_right(code, op, right)
         }
         Node::Choice(condition, a, b) => {
             let mut first = Seq::new(alloc);
@@ -113,13 +148,9 @@ fn add_code(alloc: Global, tree: Tree, code: &mut Seq<Instruction>) -> Result<()
             let mut second = Seq::new(alloc);
             add_code(alloc, b, &mut second)?;
             add_code(alloc, condition, code)?;
-            code.push(Instruction::Unless(first.as_slice().len() + 1))?;
-            append(code, first)?;
-            code.push(Instruction::Skip(second.len()))?;
-            append(code, second)?;
+            add_branches(code, first, second)
         }
     }
-    Ok(())
 }
 
 /// The code of a tree. To run it is to give the tree its value (`code_runs`).

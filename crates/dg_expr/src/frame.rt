@@ -1,8 +1,9 @@
 //! What is open while an expression is read.
-ghost use Rattle.std.specs.Prelude.{◌≡◌, ◌∷◌, [], true, MatchOption, OnOk, IfOk, None, Some};
+ghost use Rattle.std.specs.Prelude.{◌≡◌, ◌∷◌, [], List, IsTrue, IsFalse, MatchOption, OnOk, None, Some};
 ghost use Rattle.dg_expr.specs.Grammar.{level_of};
-ghost use Rattle.dg_expr.specs.Reading.{at_operand, at_operator, condition_taken, finish, joined, opened, paren_closed, pass, reduce, step, takes};
-ghost use Rattle.dg_expr.specs.Steps.{Finds, Leads, LeadsTo, Makes};
+ghost use Rattle.dg_expr.specs.declared.frame.Frame.{Frame};
+ghost use Rattle.dg_expr.specs.Reading.{at_operand, at_operator, branch_ends, condition_taken, finish, joined, opened, paren_closed, parens_end, pass, reduce, step, takes};
+ghost use Rattle.dg_expr.specs.Steps.{Finds, Leads, Makes};
 
 use crate::fault::ExprFault;
 use crate::operator::{Infix, Prefix};
@@ -42,6 +43,20 @@ impl Model for Frames {
 }
 
 impl Frame {
+    /// Whether it is an open parenthesis.
+    fn is_paren(&self) -> bool
+        ensures paren { IsTrue result → self.now ≡ Frame.Paren }
+        ensures other { IsFalse result → (frames : List Frame) → paren_closed (self.now ∷ frames) ≡ None }
+    {
+        match self {
+            Frame::Paren => true,
+            Frame::Prefix(_) => false,
+            Frame::Infix(_, _) => false,
+            Frame::Condition(_) => false,
+            Frame::Branch(_, _) => false,
+        }
+    }
+
     /// Whether it takes a tree that an operator of this level follows.
     fn takes(&self, level: u8) -> bool
         ensures { result ≡ takes level self.now }
@@ -60,11 +75,11 @@ impl Frame {
     {
         let _levels = tree.levels();
         match self {
-            Frame::Prefix(op) => Ok(Tree::one(alloc, op, tree)?),
-            Frame::Infix(op, left) => Ok(Tree::two(alloc, op, left, tree)?),
+            Frame::Prefix(op) => Tree::one(alloc, op, tree),
+            Frame::Infix(op, left) => Tree::two(alloc, op, left, tree),
             Frame::Paren => Ok(tree),
             Frame::Condition(_) => Ok(tree),
-            Frame::Branch(condition, first) => Ok(Tree::choice(alloc, condition, first, tree)?),
+            Frame::Branch(condition, first) => Tree::choice(alloc, condition, first, tree),
         }
     }
 }
@@ -109,22 +124,29 @@ impl Frames {
         }
     }
 
+    /// Opens one more, behind which an operand must come.
+    fn open(&mut self, frame: Frame) -> Result<Option<Tree>, ExprFault>
+        ensures { Leads (Some (frame ∷ self.old, None)) self.new result }
+    {
+        self.push(frame)?;
+        Ok(None)
+    }
+
     /// A token where an operand must come: the tree of an operand, or none yet.
     fn at_operand(&mut self, alloc: Global, token: Token) -> Result<Option<Tree>, ExprFault>
         ensures { Leads (at_operand self.old token) self.new result }
     {
         match token {
-            Token::Operand(parts) => return Ok(Some(Tree::operand(alloc, parts)?)),
-            Token::LeftParen => self.push(Frame::Paren)?,
-            Token::Prefix(op) => self.push(Frame::Prefix(op))?,
-            Token::Plus => self.push(Frame::Prefix(Prefix::Keep))?,
-            Token::Minus => self.push(Frame::Prefix(Prefix::Negate))?,
-            Token::Infix(_) => return Err(ExprFault::Syntax),
-            Token::RightParen => return Err(ExprFault::Syntax),
-            Token::Question => return Err(ExprFault::Syntax),
-            Token::Colon => return Err(ExprFault::Syntax),
+            Token::Operand(parts) => Ok(Some(Tree::operand(alloc, parts)?)),
+            Token::LeftParen => self.open(Frame::Paren),
+            Token::Prefix(op) => self.open(Frame::Prefix(op)),
+            Token::Plus => self.open(Frame::Prefix(Prefix::Keep)),
+            Token::Minus => self.open(Frame::Prefix(Prefix::Negate)),
+            Token::Infix(_) => Err(ExprFault::Syntax),
+            Token::RightParen => Err(ExprFault::Syntax),
+            Token::Question => Err(ExprFault::Syntax),
+            Token::Colon => Err(ExprFault::Syntax),
         }
-        Ok(None)
     }
 
     /// The innermost parentheses end.
@@ -132,12 +154,8 @@ impl Frames {
         ensures { Leads (paren_closed self.old) self.new result }
     {
         match self.pop() {
-            Some(Frame::Paren) => Ok(()),
-            Some(Frame::Prefix(_)) => Err(ExprFault::Syntax),
-            Some(Frame::Infix(_, _)) => Err(ExprFault::Syntax),
-            Some(Frame::Condition(_)) => Err(ExprFault::Syntax),
-            Some(Frame::Branch(_, _)) => Err(ExprFault::Syntax),
-            None => Err(ExprFault::Syntax),
+            Some(frame) if frame.is_paren() => Ok(()),
+            _ => Err(ExprFault::Syntax),
         }
     }
 
@@ -156,12 +174,44 @@ impl Frames {
     }
 
     /// An operator comes behind a tree.
-    fn open_infix(&mut self, alloc: Global, op: Infix, tree: Tree) -> Result<(), ExprFault>
-        ensures { LeadsTo (opened (Frame.Infix op) (reduce (level_of op) self.old tree)) self.new result }
+    fn open_infix(
+        &mut self,
+        alloc: Global,
+        op: Infix,
+        tree: Tree,
+    ) -> Result<Option<Tree>, ExprFault>
+        ensures { Leads (opened (Frame.Infix op) (reduce (level_of op) self.old tree)) self.new result }
     {
         let left = self.reduce(alloc, op.level(), tree)?;
-        self.push(Frame::Infix(op, left))?;
-        Ok(())
+        self.open(Frame::Infix(op, left))
+    }
+
+    /// A `?` comes behind a tree, the condition.
+    fn open_condition(&mut self, alloc: Global, tree: Tree) -> Result<Option<Tree>, ExprFault>
+        ensures { Leads (opened Frame.Condition (reduce 1 self.old tree)) self.new result }
+    {
+        let condition = self.reduce(alloc, 1, tree)?;
+        self.open(Frame::Condition(condition))
+    }
+
+    /// A `:` comes behind a tree, the first branch.
+    fn open_branch(&mut self, alloc: Global, tree: Tree) -> Result<Option<Tree>, ExprFault>
+        ensures { Leads (branch_ends (reduce 0 self.old tree)) self.new result }
+    {
+        let first = self.reduce(alloc, 0, tree)?;
+        let condition = self.take_condition()?;
+        self.open(Frame::Branch(condition, first))
+    }
+
+    /// A closing parenthesis comes behind a tree, which stands within.
+    fn end_paren(&mut self, alloc: Global, tree: Tree) -> Result<Option<Tree>, ExprFault>
+        ensures { Leads (parens_end (reduce 0 self.old tree)) self.new result }
+    {
+        let inner = self.reduce(alloc, 0, tree)?;
+        match self.close_paren() {
+            Ok(()) => Ok(Some(inner)),
+            Err(fault) => Err(fault),
+        }
     }
 
     /// A token where an operator may come: the tree behind parentheses that end, or none yet.
@@ -174,28 +224,16 @@ impl Frames {
         ensures { Leads (at_operator self.old tree token) self.new result }
     {
         match token {
-            Token::Infix(op) => self.open_infix(alloc, op, tree)?,
-            Token::Plus => self.open_infix(alloc, Infix::Plus, tree)?,
-            Token::Minus => self.open_infix(alloc, Infix::Minus, tree)?,
-            Token::Question => {
-                let condition = self.reduce(alloc, 1, tree)?;
-                self.push(Frame::Condition(condition))?;
-            }
-            Token::Colon => {
-                let first = self.reduce(alloc, 0, tree)?;
-                let condition = self.take_condition()?;
-                self.push(Frame::Branch(condition, first))?;
-            }
-            Token::RightParen => {
-                let inner = self.reduce(alloc, 0, tree)?;
-                self.close_paren()?;
-                return Ok(Some(inner));
-            }
-            Token::Operand(_) => return Err(ExprFault::Syntax),
-            Token::Prefix(_) => return Err(ExprFault::Syntax),
-            Token::LeftParen => return Err(ExprFault::Syntax),
+            Token::Infix(op) => self.open_infix(alloc, op, tree),
+            Token::Plus => self.open_infix(alloc, Infix::Plus, tree),
+            Token::Minus => self.open_infix(alloc, Infix::Minus, tree),
+            Token::Question => self.open_condition(alloc, tree),
+            Token::Colon => self.open_branch(alloc, tree),
+            Token::RightParen => self.end_paren(alloc, tree),
+            Token::Operand(_) => Err(ExprFault::Syntax),
+            Token::Prefix(_) => Err(ExprFault::Syntax),
+            Token::LeftParen => Err(ExprFault::Syntax),
         }
-        Ok(None)
     }
 
     /// One more token, behind a tree or where an operand must come.
@@ -209,8 +247,8 @@ impl Frames {
         ensures { Leads (step self.old tree token) self.new result }
     {
         match tree {
-            None => Ok(self.at_operand(alloc, token)?),
-            Some(tree) => Ok(self.at_operator(alloc, tree, token)?),
+            None => self.at_operand(alloc, token),
+            Some(tree) => self.at_operator(alloc, tree, token),
         }
     }
 
@@ -225,7 +263,7 @@ impl Frames {
     {
         match token {
             None => Ok(tree),
-            Some(token) => Ok(self.step(alloc, tree, token)?),
+            Some(token) => self.step(alloc, tree, token),
         }
     }
 

@@ -1,10 +1,11 @@
 //! The first lexeme of a text.
-ghost use Rattle.std.specs.Prelude.{◌≡◌, ◌≤◌, ◌+◌, ◌∷◌, [], true, false, length, MatchResult, IfOk, None, Some, Ok};
+ghost use Rattle.std.specs.Prelude.{◌≡◌, ◌≤◌, ◌+◌, ◌∷◌, [], length, IfNone, IfOk, IfSome, Some};
 ghost use Rattle.std.specs.List.{prefix_len, take_while};
 ghost use Rattle.dg_words.specs.Parts.{pieces_of};
 ghost use Rattle.dg_words.specs.Reading.{operand_at};
 ghost use Rattle.dg_expr.specs.Steps.{Finds, Lexes, LexesTo};
 ghost use Rattle.dg_expr.specs.Token.{is_letter, is_run_byte, is_text, joined_line, lexeme, lexeme_at, operand_lexeme, read_lexeme, sign_lexeme, text_operand, token_lexeme, truth_operand, word_token};
+ghost use Rattle.dg_expr.specs.Truth.{word_truth};
 
 use crate::boolean::word_truth;
 use crate::fault::ExprFault;
@@ -39,26 +40,42 @@ fn text_operand(alloc: Global, text: &[u8]) -> Result<Token, AllocError>
     Ok(Token::Operand(parts))
 }
 
+/// The operator that letters are.
+fn word_operator(word: &[u8]) -> Option<Infix>
+    ensures some { IfSome result (λ op. word_token word.now ≡ Some (Token.Infix op)) }
+    ensures none { IfNone result (word_token word.now ≡ truth_operand word.now (word_truth word.now)) }
+{
+    if word == b"eq".as_slice() {
+        Some(Infix::SameText)
+    } else if word == b"ne".as_slice() {
+        Some(Infix::OtherText)
+    } else if word == b"in".as_slice() {
+        Some(Infix::In)
+    } else if word == b"ni".as_slice() {
+        Some(Infix::NotIn)
+    } else {
+        None
+    }
+}
+
+/// The word of truth that letters are.
+fn truth_token(alloc: Global, word: &[u8]) -> Result<Option<Token>, AllocError>
+    ensures { IfOk result (λ t. t ≡ truth_operand word.now (word_truth word.now)) }
+{
+    match word_truth(word) {
+        None => Ok(None),
+        Some(_) => Ok(Some(text_operand(alloc, word)?)),
+    }
+}
+
 /// The operator or the word of truth that letters are.
 fn word_token(alloc: Global, word: &[u8]) -> Result<Option<Token>, AllocError>
     ensures { IfOk result (λ t. t ≡ word_token word.now) }
 {
-    if word == b"eq".as_slice() {
-        return Ok(Some(Token::Infix(Infix::SameText)));
+    match word_operator(word) {
+        Some(op) => Ok(Some(Token::Infix(op))),
+        None => truth_token(alloc, word),
     }
-    if word == b"ne".as_slice() {
-        return Ok(Some(Token::Infix(Infix::OtherText)));
-    }
-    if word == b"in".as_slice() {
-        return Ok(Some(Token::Infix(Infix::In)));
-    }
-    if word == b"ni".as_slice() {
-        return Ok(Some(Token::Infix(Infix::NotIn)));
-    }
-    if word_truth(word).is_none() {
-        return Ok(None);
-    }
-    Ok(Some(text_operand(alloc, word)?))
 }
 
 /// A lexeme of so many bytes, which are one at least.
@@ -77,7 +94,7 @@ fn token_lexeme(token: Option<Token>, length: usize) -> Result<Lexeme, ExprFault
     let Some(token) = token else {
         return Err(ExprFault::Syntax);
     };
-    Ok(lexeme(Some(token), length)?)
+    lexeme(Some(token), length)
 }
 
 /// A backslash and a newline keep tokens apart.
@@ -86,7 +103,7 @@ fn joined_line(rest: &[u8]) -> Result<Lexeme, ExprFault>
     ensures within { IfOk result (λ l. 1 ≤ length rest.now) }
 {
     match rest {
-        [b'\n', ..] => Ok(lexeme(None, 2)?),
+        [b'\n', ..] => lexeme(None, 2),
         _ => Err(ExprFault::Syntax),
     }
 }
@@ -99,9 +116,9 @@ fn sign_lexeme(first: u8, rest: &[u8]) -> Result<Lexeme, ExprFault>
     if let [second, ..] = rest
         && let Some(op) = double_sign(first, *second)
     {
-        return Ok(lexeme(Some(Token::Infix(op)), 2)?);
+        return lexeme(Some(Token::Infix(op)), 2);
     }
-    Ok(token_lexeme(single_sign(first), 1)?)
+    token_lexeme(single_sign(first), 1)
 }
 
 /// Whether parts begin with a text, or there are none.
@@ -114,22 +131,26 @@ fn is_text(parts: &Parts) -> bool
     }
 }
 
+/// A word as an operand. Behind a dollar sign it begins with no text.
+fn word_lexeme(dollar: bool, word: Word, length: usize) -> Result<Lexeme, ExprFault>
+    ensures { LexesTo (operand_lexeme dollar (word ∷ []) length) length result }
+{
+    let Word { parts, .. } = word;
+    if dollar && is_text(&parts) {
+        return Err(ExprFault::Syntax);
+    }
+    lexeme(Some(Token::Operand(parts)), length)
+}
+
 /// The one word that was read.
 fn operand_lexeme(dollar: bool, words: Seq<Word>, length: usize) -> Result<Lexeme, ExprFault>
     ensures { LexesTo (operand_lexeme dollar words length) length result }
 {
     let mut words = words.into_vec();
-    let Some(word) = words.pop() else {
-        return Err(ExprFault::Syntax);
-    };
-    if !words.is_empty() {
-        return Err(ExprFault::Syntax);
+    match words.pop() {
+        Some(word) if words.is_empty() => word_lexeme(dollar, word, length),
+        _ => Err(ExprFault::Syntax),
     }
-    let Word { parts, .. } = word;
-    if dollar && is_text(&parts) {
-        return Err(ExprFault::Syntax);
-    }
-    Ok(lexeme(Some(Token::Operand(parts)), length)?)
 }
 
 /// A quoted or braced word, a variable or a command.
@@ -138,10 +159,30 @@ fn read_lexeme(alloc: Global, dollar: bool, text: &[u8]) -> Result<Lexeme, ExprF
     ensures within { IfOk result (λ l. (1 ≤ l.length) × (l.length ≤ length text.now)) }
 {
     match parse_operand(alloc, text, 0) {
-        Ok(parsed) => Ok(operand_lexeme(dollar, parsed.words, parsed.next)?),
+        Ok(parsed) => operand_lexeme(dollar, parsed.words, parsed.next),
         Err(WordFault::Memory) => Err(ExprFault::Memory),
         Err(_) => Err(ExprFault::Syntax),
     }
+}
+
+/// The operand of a run at the front of a text that begins with a digit.
+fn run_lexeme(alloc: Global, text: &[u8]) -> Result<Lexeme, ExprFault>
+    ensures value { Finds (lexeme (Some (text_operand (take_while is_run_byte text.now))) (prefix_len is_run_byte text.now)) result }
+    ensures within { IfOk result (λ l. (1 ≤ l.length) × (l.length ≤ length text.now)) }
+{
+    let length = run_length(text);
+    let token = text_operand(alloc, &text[..length])?;
+    lexeme(Some(token), length)
+}
+
+/// The operator or the word of truth of the letters at the front of a text.
+fn letters_lexeme(alloc: Global, text: &[u8]) -> Result<Lexeme, ExprFault>
+    ensures value { Finds (token_lexeme (word_token (take_while is_letter text.now)) (prefix_len is_letter text.now)) result }
+    ensures within { IfOk result (λ l. (1 ≤ l.length) × (l.length ≤ length text.now)) }
+{
+    let length = letters(text);
+    let token = word_token(alloc, &text[..length])?;
+    token_lexeme(token, length)
 }
 
 /// The token or the gap that a text begins with.
@@ -153,20 +194,12 @@ pub fn first_lexeme(alloc: Global, text: &[u8]) -> Result<Lexeme, ExprFault>
         return Err(ExprFault::Syntax);
     };
     match kind_of(*first) {
-        Kind::Space => Ok(lexeme(None, 1)?),
-        Kind::Backslash => Ok(joined_line(rest)?),
-        Kind::Digit => {
-            let length = run_length(text);
-            let token = text_operand(alloc, &text[..length])?;
-            Ok(lexeme(Some(token), length)?)
-        }
-        Kind::Letter => {
-            let length = letters(text);
-            let token = word_token(alloc, &text[..length])?;
-            Ok(token_lexeme(token, length)?)
-        }
-        Kind::Dollar => Ok(read_lexeme(alloc, true, text)?),
-        Kind::Word => Ok(read_lexeme(alloc, false, text)?),
-        Kind::Sign => Ok(sign_lexeme(*first, rest)?),
+        Kind::Space => lexeme(None, 1),
+        Kind::Backslash => joined_line(rest),
+        Kind::Digit => run_lexeme(alloc, text),
+        Kind::Letter => letters_lexeme(alloc, text),
+        Kind::Dollar => read_lexeme(alloc, true, text),
+        Kind::Word => read_lexeme(alloc, false, text),
+        Kind::Sign => sign_lexeme(*first, rest),
     }
 }

@@ -48,7 +48,7 @@ fn read_tree(alloc: Global, text: &[u8]) -> Result<Tree, ExprFault>
         tree = next;
         rest = behind(rest, length);
     }
-    Ok(frames.finish(alloc, tree)?)
+    frames.finish(alloc, tree)
 }
 
 /// Reads an expression by expr(n): the tree that the text spells. The operators are those of `Infix` and

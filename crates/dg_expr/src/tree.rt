@@ -75,28 +75,28 @@ impl Tree {
     pub(crate) fn operand(alloc: Global, parts: Parts) -> Result<Tree, ExprFault>
         ensures { Makes (Operand parts) result }
     {
-        Ok(Tree::new(alloc, 1, Node::Operand(parts))?)
+        Tree::new(alloc, 1, Node::Operand(parts))
     }
 
     pub(crate) fn one(alloc: Global, op: Prefix, a: Tree) -> Result<Tree, ExprFault>
         ensures { Makes (One op a) result }
     {
         let levels = a.levels() + 1;
-        Ok(Tree::new(alloc, levels, Node::One(op, a))?)
+        Tree::new(alloc, levels, Node::One(op, a))
     }
 
     pub(crate) fn two(alloc: Global, op: Infix, a: Tree, b: Tree) -> Result<Tree, ExprFault>
         ensures { Makes (Two op a b) result }
     {
         let levels = a.levels().max(b.levels()) + 1;
-        Ok(Tree::new(alloc, levels, Node::Two(op, a, b))?)
+        Tree::new(alloc, levels, Node::Two(op, a, b))
     }
 
     pub(crate) fn choice(alloc: Global, c: Tree, a: Tree, b: Tree) -> Result<Tree, ExprFault>
         ensures { Makes (Choice c a b) result }
     {
         let levels = c.levels().max(a.levels().max(b.levels())) + 1;
-        Ok(Tree::new(alloc, levels, Node::Choice(c, a, b))?)
+        Tree::new(alloc, levels, Node::Choice(c, a, b))
     }
 
     /// How many levels there are.

@@ -1,5 +1,5 @@
 //! The values of operators.
-ghost use Rattle.std.specs.Prelude.{◌≡◌, ◌≢◌, ◌*ℤ◌, ◌+ℤ◌, ◌-ℤ◌, pos, neg_ℤ, ◌⊎◌, Bool, Some, None, Ok, Err, IfOk, MatchResult};
+ghost use Rattle.std.specs.Prelude.{◌≡◌, ◌≢◌, ◌*ℤ◌, ◌+ℤ◌, ◌-ℤ◌, pos, neg_ℤ, ◌⊎◌, Bool, not, Some, None, Ok, Err, IfOk, MatchResult};
 ghost use Rattle.std.specs.Int.{w64, int_bit_and, int_bit_not, int_bit_or, int_bit_xor};
 ghost use Rattle.std.specs.List.{list_any};
 ghost use Rattle.dg_words.specs.Elements.{elements_of};
@@ -52,12 +52,19 @@ fn wholes(left: &[u8], right: &[u8]) -> Result<(i64, i64), ExprFault>
     Ok((x, y))
 }
 
+/// The product of two numbers of 64 bits.
+fn times(x: i64, y: i64) -> i128
+    ensures { result ≡ x *ℤ y }
+{
+    i128::from(x) * i128::from(y)
+}
+
 #[tactic(auto, using(crate::proofs::Wholes::wholes))]
 fn product(alloc: Global, left: &[u8], right: &[u8]) -> Result<Bytes, ExprFault>
     ensures { Gives (of_wholes (λ x y. number_value (x *ℤ y)) left.now right.now) result }
 {
     let (x, y) = wholes(left, right)?;
-    Ok(number_value(alloc, i128::from(x) * i128::from(y))?)
+    number_value(alloc, times(x, y))
 }
 
 #[tactic(auto, using(crate::proofs::Wholes::wholes))]
@@ -65,7 +72,7 @@ fn sum(alloc: Global, left: &[u8], right: &[u8]) -> Result<Bytes, ExprFault>
     ensures { Gives (of_wholes (λ x y. number_value (x +ℤ y)) left.now right.now) result }
 {
     let (x, y) = wholes(left, right)?;
-    Ok(number_value(alloc, i128::from(x) + i128::from(y))?)
+    number_value(alloc, i128::from(x) + i128::from(y))
 }
 
 #[tactic(auto, using(crate::proofs::Wholes::wholes))]
@@ -73,7 +80,7 @@ fn difference(alloc: Global, left: &[u8], right: &[u8]) -> Result<Bytes, ExprFau
     ensures { Gives (of_wholes (λ x y. number_value (x -ℤ y)) left.now right.now) result }
 {
     let (x, y) = wholes(left, right)?;
-    Ok(number_value(alloc, i128::from(x) - i128::from(y))?)
+    number_value(alloc, i128::from(x) - i128::from(y))
 }
 
 /// The quotient rounded down.
@@ -110,7 +117,7 @@ fn ratio(alloc: Global, left: &[u8], right: &[u8]) -> Result<Bytes, ExprFault>
     if y == 0 {
         return Err(ExprFault::DivideByZero);
     }
-    Ok(number_value(alloc, quotient(x, y))?)
+    number_value(alloc, quotient(x, y))
 }
 
 #[tactic(auto, using(crate::proofs::Wholes::wholes))]
@@ -121,7 +128,7 @@ fn residue(alloc: Global, left: &[u8], right: &[u8]) -> Result<Bytes, ExprFault>
     if y == 0 {
         return Err(ExprFault::DivideByZero);
     }
-    Ok(number_value(alloc, remainder(x, y))?)
+    number_value(alloc, remainder(x, y))
 }
 
 /// The number times 2 to the power of the count.
@@ -161,7 +168,7 @@ fn shift_left(alloc: Global, left: &[u8], right: &[u8]) -> Result<Bytes, ExprFau
     ensures { Gives (of_wholes shifted_left left.now right.now) result }
 {
     let (x, count) = wholes(left, right)?;
-    Ok(number_value(alloc, shifted_left(x, count)?)?)
+    number_value(alloc, shifted_left(x, count)?)
 }
 
 #[tactic(auto, using(crate::proofs::Wholes::wholes))]
@@ -169,7 +176,7 @@ fn shift_right(alloc: Global, left: &[u8], right: &[u8]) -> Result<Bytes, ExprFa
     ensures { Gives (of_wholes shifted_right left.now right.now) result }
 {
     let (x, count) = wholes(left, right)?;
-    Ok(number_value(alloc, shifted_right(x, count)?)?)
+    number_value(alloc, shifted_right(x, count)?)
 }
 
 #[tactic(auto, using(crate::proofs::Wholes::wholes))]
@@ -177,7 +184,7 @@ fn bit_and(alloc: Global, left: &[u8], right: &[u8]) -> Result<Bytes, ExprFault>
     ensures { Gives (of_wholes (λ x y. number_value (int_bit_and w64 x y)) left.now right.now) result }
 {
     let (x, y) = wholes(left, right)?;
-    Ok(number_value(alloc, i128::from(x & y))?)
+    number_value(alloc, i128::from(x & y))
 }
 
 #[tactic(auto, using(crate::proofs::Wholes::wholes))]
@@ -185,7 +192,7 @@ fn bit_xor(alloc: Global, left: &[u8], right: &[u8]) -> Result<Bytes, ExprFault>
     ensures { Gives (of_wholes (λ x y. number_value (int_bit_xor w64 x y)) left.now right.now) result }
 {
     let (x, y) = wholes(left, right)?;
-    Ok(number_value(alloc, i128::from(x ^ y))?)
+    number_value(alloc, i128::from(x ^ y))
 }
 
 #[tactic(auto, using(crate::proofs::Wholes::wholes))]
@@ -193,7 +200,7 @@ fn bit_or(alloc: Global, left: &[u8], right: &[u8]) -> Result<Bytes, ExprFault>
     ensures { Gives (of_wholes (λ x y. number_value (int_bit_or w64 x y)) left.now right.now) result }
 {
     let (x, y) = wholes(left, right)?;
-    Ok(number_value(alloc, i128::from(x | y))?)
+    number_value(alloc, i128::from(x | y))
 }
 
 /// Of numbers where both are, else of bytes in order.
@@ -226,14 +233,28 @@ fn is_element(alloc: Global, text: &[u8], list: &[u8]) -> Result<bool, ExprFault
     }
 }
 
+/// Whether an element of a list is equal to a text, as a value.
+fn contained(alloc: Global, text: &[u8], list: &[u8]) -> Result<Bytes, ExprFault>
+    ensures { Gives (found_in (elements_of list.now) text.now (λ t. t)) result }
+{
+    truth_value(alloc, is_element(alloc, text, list)?)
+}
+
+/// Whether no element of a list is equal to a text, as a value.
+fn missing(alloc: Global, text: &[u8], list: &[u8]) -> Result<Bytes, ExprFault>
+    ensures { Gives (found_in (elements_of list.now) text.now not) result }
+{
+    truth_value(alloc, !is_element(alloc, text, list)?)
+}
+
 /// The truth of both: the right is looked at where the left is true.
 fn both(alloc: Global, left: &[u8], right: &[u8]) -> Result<Bytes, ExprFault>
     ensures { Gives (and_then (truth_of left.now) (truth_of right.now)) result }
 {
     if !truth(left)? {
-        return Ok(truth_value(alloc, false)?);
+        return truth_value(alloc, false);
     }
-    Ok(truth_value(alloc, truth(right)?)?)
+    truth_value(alloc, truth(right)?)
 }
 
 /// The truth of either: the right is looked at where the left is false.
@@ -241,9 +262,9 @@ fn either(alloc: Global, left: &[u8], right: &[u8]) -> Result<Bytes, ExprFault>
     ensures { Gives (or_else (truth_of left.now) (truth_of right.now)) result }
 {
     if truth(left)? {
-        return Ok(truth_value(alloc, true)?);
+        return truth_value(alloc, true);
     }
-    Ok(truth_value(alloc, truth(right)?)?)
+    truth_value(alloc, truth(right)?)
 }
 
 /// The value of an operator between two texts, by expr(n) on whole numbers of 64 bits. A value that is a
@@ -258,28 +279,28 @@ pub fn apply(alloc: Global, op: Infix, left: &[u8], right: &[u8]) -> Result<Byte
     ensures { MatchResult result (λ v. value_of op left.now right.now ≡ Ok v) (λ f. (f ≡ ExprFault.Memory) ⊎ (value_of op left.now right.now ≡ Err f)) }
 {
     match op {
-        Infix::Times => Ok(product(alloc, left, right)?),
-        Infix::Over => Ok(ratio(alloc, left, right)?),
-        Infix::Remainder => Ok(residue(alloc, left, right)?),
-        Infix::Plus => Ok(sum(alloc, left, right)?),
-        Infix::Minus => Ok(difference(alloc, left, right)?),
-        Infix::ShiftLeft => Ok(shift_left(alloc, left, right)?),
-        Infix::ShiftRight => Ok(shift_right(alloc, left, right)?),
-        Infix::Less => Ok(truth_value(alloc, order(left, right).is_lt())?),
-        Infix::Greater => Ok(truth_value(alloc, order(left, right).is_gt())?),
-        Infix::LessOrEqual => Ok(truth_value(alloc, !order(left, right).is_gt())?),
-        Infix::GreaterOrEqual => Ok(truth_value(alloc, !order(left, right).is_lt())?),
-        Infix::Equal => Ok(truth_value(alloc, order(left, right).is_eq())?),
-        Infix::NotEqual => Ok(truth_value(alloc, !order(left, right).is_eq())?),
-        Infix::SameText => Ok(truth_value(alloc, left == right)?),
-        Infix::OtherText => Ok(truth_value(alloc, !(left == right))?),
-        Infix::In => Ok(truth_value(alloc, is_element(alloc, left, right)?)?),
-        Infix::NotIn => Ok(truth_value(alloc, !is_element(alloc, left, right)?)?),
-        Infix::BitAnd => Ok(bit_and(alloc, left, right)?),
-        Infix::BitXor => Ok(bit_xor(alloc, left, right)?),
-        Infix::BitOr => Ok(bit_or(alloc, left, right)?),
-        Infix::And => Ok(both(alloc, left, right)?),
-        Infix::Or => Ok(either(alloc, left, right)?),
+        Infix::Times => product(alloc, left, right),
+        Infix::Over => ratio(alloc, left, right),
+        Infix::Remainder => residue(alloc, left, right),
+        Infix::Plus => sum(alloc, left, right),
+        Infix::Minus => difference(alloc, left, right),
+        Infix::ShiftLeft => shift_left(alloc, left, right),
+        Infix::ShiftRight => shift_right(alloc, left, right),
+        Infix::Less => truth_value(alloc, order(left, right).is_lt()),
+        Infix::Greater => truth_value(alloc, order(left, right).is_gt()),
+        Infix::LessOrEqual => truth_value(alloc, !order(left, right).is_gt()),
+        Infix::GreaterOrEqual => truth_value(alloc, !order(left, right).is_lt()),
+        Infix::Equal => truth_value(alloc, order(left, right).is_eq()),
+        Infix::NotEqual => truth_value(alloc, !order(left, right).is_eq()),
+        Infix::SameText => truth_value(alloc, left == right),
+        Infix::OtherText => truth_value(alloc, !(left == right)),
+        Infix::In => contained(alloc, left, right),
+        Infix::NotIn => missing(alloc, left, right),
+        Infix::BitAnd => bit_and(alloc, left, right),
+        Infix::BitXor => bit_xor(alloc, left, right),
+        Infix::BitOr => bit_or(alloc, left, right),
+        Infix::And => both(alloc, left, right),
+        Infix::Or => either(alloc, left, right),
     }
 }
 
@@ -299,9 +320,9 @@ pub fn apply_one(alloc: Global, op: Prefix, operand: &[u8]) -> Result<Bytes, Exp
     ensures { MatchResult result (λ v. value_of_one op operand.now ≡ Ok v) (λ f. (f ≡ ExprFault.Memory) ⊎ (value_of_one op operand.now ≡ Err f)) }
 {
     match op {
-        Prefix::Negate => Ok(number_value(alloc, -i128::from(whole(operand)?))?),
-        Prefix::Keep => Ok(number_value(alloc, i128::from(whole(operand)?))?),
-        Prefix::Complement => Ok(number_value(alloc, i128::from(!whole(operand)?))?),
-        Prefix::Not => Ok(truth_value(alloc, !truth(operand)?)?),
+        Prefix::Negate => number_value(alloc, -i128::from(whole(operand)?)),
+        Prefix::Keep => number_value(alloc, i128::from(whole(operand)?)),
+        Prefix::Complement => number_value(alloc, i128::from(!whole(operand)?)),
+        Prefix::Not => truth_value(alloc, !truth(operand)?),
     }
 }

@@ -1,6 +1,6 @@
 //! Whole numbers and truth, read from texts.
 ghost use Rattle.std.specs.Prelude.{◌≡◌, ◌≢◌, ◌^◌, ◌≤◌, pos, neg_ℤ, MatchOption, MatchResult, Some, None};
-ghost use Rattle.dg_expr.specs.Number.{behind_zero, digits_behind, digits_in, drop_spaces, is_space, magnitude_of, number_of, signed_of, trimmed};
+ghost use Rattle.dg_expr.specs.Number.{behind_zero, digits_behind, digits_in, drop_spaces, is_space, magnitude_of, negative, number_of, positive, signed_of, trimmed};
 ghost use Rattle.dg_expr.specs.Numbers.{Reads};
 
 /// Whether a byte is a blank or a newline.
@@ -82,6 +82,21 @@ fn magnitude(text: &[u8]) -> Option<u64>
     }
 }
 
+/// The number that a text writes without a sign, if it is one of the signed 64-bit range.
+fn positive(text: &[u8]) -> Option<i64>
+    ensures { result ≡ positive (magnitude_of text.now) }
+{
+    i64::try_from(magnitude(text)?).ok()
+}
+
+/// The number that a text writes behind a minus sign, if it is one of the signed 64-bit range.
+fn negative(text: &[u8]) -> Option<i64>
+    ensures { result ≡ negative (magnitude_of text.now) }
+{
+    let size = magnitude(text)?;
+    i64::try_from(-i128::from(size)).ok()
+}
+
 /// The whole number that a text is, if it is one of the signed 64-bit range: blanks and newlines round
 /// it, a sign, and decimal digits, octal ones behind a `0` or `0o`, hexadecimal ones behind `0x`, binary
 /// ones behind `0b`.
@@ -90,11 +105,8 @@ pub fn number(text: &[u8]) -> Option<i64>
     ensures { result ≡ number_of text.now }
 {
     match trim(text) {
-        [b'-', rest @ ..] => {
-            let size = magnitude(rest)?;
-            i64::try_from(-i128::from(size)).ok()
-        }
-        [b'+', rest @ ..] => i64::try_from(magnitude(rest)?).ok(),
-        text => i64::try_from(magnitude(text)?).ok(),
+        [b'-', rest @ ..] => negative(rest),
+        [b'+', rest @ ..] => positive(rest),
+        text => positive(text),
     }
 }
