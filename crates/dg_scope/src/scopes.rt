@@ -133,40 +133,27 @@ impl Scopes {
         &mut self,
         alloc: Global,
         name: &[u8],
-        mut value: Bytes,
+        value: Bytes,
     ) -> Result<(), ScopeFault>
         ensures ok { OnOk result (self.new ≡ with_global self.old name.now value) }
         ensures too_long { (result ≡ Err ScopeFault.TooLong) ↔ (value_limit < length value) }
         ensures kinds { IfErr result (λ fault. (fault ≡ ScopeFault.TooLong) ⊎ (fault ≡ ScopeFault.Memory)) }
         ensures err { OnErr result (self.new ≡ self.old) }
     {
-        if is_too_long(&value) {
-            return Err(ScopeFault::TooLong);
-        }
-        value.keep(alloc)?;
+        let value = held_value(alloc, value)?;
         self.globals.insert(alloc, global_name(name), value)?;
         Ok(())
     }
 
     /// Sets a name to a value of at most `LONGEST_VALUE` bytes.
-    pub fn write(&mut self, alloc: Global, name: &[u8], mut value: Bytes) -> Result<(), ScopeFault>
+    pub fn write(&mut self, alloc: Global, name: &[u8], value: Bytes) -> Result<(), ScopeFault>
         ensures ok { OnOk result (self.new ≡ with_value self.old name.now value) }
         ensures too_long { (result ≡ Err ScopeFault.TooLong) ↔ (value_limit < length value) }
         ensures kinds { IfErr result (λ fault. (fault ≡ ScopeFault.TooLong) ⊎ (fault ≡ ScopeFault.Memory)) }
         ensures err { OnErr result (self.new ≡ self.old) }
     {
-        if is_too_long(&value) {
-            return Err(ScopeFault::TooLong);
-        }
-        value.keep(alloc)?;
-        if self.exchange_here(alloc, name, &mut value) {
-            return Ok(());
-        }
-        let is_global = self.is_global(name);
-        match &mut self.current {
-            Scope::Local(names) if !is_global => names.insert(alloc, name, Slot::Held(value))?,
-            _ => self.globals.insert(alloc, global_name(name), value)?,
-        }
+        let value = held_value(alloc, value)?;
+        self.put(alloc, name, value)?;
         Ok(())
     }
 
@@ -289,9 +276,12 @@ impl Scopes {
         ensures exchanged { IsTrue result → (value_of self.old name.now ≡ Some value.new) × (self.new ≡ with_value self.old name.now value.old) }
         ensures absent { IsFalse result → (self.new ≡ self.old) × (value.new ≡ value.old) }
     {
+        if !is_plain(name) {
+            return false;
+        }
         match &mut self.current {
-            Scope::Local(names) if is_plain(name) => exchange_own(alloc, names, name, value),
-            _ => false,
+            Scope::Local(names) => exchange_own(alloc, names, name, value),
+            Scope::Outermost => false,
         }
     }
 
@@ -308,6 +298,29 @@ impl Scopes {
         match &mut self.current {
             Scope::Local(names) if !is_global => exchange_own(alloc, names, name, value),
             _ => self.globals.exchange(global_name(name), value),
+        }
+    }
+
+    /// Sets a name to a value that may be held.
+    fn put(&mut self, alloc: Global, name: &[u8], mut value: Bytes) -> Result<(), AllocError>
+        ensures ok { OnOk result (self.new ≡ with_value self.old name.now value) }
+        ensures err { OnErr result (self.new ≡ self.old) }
+    {
+        if self.exchange_here(alloc, name, &mut value) {
+            return Ok(());
+        }
+        self.put_anywhere(alloc, name, value)
+    }
+
+    /// Sets a name to a value that may be held, wherever it stands.
+    fn put_anywhere(&mut self, alloc: Global, name: &[u8], value: Bytes) -> Result<(), AllocError>
+        ensures ok { OnOk result (self.new ≡ with_value self.old name.now value) }
+        ensures err { OnErr result (self.new ≡ self.old) }
+    {
+        let is_global = self.is_global(name);
+        match &mut self.current {
+            Scope::Local(names) if !is_global => names.insert(alloc, name, Slot::Held(value)),
+            _ => self.globals.insert(alloc, global_name(name), value),
         }
     }
 
@@ -398,6 +411,19 @@ impl Scopes {
             }
         }
     }
+}
+
+/// A value as a variable holds it, if it has at most `LONGEST_VALUE` bytes.
+fn held_value(alloc: Global, mut value: Bytes) -> Result<Bytes, ScopeFault>
+    ensures ok { IfOk result (λ held. held ≡ value) }
+    ensures too_long { (result ≡ Err ScopeFault.TooLong) ↔ (value_limit < length value) }
+    ensures kinds { IfErr result (λ fault. (fault ≡ ScopeFault.TooLong) ⊎ (fault ≡ ScopeFault.Memory)) }
+{
+    if is_too_long(&value) {
+        return Err(ScopeFault::TooLong);
+    }
+    value.keep(alloc)?;
+    Ok(value)
 }
 
 /// Whether a value has more bytes than a variable may hold.
