@@ -1,14 +1,15 @@
 //! Values within the limit, and script errors.
-ghost use Rattle.std.specs.Prelude.{◌≡◌, ◌++◌, Err, Ok};
+ghost use Rattle.std.specs.Prelude.{◌≡◌, ◌++◌, Err, IfOk, Ok};
 ghost use Rattle.std.specs.Fmt.{decimal};
 ghost use Rattle.dg_cmds.specs.Answers.{Adds, Gives, Makes, failed, limited, place_text, quoted, wrong_count};
 ghost use Rattle.dg_expr.specs.Truth.{truth_text};
 ghost use Rattle.dg_cmds.specs.declared.fault.CmdFault.TheVariants.{Tcl};
 
+use crate::bytes::{three_texts, two_texts};
 use crate::fault::CmdFault;
 use dg_bytes::Bytes;
 use dg_expr::truth_text;
-use std::alloc::Global;
+use std::alloc::{AllocError, Global};
 
 /// The most bytes of a value.
 pub(crate) const LONGEST: usize = 1_048_576;
@@ -42,6 +43,14 @@ pub(crate) fn fail<T>(alloc: Global, message: &[u8]) -> Result<T, CmdFault>
     Err(CmdFault::Tcl(Bytes::from_slice(alloc, message)?))
 }
 
+/// A message, and a word in quotes behind it.
+fn message_about(alloc: Global, message: &[u8], word: &[u8]) -> Result<Bytes, AllocError>
+    ensures { IfOk result (λ b. b ≡ message.now ++ quoted word.now) }
+{
+    let named = three_texts(alloc, b"\"", word, b"\"")?;
+    two_texts(alloc, message, named.as_slice())
+}
+
 /// A script error that names a word.
 #[tactic(auto, unfolding(crate::specs::Answers::failed))]
 pub(crate) fn fail_about<T>(alloc: Global, message: &[u8], word: &[u8]) -> Result<T, CmdFault>
@@ -50,20 +59,14 @@ pub(crate) fn fail_about<T>(alloc: Global, message: &[u8], word: &[u8]) -> Resul
     if word.len() >= LONGEST || message.len() + 2 > LONGEST - word.len() {
         return Err(CmdFault::TooLong);
     }
-    let mut between = Bytes::from_slice(alloc, b"\"")?;
-    between.extend(word)?;
-    between.push(b'"')?;
-    let mut text = Bytes::from_slice(alloc, message)?;
-    text.extend(between.as_slice())?;
-    Err(CmdFault::Tcl(text))
+    Err(CmdFault::Tcl(message_about(alloc, message, word)?))
 }
 
 /// The script error of a command that has too few arguments, or too many.
 pub(crate) fn wrong_count<T>(alloc: Global, name: &[u8]) -> Result<T, CmdFault>
     ensures { Gives result (wrong_count name.now) }
 {
-    let mut message = Bytes::from_slice(alloc, b"wrong # args: ")?;
-    message.extend(name)?;
+    let message = two_texts(alloc, b"wrong # args: ", name)?;
     Err(CmdFault::Tcl(message))
 }
 

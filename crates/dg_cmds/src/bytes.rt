@@ -1,6 +1,9 @@
-//! Sets of bytes, and texts without such bytes at their ends.
-ghost use Rattle.std.specs.Prelude.{◌≡◌, ◌≤◌, length};
+//! Sets of bytes, texts without such bytes at their ends, and texts one behind the other.
+ghost use Rattle.std.specs.Prelude.{◌≡◌, ◌≤◌, ◌++◌, IfOk, length};
 ghost use Rattle.dg_cmds.specs.Bytes.{IsSetOf, member, trimmed, trimmed_left, trimmed_right};
+
+use dg_bytes::Bytes;
+use std::alloc::{AllocError, Global};
 
 /// Space, tab, newline, vertical tab, form feed and carriage return.
 pub(crate) const BLANKS: [u8; 6] = [b' ', b'\t', b'\n', 0x0b, 0x0c, b'\r'];
@@ -52,4 +55,27 @@ pub(crate) fn trimmed<'a>(text: &'a [u8], bytes: &[u8]) -> &'a [u8]
     ensures { result.now ≡ trimmed (member bytes.now) text.now }
 {
     trimmed_right(trimmed_left(text, bytes), bytes)
+}
+
+/// Two texts, one behind the other.
+pub(crate) fn two_texts(alloc: Global, first: &[u8], second: &[u8]) -> Result<Bytes, AllocError>
+    ensures { IfOk result (λ b. b ≡ first.now ++ second.now) }
+{
+    let mut text = Bytes::from_slice(alloc, first)?;
+    text.extend(second)?;
+    Ok(text)
+}
+
+/// Three texts, one behind the other.
+pub(crate) fn three_texts(
+    alloc: Global,
+    first: &[u8],
+    second: &[u8],
+    third: &[u8],
+) -> Result<Bytes, AllocError>
+    ensures { IfOk result (λ b. b ≡ first.now ++ second.now ++ third.now) }
+{
+    let mut text = two_texts(alloc, first, second)?;
+    text.extend(third)?;
+    Ok(text)
 }

@@ -1,10 +1,10 @@
 //! The fields of a format, and values in them.
-ghost use Rattle.std.specs.Prelude.{◌≡◌, IfOk, MatchOption, None, Some};
+ghost use Rattle.std.specs.Prelude.{◌≡◌, [], IfOk, MatchOption, None, Some, string_bytes};
 ghost use Rattle.std.specs.Fmt.{decimal};
 ghost use Rattle.dg_cmds.specs.Answers.{Gives};
 ghost use Rattle.dg_cmds.specs.Formats.{field_of, minus, number_in, padded, size, style_of, text_behind, value_in, width_of};
 
-use crate::bytes::trimmed_left;
+use crate::bytes::{three_texts, trimmed_left};
 use crate::fault::CmdFault;
 use crate::numbers::read_number;
 use dg_bytes::Bytes;
@@ -92,21 +92,13 @@ impl Field {
             .saturating_sub(rest.len());
         let zeros = !self.left && self.zero;
         let filler = vec![in alloc; if zeros { b'0' } else { b' ' }; gap]?;
-        let mut text = Bytes::new(alloc);
         if self.left {
-            text.extend(sign)?;
-            text.extend(rest)?;
-            text.extend(filler.as_slice())?;
+            three_texts(alloc, sign, rest, filler.as_slice())
         } else if self.zero {
-            text.extend(sign)?;
-            text.extend(filler.as_slice())?;
-            text.extend(rest)?;
+            three_texts(alloc, sign, filler.as_slice(), rest)
         } else {
-            text.extend(filler.as_slice())?;
-            text.extend(sign)?;
-            text.extend(rest)?;
+            three_texts(alloc, filler.as_slice(), sign, rest)
         }
-        Ok(text)
     }
 
     /// A number in decimal in the field.
@@ -119,15 +111,22 @@ impl Field {
         self.padded(alloc, sign, text.as_bytes())
     }
 
+    /// Digits in the field.
+    fn digits_in(self, alloc: Global, digits: String) -> Result<Bytes, AllocError>
+        ensures { IfOk result (λ b. b ≡ padded self [] (string_bytes digits)) }
+    {
+        self.padded(alloc, b"", digits.as_bytes())
+    }
+
     /// A number in the field.
     fn number_in(self, alloc: Global, number: i64) -> Result<Bytes, AllocError>
         ensures { IfOk result (λ b. b ≡ number_in self self.style number) }
     {
         let bits = number.cast_unsigned();
         match self.style {
-            Style::Hex => self.padded(alloc, b"", format!(in alloc; "{bits:x}")?.as_bytes()),
-            Style::UpperHex => self.padded(alloc, b"", format!(in alloc; "{bits:X}")?.as_bytes()),
-            Style::Octal => self.padded(alloc, b"", format!(in alloc; "{bits:o}")?.as_bytes()),
+            Style::Hex => self.digits_in(alloc, format!(in alloc; "{bits:x}")?),
+            Style::UpperHex => self.digits_in(alloc, format!(in alloc; "{bits:X}")?),
+            Style::Octal => self.digits_in(alloc, format!(in alloc; "{bits:o}")?),
             Style::Text | Style::Decimal => self.decimal_in(alloc, number),
         }
     }

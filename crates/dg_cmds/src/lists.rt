@@ -148,17 +148,21 @@ pub fn concat(alloc: Global, args: &[Bytes]) -> Result<Bytes, CmdFault>
     joined(alloc, words.as_slice(), b" ")
 }
 
+/// The elements of a list with a text between each two.
+fn join_list(alloc: Global, list: &Bytes, between: &[u8]) -> Result<Bytes, CmdFault>
+    ensures { Gives result (join_of (list.now ∷ between.now ∷ [])) }
+{
+    let elements = read_list(alloc, list)?;
+    joined(alloc, elements.as_slice(), between)
+}
+
 /// `join`: the elements of a list with a text between each two.
 pub(crate) fn join(alloc: Global, args: &[Bytes]) -> Result<Bytes, CmdFault>
     ensures { Gives result (join_of args.now) }
 {
     match args {
-        [list] => joined(alloc, read_list(alloc, list)?.as_slice(), b" "),
-        [list, between] => joined(
-            alloc,
-            read_list(alloc, list)?.as_slice(),
-            between.as_slice(),
-        ),
+        [list] => join_list(alloc, list, b" "),
+        [list, between] => join_list(alloc, list, between.as_slice()),
         _ => wrong_count(alloc, b"join"),
     }
 }
@@ -206,18 +210,21 @@ fn parts(alloc: Global, text: &[u8], separators: &[u8]) -> Result<Vec<Bytes>, Al
     }
 }
 
+/// The list of the parts of a text between these bytes.
+fn split_text(alloc: Global, text: &Bytes, separators: &[u8]) -> Result<Bytes, CmdFault>
+    ensures { Gives result (split_of (text.now ∷ separators.now ∷ [])) }
+{
+    let parts = parts(alloc, text.as_slice(), separators)?;
+    give_list(alloc, parts.as_slice())
+}
+
 /// `split`: the list of the parts of a text.
 pub(crate) fn split(alloc: Global, args: &[Bytes]) -> Result<Bytes, CmdFault>
     ensures { Gives result (split_of args.now) }
 {
     match args {
-        [text] => give_list(alloc, parts(alloc, text.as_slice(), b" \t\n\r")?.as_slice()),
-        [text, bytes] => {
-            give_list(
-                alloc,
-                parts(alloc, text.as_slice(), bytes.as_slice())?.as_slice(),
-            )
-        }
+        [text] => split_text(alloc, text, b" \t\n\r"),
+        [text, bytes] => split_text(alloc, text, bytes.as_slice()),
         _ => wrong_count(alloc, b"split"),
     }
 }

@@ -6,7 +6,7 @@ ghost use Rattle.dg_cmds.specs.Bytes.{trimmed, trimmed_left, trimmed_right};
 ghost use Rattle.dg_cmds.specs.Strings.{byte_of, cased_of, compare_of, equal_of, first_of, first_place_from, in_case, keyword, last_of, length_of, mapped, match_of, operated, operation_of, range_of, repeat_of, string_of, trim_of};
 
 use crate::answer::{LONGEST, fail, give, give_count, give_place, give_truth, within, wrong_count};
-use crate::bytes::{BLANKS, trimmed, trimmed_left, trimmed_right};
+use crate::bytes::{BLANKS, three_texts, trimmed, trimmed_left, trimmed_right};
 use crate::fault::CmdFault;
 use crate::index::{part, read_index};
 use crate::numbers::{at_least_zero, read_number};
@@ -232,10 +232,7 @@ impl Case {
         ensures { IfOk result (λ b. b ≡ mapped (in_case self) start end text.now) }
     {
         let middle = self.of_all(alloc, &text[start..end])?;
-        let mut bytes = Bytes::from_slice(alloc, &text[..start])?;
-        bytes.extend(middle.as_slice())?;
-        bytes.extend(&text[end..])?;
-        Ok(bytes)
+        three_texts(alloc, &text[..start], middle.as_slice(), &text[end..])
     }
 }
 
