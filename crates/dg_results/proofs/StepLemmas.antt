@@ -1,5 +1,5 @@
 -- What stands after one call more.
-use Rattle.std.proofs.Common.{◌≡◌, ℕ, ◌+◌, ◌≤◌, Bool, true, false, cond, ◌||◌, nat_le, min, List, [], ◌∷◌, ◌++◌, Option, None, Some, refl, ap, ◌∙◌, sym, arith, append_assoc, lit≤, if◌then◌else◌}
+use Rattle.std.proofs.Common.{◌≡◌, ℕ, ◌+◌, ◌≤◌, Bool, true, false, cond, ◌||◌, nat_le, min, List, [], ◌∷◌, ◌++◌, Option, None, Some, Result, Ok, Err, OnOk, refl, ap, ◌∙◌, sym, arith, append_assoc, lit≤, if◌then◌else◌}
 use Rattle.std.proofs.lemmas.Bool.Decides.{nat_tests}
 use Rattle.std.specs.List.{filter_map}
 use Rattle.std.proofs.lemmas.List.Elements.{filter_map-append}
@@ -12,6 +12,11 @@ use Rattle.dg_results.specs.Lines.{last_or, since_result, stands, counted, count
 use Rattle.dg_results.specs.Standing.{Standing, after_calls}
 use Rattle.dg_results.specs.Steps.{class_at, with_result, with_line, count_after}
 use Rattle.dg_results.proofs.ListLemmas.{after_last-append_pass, after_last-append_other, last_or-append, counted-append_none, counted-append_some}
+
+-- what follows of what holds where nothing failed
+pub on_ok : {A E : Type 0} (r : Result A E) (P Q : Type 0) → (P → Q) → OnOk r P → OnOk r Q
+on_ok (Ok x) P Q f h = f h
+on_ok (Err e) P Q f h = tt
 
 -- the lines of one call more
 lines_after-append : (before calls : List Call) (c : Call) → lines_after before (calls ++ c ∷ []) ≡ lines_after before calls ++ lines_of_call (before ++ calls) c
@@ -168,16 +173,14 @@ lines-stood : (s : Standing) (calls : List Call) → s ≡ after_calls calls →
 lines-stood s calls stood = ap (λ (t : Standing). t.lines) stood ∙ lines-after_calls calls
 
 -- one line more
-pub lines-with_line : (s t : Standing) (calls : List Call) (of : Class) (m n : List ℕ) → s ≡ after_calls calls → t ≡ with_line s of m → m ≡ n → t.lines ≡ lines_of calls ++ line of n ∷ []
-lines-with_line s t calls of m n stood more is =
-    ap (λ (u : Standing). u.lines) more ∙ ap (λ k. s.lines ++ line of k ∷ []) is
-    ∙ ap (λ ls. ls ++ line of n ∷ []) (lines-stood s calls stood)
+pub lines-with_line : (s t : Standing) (calls : List Call) (of : Class) (m : List ℕ) → s ≡ after_calls calls → t ≡ with_line s of m → t.lines ≡ lines_of calls ++ line of m ∷ []
+lines-with_line s t calls of m stood more = ap (λ (u : Standing). u.lines) more ∙ ap (λ ls. ls ++ line of m ∷ []) (lines-stood s calls stood)
 
 -- three lines more
-pub lines-three : (s t u v : Standing) (calls : List Call) (of of' of'' : Class) (m n m' m'' n'' : List ℕ) → s ≡ after_calls calls → t ≡ with_line s of m → m ≡ n → u ≡ with_line t of' m' → v ≡ with_line u of'' m'' → m'' ≡ n'' → v.lines ≡ lines_of calls ++ line of n ∷ line of' m' ∷ line of'' n'' ∷ []
-lines-three s t u v calls of of' of'' m n m' m'' n'' stood first is second third is'' =
-    ap (λ (w : Standing). w.lines) third ∙ ap (λ k. u.lines ++ line of'' k ∷ []) is''
-    ∙ ap (λ (w : Standing). w.lines ++ line of'' n'' ∷ []) second
-    ∙ ap (λ ls. (ls ++ line of' m' ∷ []) ++ line of'' n'' ∷ []) (lines-with_line s t calls of m n stood first is)
-    ∙ append_assoc (lines_of calls ++ line of n ∷ []) (line of' m' ∷ []) (line of'' n'' ∷ [])
-    ∙ append_assoc (lines_of calls) (line of n ∷ []) (line of' m' ∷ line of'' n'' ∷ [])
+pub lines-three : (s t u v : Standing) (calls : List Call) (of of' of'' : Class) (m m' m'' : List ℕ) → s ≡ after_calls calls → t ≡ with_line s of m → u ≡ with_line t of' m' → v ≡ with_line u of'' m'' → v.lines ≡ lines_of calls ++ line of m ∷ line of' m' ∷ line of'' m'' ∷ []
+lines-three s t u v calls of of' of'' m m' m'' stood first second third =
+    ap (λ (w : Standing). w.lines) third
+    ∙ ap (λ (w : Standing). w.lines ++ line of'' m'' ∷ []) second
+    ∙ ap (λ ls. (ls ++ line of' m' ∷ []) ++ line of'' m'' ∷ []) (lines-with_line s t calls of m stood first)
+    ∙ append_assoc (lines_of calls ++ line of m ∷ []) (line of' m' ∷ []) (line of'' m'' ∷ [])
+    ∙ append_assoc (lines_of calls) (line of m ∷ []) (line of' m' ∷ line of'' m'' ∷ [])

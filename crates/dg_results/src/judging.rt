@@ -74,8 +74,7 @@ impl Judging {
         ensures err { OnErr result (self.new ≡ self.old) }
     {
         let class = self.class_now(Class::Pass, Class::XPass, Class::KPass);
-        self.record(alloc, class, message)?;
-        Ok(())
+        self.record(alloc, class, message)
     }
 
     /// A test that failed. The line is UNRESOLVED after an error or three warnings, else KFAIL
@@ -85,8 +84,7 @@ impl Judging {
         ensures err { OnErr result (self.new ≡ self.old) }
     {
         let class = self.class_now(Class::Fail, Class::XFail, Class::KFail);
-        self.record(alloc, class, message)?;
-        Ok(())
+        self.record(alloc, class, message)
     }
 
     /// A test without a clear result.
@@ -94,8 +92,7 @@ impl Judging {
         ensures ok { OnOk result (Adds self.old self.new (CallUnresolved message.now)) }
         ensures err { OnErr result (self.new ≡ self.old) }
     {
-        self.record(alloc, Class::Unresolved, message)?;
-        Ok(())
+        self.record(alloc, Class::Unresolved, message)
     }
 
     /// A test that was not run.
@@ -103,8 +100,7 @@ impl Judging {
         ensures ok { OnOk result (Adds self.old self.new (CallUntested message.now)) }
         ensures err { OnErr result (self.new ≡ self.old) }
     {
-        self.record(alloc, Class::Untested, message)?;
-        Ok(())
+        self.record(alloc, Class::Untested, message)
     }
 
     /// A test that the target has no support for.
@@ -112,8 +108,7 @@ impl Judging {
         ensures ok { OnOk result (Adds self.old self.new (CallUnsupported message.now)) }
         ensures err { OnErr result (self.new ≡ self.old) }
     {
-        self.record(alloc, Class::Unsupported, message)?;
-        Ok(())
+        self.record(alloc, Class::Unsupported, message)
     }
 
     /// An error of the test itself. It adds one to the count of errors, or sets it to a number.
@@ -153,8 +148,7 @@ impl Judging {
         ensures ok { OnOk result (Adds self.old self.new (CallNote message.now)) }
         ensures err { OnErr result (self.new ≡ self.old) }
     {
-        self.write(alloc, Class::Note, message)?;
-        Ok(())
+        self.write(alloc, Class::Note, message)
     }
 
     /// The next result is expected to be a failure. The caller has matched the target.
@@ -205,11 +199,7 @@ impl Judging {
         ensures { (calls : List Call) → self ≡ after_calls calls →
             IfOk result (λ verdict. verdict ≡ lines_of calls ++ abort_lines name.now message.now) }
     {
-        let source = text_around(alloc, b"tcl error sourcing ", name, b".")?;
-        let closing = text_around(alloc, b"testcase '", name, b"' aborted due to Tcl error")?;
-        self.add(Class::Error, source)?;
-        self.write(alloc, Class::Error, message)?;
-        self.add(Class::Unresolved, closing)?;
+        self.add_abort(alloc, name, message)?;
         Ok(self.finish())
     }
 
@@ -219,9 +209,35 @@ impl Judging {
         ensures { (calls : List Call) → self ≡ after_calls calls →
             IfOk result (λ verdict. verdict ≡ lines_of calls ++ depart_lines name.now) }
     {
-        let closing = text_around(alloc, b"", name, b" departed from its transcript")?;
-        self.add(Class::Unresolved, closing)?;
+        let after = b" departed from its transcript";
+        self.add_around(alloc, Class::Unresolved, b"", name, after)?;
         Ok(self.finish())
+    }
+
+    /// Adds the closing lines of a test that a Tcl error ended.
+    fn add_abort(&mut self, alloc: Global, name: &[u8], message: &[u8]) -> Result<(), AllocError>
+        ensures { OnOk result ((calls : List Call) → self.old ≡ after_calls calls → self.new.lines ≡ lines_of calls ++ abort_lines name.now message.now) }
+    {
+        let after = b"' aborted due to Tcl error";
+        self.add_around(alloc, Class::Error, b"tcl error sourcing ", name, b".")?;
+        self.write(alloc, Class::Error, message)?;
+        self.add_around(alloc, Class::Unresolved, b"testcase '", name, after)?;
+        Ok(())
+    }
+
+    /// Adds a line whose message is a name between two texts.
+    fn add_around(
+        &mut self,
+        alloc: Global,
+        class: Class,
+        before: &[u8],
+        name: &[u8],
+        after: &[u8],
+    ) -> Result<(), AllocError>
+        ensures { OnOk result (self.new ≡ with_line self.old class (before.now ++ name.now ++ after.now)) }
+    {
+        let message = text_around(alloc, before, name, after)?;
+        self.add(class, message)
     }
 
     /// The class that a pass or fail writes now.
@@ -273,9 +289,16 @@ fn text_around(alloc: Global, before: &[u8], name: &[u8], after: &[u8]) -> Resul
     ensures { IfOk result (λ text. text ≡ before.now ++ name.now ++ after.now) }
 {
     let mut text = Bytes::from_slice(alloc, before)?;
-    text.extend(name)?;
-    text.extend(after)?;
+    extend_by_both(&mut text, name, after)?;
     Ok(text)
+}
+
+/// Adds two texts at the end of another.
+fn extend_by_both(text: &mut Bytes, first: &[u8], second: &[u8]) -> Result<(), AllocError>
+    ensures { OnOk result (text.new ≡ text.old ++ first.now ++ second.now) }
+{
+    text.extend(first)?;
+    text.extend(second)
 }
 
 /// A count after a call that gives it a number, or adds one where it can.

@@ -3,7 +3,4 @@ use Rattle.dg_results.proofs.StepLemmas.{lines-with_line}
 use Rattle.dg_results.proofs.judging.Judging.depart.Goals as goal
 
 pub returns : goal.returns
-returns c =
-    λ calls before.
-    c.finish.ensures.held
-    ∙ lines-with_line c.args.self _ calls _ c.in_ok-closing.closing _ before c.in_ok-add.ensures.ok c.in_ok-closing.ensures
+returns c = λ calls before. c.finish.ensures.held ∙ lines-with_line c.args.self _ calls _ _ before c.in_ok-add_around.ensures
