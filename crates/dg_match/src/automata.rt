@@ -48,11 +48,20 @@ enum Walk {
 }
 
 /// The automaton of a `-re` pattern, with the states that its searches have met. A contract sees the pattern's text.
-#[derive(Drop)]
 struct Automaton {
     pattern: Bytes,
     dfa: Dfa,
     walk: Walk,
+}
+
+impl Drop for Automaton {
+    fn drop(self) {
+        let Automaton {
+            pattern: _,
+            dfa: _,
+            walk: _,
+        } = self;
+    }
 }
 
 impl Model for Automaton {
@@ -132,11 +141,15 @@ impl Automaton {
     fn of(alloc: Global, pattern: &[u8]) -> Option<Automaton>
         ensures { IfSome result (λ a. a ≡ pattern.now) }
     {
-        let (dfa, walk) = walker_of_text(alloc, pattern)?;
-        let Ok(pattern) = Bytes::from_slice(alloc, pattern) else {
+        let Ok(text) = Bytes::from_slice(alloc, pattern) else {
             return None;
         };
-        Some(Automaton { pattern, dfa, walk })
+        let (dfa, walk) = walker_of_text(alloc, pattern)?;
+        Some(Automaton {
+            pattern: text,
+            dfa,
+            walk,
+        })
     }
 
     /// Whether it is that of this pattern.
@@ -220,12 +233,19 @@ impl Automata {
     fn keep(&mut self, automaton: Automaton) {
         if self.kept.len() < MOST {
             let _kept = self.kept.push(automaton);
-        } else if let Some(place) = self.kept.get_mut(self.oldest) {
-            *place = automaton;
-            self.oldest = (self.oldest + 1) % MOST;
+        } else {
+            self.replace_oldest(automaton);
         }
         if self.kept.len() >= MOST {
             self.patience = LONG_PATIENCE;
+        }
+    }
+
+    /// Lets the oldest go for another one.
+    fn replace_oldest(&mut self, automaton: Automaton) {
+        if let Some(place) = self.kept.get_mut(self.oldest) {
+            *place = automaton;
+            self.oldest = (self.oldest + 1) % MOST;
         }
     }
 }

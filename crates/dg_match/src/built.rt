@@ -14,10 +14,15 @@ use std::str;
 use std::sync::Arc;
 
 /// A built `-re` pattern, which may be shared. A contract sees the text that it was built from.
-#[derive(Drop)]
 pub struct Built {
     regex: Arc<Regex>,
     needs: Arc<Needs>,
+}
+
+impl Drop for Built {
+    fn drop(self) {
+        let Built { regex: _, needs: _ } = self;
+    }
 }
 
 impl Model for Built {

@@ -45,10 +45,19 @@ impl Needs {
         let mut needs = Needs {
             sets: Vec::new(alloc),
         };
-        needs.add(suffixes(alloc, hir)?)?;
-        needs.add(prefixes(alloc, hir)?)?;
-        needs.add(required(alloc, hir)?)?;
+        needs.add_all(alloc, hir)?;
         Ok(needs)
+    }
+
+    /// Adds the sets of the pattern's tree.
+    fn add_all(&mut self, alloc: Global, hir: &Hir) -> Result<(), AllocError>
+        ensures { (text : List ℕ) (names : Names) → Reads bytes_config text hir.now names →
+            All (λ s. NeedsOneOf text (needles_of s)) self.old.sets.items →
+            OnOk result (All (λ s. NeedsOneOf text (needles_of s)) self.new.sets.items) }
+    {
+        self.add(suffixes(alloc, hir)?)?;
+        self.add(prefixes(alloc, hir)?)?;
+        self.add(required(alloc, hir)?)
     }
 
     /// Adds a set, if there is one and it isn't large.

@@ -29,11 +29,20 @@ enum Sought {
 
 /// What is looked for, how many parts of it are found if it is a glob, and how many of the buffer's
 /// first places it can't stand at, or its next part can't, whatever comes behind.
-#[derive(Drop)]
 struct Start {
     sought: Sought,
     found: usize,
     passed: usize,
+}
+
+impl Drop for Start {
+    fn drop(self) {
+        let Start {
+            sought: _,
+            found: _,
+            passed: _,
+        } = self;
+    }
 }
 
 /// What a search has found, and how many bytes it has compared.
