@@ -1,6 +1,6 @@
 -- A text's reading, line after line, is the transcript that it spells, or its first bad line.
 use Rattle.std.proofs.Common.{◌≡◌, ◌↔◌, ℕ, suc, ◌+◌, Bool, true, false, cond, List, [], ◌∷◌, ◌++◌, length, length-append, append_assoc, append-nil, take, refl, ap, sym, ◌∙◌, subst, arith}
-use Rattle.std.specs.Prelude.{Some, None, Result, Ok, Err, slice_get}
+use Rattle.std.specs.Prelude.{Result, Ok, Err, slice_get}
 use Rattle.std.specs.Result.{result_map_both}
 use Rattle.bstr.specs.Text.{lines_of}
 use Rattle.dg_transcript.specs.declared.cause.Cause.{Cause}

@@ -17,7 +17,7 @@ use Rattle.dg_transcript.specs.Order.{role_of, admits, opens_session, after_role
 use Rattle.dg_transcript.specs.Fields.{◌>>=◌, Fails, read_line}
 use Rattle.dg_transcript.specs.Step.{same_bytes}
 use Rattle.dg_transcript.specs.Lines.{is_session, is_said, is_over, place_from, place_of, may_come, is_past, placed, ends_line, body, whole_line_at, line_at, line_behind, Say, IsBad, IsFault, Takes}
-use Rattle.dg_transcript.specs.Kept.{Keeps, other_lines}
+use Rattle.dg_transcript.specs.Kept.{Keeps, next_of, other_lines}
 
 -- the line says l, which may come there
 pub record MayCome (p : Place) (sessions entries : ℕ) (text : List ℕ) (l : Line) : Type 0 where
@@ -103,13 +103,6 @@ count-push test ls l = omega (arith, sum_by-append (λ (x : Line). cond (test x)
 pub place_from-push : (p : Place) (ls : List Line) (l : Line) → place_from p (ls ++ l ∷ []) ≡ after_line l
 place_from-push p [] l = refl
 place_from-push p (x ∷ ls) l = place_from-push (after_line x) ls l
-
--- what is kept behind one more line
-abbrev pub next_of : Line → ℕ → ℕ → Place × ℕ × ℕ
-next_of line.Header s e = (place.Between, s, e)
-next_of (line.Session n) s e = (place.Opened, s + 1, e)
-next_of (line.Said x) s e = (after_role (role_of x), s, e + 1)
-next_of line.Done s e = (place.Over, s, e)
 
 after_counts : (r : Role) → other_lines (after_role r) ≡ 1
 after_counts role.Start = refl

@@ -10,6 +10,7 @@ pub mod Replaying
 pub mod Spaces
 pub mod Digits
 pub mod Splitting
+pub mod Finding
 pub mod WordsLemmas
 pub mod SmallDigits
 pub mod DecodedLemmas

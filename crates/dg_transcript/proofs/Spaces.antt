@@ -27,7 +27,7 @@ regroup out a b c d = simp append_assoc
 regroup-4 : (out a b c : List ℕ) → ((out ++ a) ++ b) ++ c ≡ out ++ (((a ++ b) ++ c) ++ [])
 regroup-4 out a b c = simp append_assoc (ap (λ t. out ++ (a ++ (b ++ t))) (sym (append-nil c)))
 
-regroup-3 : (out a b c : List ℕ) → ((out ++ a) ++ b) ++ c ≡ out ++ (a ++ (b ++ c))
+regroup-3 : (out a b c : List ℕ) → (out ++ (a ++ b)) ++ c ≡ out ++ (a ++ (b ++ c))
 regroup-3 out a b c = simp append_assoc
 
 -- the first line of a session
@@ -84,9 +84,9 @@ text_whole so_far new ss i le before last =
     ∙ ap (λ t. codes "dejagnu-transcript 1\n" ++ t) (sym (flat_map-append line_text (sessions_lines 1 ss) (line.Done ∷ [])))
 
 -- the same with a field between the first and the words
-pub behind_code : {E : Type 0} (r : Result (Unit {0}) E) (out a mid new k f : List ℕ) (words : List (List ℕ)) → a ≡ out ++ k → mid ≡ a ++ (32 ∷ f)
+pub behind_code : {E : Type 0} (r : Result (Unit {0}) E) (out mid new k f : List ℕ) (words : List (List ℕ)) → mid ≡ out ++ (k ++ (32 ∷ f))
     → OnOk r (new ≡ mid ++ flat_map (λ w. 32 ∷ word_field w) words) → OnOk r (new ≡ out ++ join_with_byte 32 (k ∷ f ∷ map word_field words))
-behind_code (Ok u) out a mid new k f words front more all =
-    all ∙ ap (λ t. t ++ flat_map (λ w. 32 ∷ word_field w) words) (more ∙ ap (λ t. t ++ (32 ∷ f)) front)
+behind_code (Ok u) out mid new k f words front all =
+    all ∙ ap (λ t. t ++ flat_map (λ w. 32 ∷ word_field w) words) front
     ∙ regroup-3 out k (32 ∷ f) (flat_map (λ w. 32 ∷ word_field w) words) ∙ ap (λ t. out ++ (k ++ (32 ∷ t))) (sym (join-spaced f words))
-behind_code (Err e) out a mid new k f words front more all = tt
+behind_code (Err e) out mid new k f words front all = tt

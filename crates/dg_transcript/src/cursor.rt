@@ -8,7 +8,7 @@ use dg_bytes::{Bytes, Seq, TryCopy};
 use std::alloc::{AllocError, Global};
 
 /// What a script asks of a session.
-#[derive(Drop, PartialEq, Eq, Hash)]
+#[derive(PartialEq, Eq, Hash)]
 pub enum Action {
     /// Start a child by these words.
     Spawn(Seq<Bytes>),
@@ -20,6 +20,16 @@ pub enum Action {
     Close,
     /// Wait for the child to end.
     Wait,
+}
+
+impl Drop for Action {
+    fn drop(self) {
+        match self {
+            Action::Spawn(_words) => {}
+            Action::Send(_bytes) => {}
+            Action::Read(_) | Action::Close | Action::Wait => {}
+        }
+    }
 }
 
 impl TryCopy for Action {
@@ -103,25 +113,65 @@ impl Cursor {
         ensures limit { action.new ≡ (step_at self.old action.old entry.now).action }
     {
         match action {
-            Action::Spawn(words) => match entry {
-                Entry::Started(given) | Entry::NoStart(_, given) => self.answer_if(given == words),
-                _ => Act::Departed,
-            },
-            Action::Send(bytes) => match entry {
-                Entry::Chunk(..) | Entry::Silence(_) => self.pass(),
-                Entry::Sent(given) | Entry::NoSend(_, given) => self.answer_if(given == bytes),
-                _ => Act::Departed,
-            },
+            Action::Spawn(words) => self.spawn(words, entry),
+            Action::Send(bytes) => self.send(bytes, entry),
             Action::Read(limit) => self.read(limit, entry),
-            Action::Close => match entry {
-                Entry::Chunk(..) | Entry::Silence(_) => self.pass(),
-                Entry::Closed | Entry::NoClose(_) => self.answer_if(true),
-                _ => Act::Departed,
-            },
-            Action::Wait => match entry {
-                Entry::Exited(_) | Entry::Killed(_) | Entry::NoWait(_) => self.answer_if(true),
-                _ => Act::Departed,
-            },
+            Action::Close => self.close(entry),
+            Action::Wait => self.wait(entry),
+        }
+    }
+
+    // A start: the child was started by these words, or failed to.
+    fn spawn(&mut self, words: &Seq<Bytes>, entry: &Entry) -> Act
+        requires { self.old.place < 65536 }
+        ensures gives { result ≡ (step_at self.old (Action.Spawn words.now) entry.now).act }
+        ensures place { self.new ≡ (step_at self.old (Action.Spawn words.now) entry.now).cursor }
+        ensures action { Action.Spawn words.now ≡ (step_at self.old (Action.Spawn words.now) entry.now).action }
+    {
+        match entry {
+            Entry::Started(given) | Entry::NoStart(_, given) => self.answer_if(given == words),
+            _ => Act::Departed,
+        }
+    }
+
+    // Bytes to be sent. Output and silences in front of the answer are passed over.
+    fn send(&mut self, bytes: &Bytes, entry: &Entry) -> Act
+        requires { self.old.place < 65536 }
+        ensures gives { result ≡ (step_at self.old (Action.Send bytes.now) entry.now).act }
+        ensures place { self.new ≡ (step_at self.old (Action.Send bytes.now) entry.now).cursor }
+        ensures action { Action.Send bytes.now ≡ (step_at self.old (Action.Send bytes.now) entry.now).action }
+    {
+        match entry {
+            Entry::Chunk(..) | Entry::Silence(_) => self.pass(),
+            Entry::Sent(given) | Entry::NoSend(_, given) => self.answer_if(given == bytes),
+            _ => Act::Departed,
+        }
+    }
+
+    // The end of the session. Output and silences in front of the answer are passed over.
+    fn close(&mut self, entry: &Entry) -> Act
+        requires { self.old.place < 65536 }
+        ensures gives { result ≡ (step_at self.old Action.Close entry.now).act }
+        ensures place { self.new ≡ (step_at self.old Action.Close entry.now).cursor }
+        ensures action { Action.Close ≡ (step_at self.old Action.Close entry.now).action }
+    {
+        match entry {
+            Entry::Chunk(..) | Entry::Silence(_) => self.pass(),
+            Entry::Closed | Entry::NoClose(_) => self.answer_if(true),
+            _ => Act::Departed,
+        }
+    }
+
+    // The end of the child.
+    fn wait(&mut self, entry: &Entry) -> Act
+        requires { self.old.place < 65536 }
+        ensures gives { result ≡ (step_at self.old Action.Wait entry.now).act }
+        ensures place { self.new ≡ (step_at self.old Action.Wait entry.now).cursor }
+        ensures action { Action.Wait ≡ (step_at self.old Action.Wait entry.now).action }
+    {
+        match entry {
+            Entry::Exited(_) | Entry::Killed(_) | Entry::NoWait(_) => self.answer_if(true),
+            _ => Act::Departed,
         }
     }
 

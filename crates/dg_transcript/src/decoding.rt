@@ -1,12 +1,13 @@
 //! A text read as a transcript.
-ghost use Rattle.std.specs.Prelude.{◌≡◌, ◌⊎◌, ◌<◌, ◌+◌, ◌++◌, ◌∷◌, [], suc, length, OnOk, OnErr, IfOk, IfErr, MatchResult, List, true, vec_len};
+ghost use Rattle.std.specs.Prelude.{◌≡◌, ◌⊎◌, if◌then◌else◌, ◌<◌, ◌≤◌, ◌+◌, ◌++◌, ◌∷◌, [], suc, length, OnOk, OnErr, IfOk, IfErr, MatchResult, List, true, vec_len};
 ghost use Rattle.bstr.specs.Text.{lines_of};
 ghost use Rattle.dg_transcript.specs.Fields.{Gives, Fails};
+ghost use Rattle.dg_transcript.specs.Kept.{next_of};
 ghost use Rattle.dg_transcript.specs.Limits.{IsTranscript};
 ghost use Rattle.dg_transcript.specs.Text.{text_of};
 ghost use Rattle.dg_transcript.specs.Sessions.{sessions_in};
 ghost use Rattle.dg_transcript.specs.declared.entry.Entry.{Entry};
-ghost use Rattle.dg_transcript.specs.Lines.{placed, whole_line_at, line_at, line_behind, body, ends_line, place_of, is_session, is_said, is_over, Say, Takes, IsFault};
+ghost use Rattle.dg_transcript.specs.Lines.{may_come, is_past, placed, whole_line_at, line_at, line_behind, body, ends_line, place_of, is_session, is_said, is_over, Say, Takes, IsFault};
 
 use crate::cause::Cause;
 use crate::entry::Entry;
@@ -42,25 +43,38 @@ impl Model for Lines {
     ghost invariant = { λ r. Keeps r.lines.items r.place r.sessions r.entries };
 }
 
-fn placed(place: Place, sessions: u32, entries: u32, line: Line) -> Result<Line, Cause>
+// Whether a line may come at a place where so many sessions have begun.
+fn may_come(place: Place, sessions: u32, line: &Line) -> bool
     requires { sessions < 65536 }
-    ensures { Gives (λ l. l) result (placed place sessions entries line) }
+    ensures { result ≡ may_come place sessions line.now }
 {
-    let may_come = match &line {
+    match line {
         Line::Header => false,
         Line::Session(number) => place.opens_session() && *number == sessions + 1,
         Line::Said(entry) => place.admits(entry.role()),
         Line::Done => place.opens_session(),
-    };
-    if !may_come {
-        return Err(Cause::SessionOrder);
     }
-    let is_past = match &line {
+}
+
+// Whether it is one more session or entry than there may be.
+fn is_past(sessions: u32, entries: u32, line: &Line) -> bool
+    ensures { result ≡ is_past sessions entries line.now }
+{
+    match line {
         Line::Session(_) => sessions as usize >= MAX_SESSIONS,
         Line::Said(_) => entries as usize >= MAX_ENTRIES,
         Line::Header | Line::Done => false,
-    };
-    if is_past {
+    }
+}
+
+fn placed(place: Place, sessions: u32, entries: u32, line: Line) -> Result<Line, Cause>
+    requires { sessions < 65536 }
+    ensures { Gives (λ l. l) result (placed place sessions entries line) }
+{
+    if !may_come(place, sessions, &line) {
+        return Err(Cause::SessionOrder);
+    }
+    if is_past(sessions, entries, &line) {
         return Err(Cause::TooMany);
     }
     Ok(line)
@@ -114,6 +128,20 @@ fn line_at(
     whole_line_at(alloc, place, sessions, entries, text)
 }
 
+// The place behind a line, and how many sessions and entries there are with it.
+fn next_of(line: &Line, sessions: u32, entries: u32) -> (Place, u32, u32)
+    requires few_begun { sessions ≤ 64 }
+    requires few_said { entries ≤ 65536 }
+    ensures { result ≡ next_of line.now sessions entries }
+{
+    match line {
+        Line::Header => (Place::Between, sessions, entries),
+        Line::Session(_) => (Place::Opened, sessions + 1, entries),
+        Line::Said(entry) => (entry.role().after(), sessions, entries + 1),
+        Line::Done => (Place::Over, sessions, entries),
+    }
+}
+
 impl Lines {
     fn new(alloc: Global) -> Lines
         ensures { result ≡ [] }
@@ -146,12 +174,7 @@ impl Lines {
         ensures why { IfErr result (λ e. Fails e (line_behind self.old text.now)) }
     {
         let line = line_at(alloc, self.place, self.sessions, self.entries, text)?;
-        let (place, sessions, entries) = match &line {
-            Line::Header => (Place::Between, self.sessions, self.entries),
-            Line::Session(_) => (Place::Opened, self.sessions + 1, self.entries),
-            Line::Said(entry) => (entry.role().after(), self.sessions, self.entries + 1),
-            Line::Done => (Place::Over, self.sessions, self.entries),
-        };
+        let (place, sessions, entries) = next_of(&line, self.sessions, self.entries);
         self.lines.push(line)?;
         self.place = place;
         self.sessions = sessions;
@@ -187,6 +210,20 @@ fn read_lines(alloc: Global, text: &[u8]) -> Result<Vec<Line>, (u32, Cause)>
     Ok(into_lines(lines))
 }
 
+// Puts the session that is open behind those that are done, if one has begun.
+fn end_session(
+    done: &mut Vec<Seq<Entry>>,
+    entries: Vec<Entry>,
+    begun: bool,
+) -> Result<(), AllocError>
+    ensures { OnOk result (done.new.items ≡ done.old.items ++ (if begun then entries.items ∷ [] else [])) }
+{
+    if begun {
+        done.push(Seq::from_vec(entries))?;
+    }
+    Ok(())
+}
+
 fn sessions_of(alloc: Global, lines: Vec<Line>) -> Result<Seq<Seq<Entry>>, AllocError>
     ensures { IfOk result (λ s. s ≡ sessions_in lines.items) }
 {
@@ -197,18 +234,14 @@ fn sessions_of(alloc: Global, lines: Vec<Line>) -> Result<Seq<Seq<Entry>>, Alloc
         match line {
             Line::Session(_) => {
                 let entries = mem::replace(&mut open, Vec::new(alloc));
-                if begun {
-                    done.push(Seq::from_vec(entries))?;
-                }
+                end_session(&mut done, entries, begun)?;
                 begun = true;
             }
             Line::Said(entry) => open.push(entry)?,
             Line::Header | Line::Done => {}
         }
     }
-    if begun {
-        done.push(Seq::from_vec(open))?;
-    }
+    end_session(&mut done, open, begun)?;
     Ok(Seq::from_vec(done))
 }
 

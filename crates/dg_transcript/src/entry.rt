@@ -9,7 +9,7 @@ use dg_bytes::{Bytes, Seq, TryCopy};
 use std::alloc::{AllocError, Global};
 
 /// One entry of a session's record.
-#[derive(Drop, PartialEq, Eq, Hash)]
+#[derive(PartialEq, Eq, Hash)]
 pub enum Entry {
     /// The child was started by these words.
     Started(Seq<Bytes>),
@@ -37,6 +37,17 @@ pub enum Entry {
     Killed(u8),
     /// It could not be waited for.
     NoWait(Code),
+}
+
+impl Drop for Entry {
+    fn drop(self) {
+        match self {
+            Entry::Started(_words) | Entry::NoStart(_, _words) => {}
+            Entry::Sent(_bytes) | Entry::NoSend(_, _bytes) | Entry::Chunk(_, _bytes) => {}
+            Entry::End(_) | Entry::Silence(_) | Entry::Closed | Entry::Exited(_) => {}
+            Entry::NoRead(_) | Entry::NoClose(_) | Entry::NoWait(_) | Entry::Killed(_) => {}
+        }
+    }
 }
 
 impl Entry {

@@ -6,7 +6,7 @@ ghost use Rattle.dg_transcript.specs.Order.{admits, after_role, opens_session};
 use crate::entry::Entry;
 
 /// What an entry does in its session.
-#[derive(Clone, Copy, PartialEq, Eq)]
+#[derive(Clone, Copy)]
 pub(crate) enum Role {
     Start,
     Failure,
@@ -16,7 +16,7 @@ pub(crate) enum Role {
 }
 
 /// What the lines so far lead to.
-#[derive(Clone, Copy, PartialEq, Eq)]
+#[derive(Clone, Copy)]
 pub(crate) enum Place {
     /// Nothing was read.
     Top,
@@ -76,7 +76,7 @@ impl Role {
 }
 
 /// The kind of a line behind the first, which its first word names.
-#[derive(Clone, Copy, PartialEq, Eq)]
+#[derive(Clone, Copy)]
 pub(crate) enum Kind {
     Session,
     Started,
@@ -138,10 +138,14 @@ impl Kind {
     }
 
     /// The kind that a line's first word names.
-    #[tactic(auto, unfolding(crate::specs::Fields::kind_of))]
     pub(crate) fn named(word: &[u8]) -> Option<Kind>
         ensures { result ≡ kind_of word.now }
     {
-        KINDS.iter().copied().find(|kind| kind.keyword() == word)
+        for kind in KINDS {
+            if kind.keyword() == word {
+                return Some(kind);
+            }
+        }
+        None
     }
 }

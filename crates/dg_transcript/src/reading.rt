@@ -18,61 +18,167 @@ fn wait_of(text: &[u8]) -> Result<u32, Cause>
     within(0, MAX_WAIT, text)
 }
 
+// A session begins.
+#[tactic(auto, unfolding(crate::specs::Fields::line_by))]
+fn session(fields: Option<&[u8]>) -> Result<Line, Cause>
+    ensures { Gives (λ l. l) result (line_by Kind.Session (behind (option_copied fields.entry))) }
+{
+    let number = number_of(only_field(fields)?)?;
+    Ok(Line::Session(number))
+}
+
+// A start by the words behind it.
+#[tactic(auto, unfolding(crate::specs::Fields::line_by))]
+fn started(alloc: Global, fields: Option<&[u8]>) -> Result<Line, Cause>
+    ensures { Gives (λ l. l) result (line_by Kind.Started (behind (option_copied fields.entry))) }
+{
+    let words = words_of(alloc, fields)?;
+    Ok(Line::Said(Entry::Started(words)))
+}
+
+// A start that failed: a code, and the words.
 #[tactic(auto, unfolding(crate::specs::Fields::line_by))]
 fn no_start(alloc: Global, fields: Option<&[u8]>) -> Result<Line, Cause>
     ensures { Gives (λ l. l) result (line_by Kind.NoStart (behind (option_copied fields.entry))) }
 {
     let (code, words) = first_field(fields)?;
     let code = code_of(code)?;
-    Ok(Line::Said(Entry::NoStart(code, words_of(alloc, words)?)))
+    let words = words_of(alloc, words)?;
+    Ok(Line::Said(Entry::NoStart(code, words)))
 }
 
+// Bytes that were sent.
+#[tactic(auto, unfolding(crate::specs::Fields::line_by))]
+fn sent(alloc: Global, fields: Option<&[u8]>) -> Result<Line, Cause>
+    ensures { Gives (λ l. l) result (line_by Kind.Sent (behind (option_copied fields.entry))) }
+{
+    let bytes = bytes_of(alloc, MAX_SENT, only_field(fields)?)?;
+    Ok(Line::Said(Entry::Sent(bytes)))
+}
+
+// Bytes that could not be sent, behind a code.
 #[tactic(auto, unfolding(crate::specs::Fields::line_by))]
 fn no_send(alloc: Global, fields: Option<&[u8]>) -> Result<Line, Cause>
     ensures { Gives (λ l. l) result (line_by Kind.NoSend (behind (option_copied fields.entry))) }
 {
     let (code, bytes) = first_field(fields)?;
     let code = code_of(code)?;
-    let bytes = only_field(bytes)?;
-    Ok(Line::Said(Entry::NoSend(code, bytes_of(alloc, MAX_SENT, bytes)?)))
+    let bytes = bytes_of(alloc, MAX_SENT, only_field(bytes)?)?;
+    Ok(Line::Said(Entry::NoSend(code, bytes)))
 }
 
+// Bytes that came, behind the wait for them.
 #[tactic(auto, unfolding(crate::specs::Fields::line_by))]
 fn chunk(alloc: Global, fields: Option<&[u8]>) -> Result<Line, Cause>
     ensures { Gives (λ l. l) result (line_by Kind.Chunk (behind (option_copied fields.entry))) }
 {
     let (wait, bytes) = first_field(fields)?;
     let wait = wait_of(wait)?;
-    let bytes = only_field(bytes)?;
-    Ok(Line::Said(Entry::Chunk(wait, bytes_of(alloc, MAX_CHUNK, bytes)?)))
+    let bytes = bytes_of(alloc, MAX_CHUNK, only_field(bytes)?)?;
+    Ok(Line::Said(Entry::Chunk(wait, bytes)))
 }
 
+// The end of the output, after a wait.
 #[tactic(auto, unfolding(crate::specs::Fields::line_by))]
+fn end(fields: Option<&[u8]>) -> Result<Line, Cause>
+    ensures { Gives (λ l. l) result (line_by Kind.End (behind (option_copied fields.entry))) }
+{
+    let wait = wait_of(only_field(fields)?)?;
+    Ok(Line::Said(Entry::End(wait)))
+}
+
+// A read that failed.
+#[tactic(auto, unfolding(crate::specs::Fields::line_by))]
+fn no_read(fields: Option<&[u8]>) -> Result<Line, Cause>
+    ensures { Gives (λ l. l) result (line_by Kind.NoRead (behind (option_copied fields.entry))) }
+{
+    let code = code_of(only_field(fields)?)?;
+    Ok(Line::Said(Entry::NoRead(code)))
+}
+
+// A wait in which nothing came.
+#[tactic(auto, unfolding(crate::specs::Fields::line_by))]
+fn silence(fields: Option<&[u8]>) -> Result<Line, Cause>
+    ensures { Gives (λ l. l) result (line_by Kind.Silence (behind (option_copied fields.entry))) }
+{
+    let wait = wait_of(only_field(fields)?)?;
+    Ok(Line::Said(Entry::Silence(wait)))
+}
+
+// A session that was closed.
+#[tactic(auto, unfolding(crate::specs::Fields::line_by))]
+fn closed(fields: Option<&[u8]>) -> Result<Line, Cause>
+    ensures { Gives (λ l. l) result (line_by Kind.Closed (behind (option_copied fields.entry))) }
+{
+    no_field(fields)?;
+    Ok(Line::Said(Entry::Closed))
+}
+
+// A session that could not be closed.
+#[tactic(auto, unfolding(crate::specs::Fields::line_by))]
+fn no_close(fields: Option<&[u8]>) -> Result<Line, Cause>
+    ensures { Gives (λ l. l) result (line_by Kind.NoClose (behind (option_copied fields.entry))) }
+{
+    let code = code_of(only_field(fields)?)?;
+    Ok(Line::Said(Entry::NoClose(code)))
+}
+
+// The status with which a child ended.
+#[tactic(auto, unfolding(crate::specs::Fields::line_by))]
+fn exited(fields: Option<&[u8]>) -> Result<Line, Cause>
+    ensures { Gives (λ l. l) result (line_by Kind.Exited (behind (option_copied fields.entry))) }
+{
+    let status = status_of(only_field(fields)?)?;
+    Ok(Line::Said(Entry::Exited(status)))
+}
+
+// The signal by which it was killed.
+#[tactic(auto, unfolding(crate::specs::Fields::line_by))]
+fn killed(fields: Option<&[u8]>) -> Result<Line, Cause>
+    ensures { Gives (λ l. l) result (line_by Kind.Killed (behind (option_copied fields.entry))) }
+{
+    let signal = signal_of(only_field(fields)?)?;
+    Ok(Line::Said(Entry::Killed(signal)))
+}
+
+// A child that could not be waited for.
+#[tactic(auto, unfolding(crate::specs::Fields::line_by))]
+fn no_wait(fields: Option<&[u8]>) -> Result<Line, Cause>
+    ensures { Gives (λ l. l) result (line_by Kind.NoWait (behind (option_copied fields.entry))) }
+{
+    let code = code_of(only_field(fields)?)?;
+    Ok(Line::Said(Entry::NoWait(code)))
+}
+
+// The last line.
+#[tactic(auto, unfolding(crate::specs::Fields::line_by))]
+fn done(fields: Option<&[u8]>) -> Result<Line, Cause>
+    ensures { Gives (λ l. l) result (line_by Kind.Done (behind (option_copied fields.entry))) }
+{
+    no_field(fields)?;
+    Ok(Line::Done)
+}
+
+// The line of a kind, from the fields behind its first word.
 fn line_by(alloc: Global, kind: Kind, fields: Option<&[u8]>) -> Result<Line, Cause>
     ensures { Gives (λ l. l) result (line_by kind (behind (option_copied fields.entry))) }
 {
     match kind {
-        Kind::Session => Ok(Line::Session(number_of(only_field(fields)?)?)),
-        Kind::Started => Ok(Line::Said(Entry::Started(words_of(alloc, fields)?))),
+        Kind::Session => session(fields),
+        Kind::Started => started(alloc, fields),
         Kind::NoStart => no_start(alloc, fields),
-        Kind::Sent => Ok(Line::Said(Entry::Sent(bytes_of(alloc, MAX_SENT, only_field(fields)?)?))),
+        Kind::Sent => sent(alloc, fields),
         Kind::NoSend => no_send(alloc, fields),
         Kind::Chunk => chunk(alloc, fields),
-        Kind::End => Ok(Line::Said(Entry::End(wait_of(only_field(fields)?)?))),
-        Kind::NoRead => Ok(Line::Said(Entry::NoRead(code_of(only_field(fields)?)?))),
-        Kind::Silence => Ok(Line::Said(Entry::Silence(wait_of(only_field(fields)?)?))),
-        Kind::Closed => {
-            no_field(fields)?;
-            Ok(Line::Said(Entry::Closed))
-        }
-        Kind::NoClose => Ok(Line::Said(Entry::NoClose(code_of(only_field(fields)?)?))),
-        Kind::Exited => Ok(Line::Said(Entry::Exited(status_of(only_field(fields)?)?))),
-        Kind::Killed => Ok(Line::Said(Entry::Killed(signal_of(only_field(fields)?)?))),
-        Kind::NoWait => Ok(Line::Said(Entry::NoWait(code_of(only_field(fields)?)?))),
-        Kind::Done => {
-            no_field(fields)?;
-            Ok(Line::Done)
-        }
+        Kind::End => end(fields),
+        Kind::NoRead => no_read(fields),
+        Kind::Silence => silence(fields),
+        Kind::Closed => closed(fields),
+        Kind::NoClose => no_close(fields),
+        Kind::Exited => exited(fields),
+        Kind::Killed => killed(fields),
+        Kind::NoWait => no_wait(fields),
+        Kind::Done => done(fields),
     }
 }
 

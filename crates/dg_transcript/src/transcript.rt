@@ -13,9 +13,14 @@ use std::marker::Model;
 /// and the limits of the format: at most 64 sessions and 65,536 entries; each session is a failed
 /// start alone, or a start, then what was sent and read, then at most one end of its output or of
 /// the session, then at most one wait.
-#[derive(Drop)]
 pub struct Transcript {
     sessions: Seq<Seq<Entry>>,
+}
+
+impl Drop for Transcript {
+    fn drop(self) {
+        let Transcript { sessions: _ } = self;
+    }
 }
 
 impl Model for Transcript {

@@ -3,6 +3,7 @@ ghost use Rattle.std.specs.Prelude.{◌≡◌, ℕ, ◌++◌, ◌∷◌, [], IfO
 ghost use Rattle.std.specs.List.{join_with_byte};
 ghost use Rattle.hex.specs.Hex.{encode_lower};
 ghost use Rattle.dg_transcript.specs.Text.{code_number, word_field, entry_fields, line_text, text_of};
+ghost use Rattle.dg_transcript.specs.declared.entry.Entry.TheVariants as entry;
 ghost use Rattle.dg_transcript.specs.declared.line.Line.TheVariants as line;
 
 use crate::code::Code;
@@ -23,12 +24,6 @@ fn push_number(alloc: Global, out: &mut Bytes, number: u32) -> Result<(), AllocE
 {
     let digits = number.to_string(alloc)?;
     push_field(out, digits.as_bytes())
-}
-
-fn push_code(alloc: Global, out: &mut Bytes, code: Code) -> Result<(), AllocError>
-    ensures { OnOk result (out.new ≡ out.old ++ 32 ∷ decimal (code_number code)) }
-{
-    push_number(alloc, out, code.number().into())
 }
 
 fn push_hex(alloc: Global, out: &mut Bytes, bytes: &Bytes) -> Result<(), AllocError>
@@ -57,62 +52,84 @@ fn push_words(alloc: Global, out: &mut Bytes, words: &Seq<Bytes>) -> Result<(), 
     Ok(())
 }
 
+// The first word of a line, and a number.
+fn push_numbered(alloc: Global, out: &mut Bytes, word: &[u8], number: u32) -> Result<(), AllocError>
+    ensures { OnOk result (out.new ≡ out.old ++ join_with_byte 32 (word.now ∷ decimal number ∷ [])) }
+{
+    out.extend(word)?;
+    push_number(alloc, out, number)
+}
+
+// The first word of a line, and a code.
+fn push_coded(alloc: Global, out: &mut Bytes, word: &[u8], code: Code) -> Result<(), AllocError>
+    ensures { OnOk result (out.new ≡ out.old ++ join_with_byte 32 (word.now ∷ decimal (code_number code) ∷ [])) }
+{
+    push_numbered(alloc, out, word, code.number().into())
+}
+
+// The first word of a line, a number, and bytes.
+fn push_bytes(
+    alloc: Global,
+    out: &mut Bytes,
+    word: &[u8],
+    number: u32,
+    bytes: &Bytes,
+) -> Result<(), AllocError>
+    ensures { OnOk result (out.new ≡ out.old ++ join_with_byte 32 (word.now ∷ decimal number ∷ encode_lower bytes.now ∷ [])) }
+{
+    push_numbered(alloc, out, word, number)?;
+    push_hex(alloc, out, bytes)
+}
+
+// The line of bytes that were sent.
+fn push_sent(alloc: Global, out: &mut Bytes, bytes: &Bytes) -> Result<(), AllocError>
+    ensures { OnOk result (out.new ≡ out.old ++ join_with_byte 32 (entry_fields (entry.Sent bytes.now))) }
+{
+    out.extend(b"sent")?;
+    push_hex(alloc, out, bytes)
+}
+
+// The line of a start.
+fn push_started(alloc: Global, out: &mut Bytes, words: &Seq<Bytes>) -> Result<(), AllocError>
+    ensures { OnOk result (out.new ≡ out.old ++ join_with_byte 32 (entry_fields (entry.Started words.now))) }
+{
+    out.extend(b"started")?;
+    push_words(alloc, out, words)
+}
+
+// The line of a start that failed.
+fn push_no_start(
+    alloc: Global,
+    out: &mut Bytes,
+    code: Code,
+    words: &Seq<Bytes>,
+) -> Result<(), AllocError>
+    ensures { OnOk result (out.new ≡ out.old ++ join_with_byte 32 (entry_fields (entry.NoStart code words.now))) }
+{
+    push_coded(alloc, out, b"nostart", code)?;
+    push_words(alloc, out, words)
+}
+
+// The line of an entry, without its newline.
 fn push_entry(alloc: Global, out: &mut Bytes, entry: &Entry) -> Result<(), AllocError>
     ensures { OnOk result (out.new ≡ out.old ++ join_with_byte 32 (entry_fields entry.now)) }
 {
     match entry {
-        Entry::Started(words) => {
-            out.extend(b"started")?;
-            push_words(alloc, out, words)
-        }
-        Entry::NoStart(code, words) => {
-            out.extend(b"nostart")?;
-            push_code(alloc, out, *code)?;
-            push_words(alloc, out, words)
-        }
-        Entry::Sent(bytes) => {
-            out.extend(b"sent")?;
-            push_hex(alloc, out, bytes)
-        }
+        Entry::Started(words) => push_started(alloc, out, words),
+        Entry::NoStart(code, words) => push_no_start(alloc, out, *code, words),
+        Entry::Sent(bytes) => push_sent(alloc, out, bytes),
         Entry::NoSend(code, bytes) => {
-            out.extend(b"nosend")?;
-            push_code(alloc, out, *code)?;
-            push_hex(alloc, out, bytes)
+            push_bytes(alloc, out, b"nosend", code.number().into(), bytes)
         }
-        Entry::Chunk(wait, bytes) => {
-            out.extend(b"chunk")?;
-            push_number(alloc, out, *wait)?;
-            push_hex(alloc, out, bytes)
-        }
-        Entry::End(wait) => {
-            out.extend(b"end")?;
-            push_number(alloc, out, *wait)
-        }
-        Entry::Silence(wait) => {
-            out.extend(b"silence")?;
-            push_number(alloc, out, *wait)
-        }
+        Entry::Chunk(wait, bytes) => push_bytes(alloc, out, b"chunk", *wait, bytes),
+        Entry::End(wait) => push_numbered(alloc, out, b"end", *wait),
+        Entry::Silence(wait) => push_numbered(alloc, out, b"silence", *wait),
         Entry::Closed => out.extend(b"closed"),
-        Entry::NoRead(code) => {
-            out.extend(b"noread")?;
-            push_code(alloc, out, *code)
-        }
-        Entry::NoClose(code) => {
-            out.extend(b"noclose")?;
-            push_code(alloc, out, *code)
-        }
-        Entry::NoWait(code) => {
-            out.extend(b"nowait")?;
-            push_code(alloc, out, *code)
-        }
-        Entry::Exited(status) => {
-            out.extend(b"exited")?;
-            push_number(alloc, out, (*status).into())
-        }
-        Entry::Killed(signal) => {
-            out.extend(b"killed")?;
-            push_number(alloc, out, (*signal).into())
-        }
+        Entry::NoRead(code) => push_coded(alloc, out, b"noread", *code),
+        Entry::NoClose(code) => push_coded(alloc, out, b"noclose", *code),
+        Entry::NoWait(code) => push_coded(alloc, out, b"nowait", *code),
+        Entry::Exited(status) => push_numbered(alloc, out, b"exited", (*status).into()),
+        Entry::Killed(signal) => push_numbered(alloc, out, b"killed", (*signal).into()),
     }
 }
 

@@ -124,11 +124,13 @@ impl<G: Gate> Table<G> {
         let mut count = 0u64;
         for _ in 0..u64::MAX {
             match self.ask(session, &Action::Read(LONG))? {
-                Some(Entry::Chunk(_, bytes)) => count = count.saturating_add(bytes.len() as u64),
-                Some(entry) => {
-                    let last = told(self.alloc, &entry)?;
-                    return format!(in self.alloc; "{count} bytes, {last}");
-                }
+                Some(entry) => match entry.output() {
+                    Some((_, bytes)) => count = count.saturating_add(bytes.len() as u64),
+                    None => {
+                        let last = told(self.alloc, &entry)?;
+                        return format!(in self.alloc; "{count} bytes, {last}");
+                    }
+                },
                 None => break,
             }
         }
@@ -144,7 +146,8 @@ impl<G: Gate> Table<G> {
         let mut count = 0u64;
         for _ in 0..rounds {
             let _sent = self.ask(session, &line)?;
-            if let Some(Entry::Chunk(..)) = self.ask(session, &Action::Read(LONG))? {
+            let answer = self.ask(session, &Action::Read(LONG))?;
+            if matches!(&answer, Some(Entry::Chunk(..))) {
                 count = count.saturating_add(1);
             }
         }
