@@ -1,6 +1,6 @@
 //! The result calls that an evaluation made.
 ghost use Rattle.std.specs.Prelude.{◌≡◌, [], ◌∷◌, ◌++◌, OnOk, IfOk};
-ghost use Rattle.dg_results.specs.Standing.{after_calls};
+ghost use Rattle.dg_results.specs.Standing.{after_calls, Adds};
 ghost use Rattle.dg_language.specs.Calls.{call_of};
 
 use dg_bytes::Bytes;
@@ -46,6 +46,38 @@ impl Model for Calls {
     ghost view = { λ c. map call_of c.inner.items };
 }
 
+/// Judges one call more.
+fn judge(alloc: Global, judging: &mut Judging, call: &ResultCall) -> Result<(), AllocError>
+    ensures { OnOk result (Adds judging.old judging.new (call_of call.now)) }
+{
+    match call {
+        ResultCall::Pass(message) => judging.pass(alloc, message.as_slice()),
+        ResultCall::Fail(message) => judging.fail(alloc, message.as_slice()),
+        ResultCall::Unresolved(message) => judging.unresolved(alloc, message.as_slice()),
+        ResultCall::Untested(message) => judging.untested(alloc, message.as_slice()),
+        ResultCall::Unsupported(message) => judging.unsupported(alloc, message.as_slice()),
+        ResultCall::Note(message) => judging.note(alloc, message.as_slice()),
+        ResultCall::Perror(message, count) => judging.perror(alloc, message.as_slice(), *count),
+        ResultCall::Warning(message, count) => judging.warning(alloc, message.as_slice(), *count),
+        ResultCall::SetupXfail => {
+            judging.setup_xfail();
+            Ok(())
+        }
+        ResultCall::ClearXfail => {
+            judging.clear_xfail();
+            Ok(())
+        }
+        ResultCall::SetupKfail => {
+            judging.setup_kfail();
+            Ok(())
+        }
+        ResultCall::ClearKfail => {
+            judging.clear_kfail();
+            Ok(())
+        }
+    }
+}
+
 impl Calls {
     /// No calls.
     pub fn new(alloc: Global) -> Calls
@@ -70,28 +102,7 @@ impl Calls {
     {
         let mut judging = Judging::new(alloc);
         for call in &self.inner {
-            match call {
-                ResultCall::Pass(message) => judging.pass(alloc, message.as_slice())?,
-                ResultCall::Fail(message) => judging.fail(alloc, message.as_slice())?,
-                ResultCall::Unresolved(message) => judging.unresolved(alloc, message.as_slice())?,
-                ResultCall::Untested(message) => judging.untested(alloc, message.as_slice())?,
-                ResultCall::Unsupported(message) => judging.unsupported(alloc, message.as_slice())?,
-                ResultCall::Note(message) => judging.note(alloc, message.as_slice())?,
-                ResultCall::Perror(message, count) => judging.perror(
-                    alloc,
-                    message.as_slice(),
-                    *count,
-                )?,
-                ResultCall::Warning(message, count) => judging.warning(
-                    alloc,
-                    message.as_slice(),
-                    *count,
-                )?,
-                ResultCall::SetupXfail => judging.setup_xfail(),
-                ResultCall::ClearXfail => judging.clear_xfail(),
-                ResultCall::SetupKfail => judging.setup_kfail(),
-                ResultCall::ClearKfail => judging.clear_kfail(),
-            }
+            judge(alloc, &mut judging, call)?;
         }
         Ok(judging)
     }

@@ -83,14 +83,38 @@ fn hashed(alloc: Global, reads: Vec<Read>) -> Result<IndexMap<Question, Answer>,
     Ok(answers)
 }
 
+/// The same reads and one more, found by the hashes of their questions.
+fn hashed_with(
+    alloc: Global,
+    reads: Vec<Read>,
+    question: Question,
+    answer: Answer,
+) -> Result<IndexMap<Question, Answer>, AllocError>
+    requires once { IsTrue (are_new [] reads.items) }
+    requires new { lookup question reads.items ≡ None }
+    ensures { IfOk result (λ answers. reads_of answers.entries ≡ reads.items ++ record { question = question; answer = answer } ∷ []) }
+{
+    let mut answers = hashed(alloc, reads)?;
+    add(&mut answers, question, answer)?;
+    Ok(answers)
+}
+
+/// Puts these reads behind others.
+fn list(reads: &mut Vec<Read>, answers: IndexMap<Question, Answer>) -> Result<(), AllocError>
+    ensures { OnOk result (reads.new.items ≡ reads.old.items ++ reads_of answers.entries) }
+{
+    for (question, answer) in answers {
+        reads.push(Read { question, answer })?;
+    }
+    Ok(())
+}
+
 /// The same reads as a list.
 fn listed(answers: IndexMap<Question, Answer>) -> Result<Seq<Read>, AllocError>
     ensures { IfOk result (λ reads. reads ≡ reads_of answers.entries) }
 {
     let mut reads = Vec::with_capacity(*answers.allocator(), answers.len())?;
-    for (question, answer) in answers {
-        reads.push(Read { question, answer })?;
-    }
+    list(&mut reads, answers)?;
     Ok(Seq::from_vec(reads))
 }
 
@@ -156,9 +180,8 @@ impl Reads {
             }
             Form::Few(reads) => {
                 let alloc = *reads.allocator();
-                let mut answers = hashed(alloc, mem::replace(reads, Vec::new(alloc)))?;
-                add(&mut answers, question, answer)?;
-                self.form = Form::Many(answers);
+                let few = mem::replace(reads, Vec::new(alloc));
+                self.form = Form::Many(hashed_with(alloc, few, question, answer)?);
             }
             Form::Many(answers) => add(answers, question, answer)?,
         }

@@ -9,6 +9,7 @@ ghost use Rattle.dg_language.specs.declared.state.TheConstants.{STEPS};
 ghost use Rattle.dg_language.specs.Growing.{Gets};
 ghost use Rattle.dg_language.specs.Variables.{is_to_begin, first_value, all_linked, or_empty};
 ghost use Rattle.dg_language.specs.Procedures.{longest};
+ghost use Rattle.dg_language.specs.State.{bound};
 ghost use Rattle.dg_language.specs.Touch.{Touches, value_in_use};
 ghost use Rattle.dg_language.specs.Calls.{call_of};
 ghost use Rattle.dg_language.specs.Completing.{performed};
@@ -255,6 +256,22 @@ fn write(variables: &mut Scopes, alloc: Global, name: &[u8], value: Bytes) -> Re
     }
 }
 
+/// Gives variables these values, none longer than a value may be. Of equal names the first counts.
+fn write_all(
+    variables: &mut Scopes,
+    alloc: Global,
+    bindings: Seq<Binding>,
+) -> Result<(), AllocError>
+    requires { longest bindings ≤ value_limit }
+    ensures { OnOk result (variables.new ≡ bound bindings variables.old) }
+{
+    let mut left = bindings.into_vec();
+    while let Some(Binding { name, value }) = left.pop() {
+        write(variables, alloc, name.as_slice(), value)?;
+    }
+    Ok(())
+}
+
 /// The value with which a global begins: the line's, or the one that it has of itself.
 fn first_value(alloc: Global, name: &[u8], answer: &Answer) -> Result<Option<Bytes>, AllocError>
     ensures { IfOk result (λ v. v ≡ first_value name.now answer.now) }
@@ -461,11 +478,7 @@ impl State {
     {
         self.actions.enter(false)?;
         self.variables.push(alloc)?;
-        let mut left = bindings.into_vec();
-        while let Some(Binding { name, value }) = left.pop() {
-            write(&mut self.variables, alloc, name.as_slice(), value)?;
-        }
-        Ok(())
+        write_all(&mut self.variables, alloc, bindings)
     }
 
     /// The procedure's scope ends.
@@ -561,15 +574,13 @@ impl State {
     {
         match effect {
             Effect::Nothing => Ok(()),
-            Effect::Calls(call) => Ok(self.add_call(call)?),
-            Effect::Sets(key, value) => Ok(self.set_first(key, value)?),
+            Effect::Calls(call) => self.add_call(call),
+            Effect::Sets(key, value) => self.set_first(key, value),
             Effect::Unsets(key) => {
                 self.unset_setting(&key);
                 Ok(())
             }
-            Effect::Defines(name, procedure) => {
-                Ok(self.define(alloc, name.as_slice(), procedure)?)
-            }
+            Effect::Defines(name, procedure) => self.define(alloc, name.as_slice(), procedure),
         }
     }
 }
