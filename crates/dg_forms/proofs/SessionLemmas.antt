@@ -1,6 +1,6 @@
 -- The flags of the commands on sessions, one after another.
-use Rattle.std.proofs.Common.{◌≡◌, ℕ, Bool, true, false, List, [], ◌∷◌, ap, sym, ◌∙◌}
-use Rattle.std.specs.Prelude.{Option, Some, None, codes, Result, Ok, Err, ◌||◌}
+use Rattle.std.proofs.Common.{◌≡◌, ℕ, true, false, List, ◌∷◌, ap, sym, ◌∙◌}
+use Rattle.std.specs.Prelude.{Option, Some, None, codes, Result, Err}
 use Rattle.dg_language.specs.declared.expect.Expectation.{Expectation}
 use Rattle.dg_language.specs.declared.expect.Pair.{Pair}
 use Rattle.dg_language.specs.declared.expect.PatternKind.{PatternKind}

@@ -1,9 +1,11 @@
 //! The arguments of a command, taken apart.
-ghost use Rattle.std.specs.Prelude.{◌≡◌, ◌∷◌, [], MatchOption, None};
+ghost use Rattle.std.specs.Prelude.{◌≡◌, ◌∷◌, [], IfOk, MatchOption, None};
 ghost use Rattle.std.specs.Option.{option_copied};
 ghost use Rattle.dg_language.specs.Evaluation.{one_of, two_of, three_of, four_of};
+ghost use Rattle.dg_language.specs.Switching.{is};
 
-use dg_bytes::Bytes;
+use dg_bytes::{Bytes, TryCopy};
+use std::alloc::{AllocError, Global};
 
 /// The first and the others.
 pub fn split<T>(items: &[T]) -> Option<(&T, &[T])>
@@ -12,6 +14,23 @@ pub fn split<T>(items: &[T]) -> Option<(&T, &[T])>
     match items {
         [] => None,
         [first, others @ ..] => Some((first, others)),
+    }
+}
+
+/// Whether a name is this word.
+pub(crate) fn is_word(name: &[u8], word: &[u8]) -> bool
+    ensures { result ≡ is name.now word.now }
+{
+    name == word
+}
+
+/// An equal text, if there is one.
+pub(crate) fn copied_text(alloc: Global, text: Option<&Bytes>) -> Result<Option<Bytes>, AllocError>
+    ensures { IfOk result (λ t. t ≡ option_copied text.entry) }
+{
+    match text {
+        Some(text) => Ok(Some(text.copy(alloc)?)),
+        None => Ok(None),
     }
 }
 

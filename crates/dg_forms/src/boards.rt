@@ -8,24 +8,14 @@ ghost use Rattle.dg_language.specs.Judge.{board_file, tool_library, tool_of};
 
 use crate::arguments::{only, split, two};
 use crate::completing::{does, gives, miscounted};
-use crate::values::with_quoted;
+use crate::switch::is;
+use crate::values::{joined, with_quoted};
 use dg_bytes::{Bytes, TryCopy};
 use dg_cmds::glob_matches;
 use dg_expr::truth_text;
 use dg_language::{Completion, Effect, FlagCommand, ResultCall, State};
 use dg_world::Answer;
 use std::alloc::{AllocError, Global};
-
-/// A text with another before it and one behind it.
-fn between(alloc: Global, before: &[u8], text: &[u8], behind: &[u8]) -> Result<Bytes, AllocError>
-    ensures { IfOk result (λ b. b ≡ before.now ++ (text.now ++ behind.now)) }
-{
-    let mut rest = Bytes::from_slice(alloc, text)?;
-    rest.extend(behind)?;
-    let mut whole = Bytes::from_slice(alloc, before)?;
-    whole.extend(rest.as_slice())?;
-    Ok(whole)
-}
 
 /// The file of a library that `load_lib` names.
 pub fn library_file(alloc: Global, library: &[u8]) -> Result<Bytes, AllocError>
@@ -40,14 +30,14 @@ pub fn library_file(alloc: Global, library: &[u8]) -> Result<Bytes, AllocError>
 pub fn tool_library(alloc: Global, tool: &[u8]) -> Result<Bytes, AllocError>
     ensures { IfOk result (λ b. b ≡ tool_library tool.now) }
 {
-    between(alloc, b"lib/", tool, b".exp")
+    joined(alloc, b"lib/", tool, b".exp")
 }
 
 /// The file of a board.
 pub fn board_file(alloc: Global, board: &[u8]) -> Result<Bytes, AllocError>
     ensures { IfOk result (λ b. b ≡ board_file board.now) }
 {
-    between(alloc, b"boards/", board, b".exp")
+    joined(alloc, b"boards/", board, b".exp")
 }
 
 /// The message of a library that is not there.
@@ -118,7 +108,7 @@ fn told_of(alloc: Global, state: &State, words: &[Bytes]) -> Result<Option<Bytes
             let setting = state.setting(key).unwrap_or(b"".as_slice());
             Ok(Some(Bytes::from_slice(alloc, setting)?))
         }
-        [word, key] if word.as_slice() == b"exists".as_slice() => {
+        [word, key] if is(word, b"exists") => {
             let exists = state.setting(key).is_some();
             Ok(Some(Bytes::from_slice(alloc, truth_text(exists))?))
         }
@@ -135,7 +125,7 @@ pub(crate) fn set_board_info(
     ensures { IfOk result (λ r. r ≡ do_set_board_info args.now) }
 {
     let Some((key, value)) = two(args) else {
-        return Ok(miscounted(alloc, b"set_board_info")?);
+        return miscounted(alloc, b"set_board_info");
     };
     let setting = Effect::Sets(key.copy(alloc)?, value.copy(alloc)?);
     Ok(does(alloc, setting))
@@ -150,7 +140,7 @@ pub(crate) fn unset_board_info(
     ensures { IfOk result (λ r. r ≡ do_unset_board_info args.now) }
 {
     let Some(key) = only(args) else {
-        return Ok(miscounted(alloc, b"unset_board_info")?);
+        return miscounted(alloc, b"unset_board_info");
     };
     Ok(does(alloc, Effect::Unsets(key.copy(alloc)?)))
 }
@@ -164,7 +154,7 @@ pub(crate) fn load_generic_config(
     ensures { IfOk result (λ r. r ≡ do_load_generic_config args.now) }
 {
     let Some(name) = only(args) else {
-        return Ok(miscounted(alloc, b"load_generic_config")?);
+        return miscounted(alloc, b"load_generic_config");
     };
     let key = Bytes::from_slice(alloc, b"generic_name")?;
     Ok(does(alloc, Effect::Sets(key, name.copy(alloc)?)))
@@ -181,7 +171,7 @@ pub(crate) fn target_info(
 {
     match told_of(alloc, state, args)? {
         Some(told) => Ok(gives(told)),
-        None => Ok(miscounted(alloc, b"target_info")?),
+        None => miscounted(alloc, b"target_info"),
     }
 }
 
@@ -195,12 +185,12 @@ pub(crate) fn board_info(
     ensures { IfOk result (λ r. r ≡ do_board_info args.now state.now) }
 {
     let Some((machine, others)) = split(args) else {
-        return Ok(miscounted(alloc, b"board_info")?);
+        return miscounted(alloc, b"board_info");
     };
     let Some(told) = told_of(alloc, state, others)? else {
-        return Ok(miscounted(alloc, b"board_info")?);
+        return miscounted(alloc, b"board_info");
     };
-    if machine.as_slice() == b"target".as_slice() {
+    if is(machine, b"target") {
         Ok(gives(told))
     } else {
         Ok(Err(Bytes::from_slice(alloc, b"unknown machine")?))

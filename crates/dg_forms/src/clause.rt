@@ -4,6 +4,7 @@ ghost use Rattle.std.specs.Cmp.Lexicographic.{pointwise};
 ghost use Rattle.dg_language.specs.Choosing.{and_clause, clauses_at, last_body, last_words, AtCondition, BehindBody};
 
 use crate::arguments::{only, split};
+use crate::switch::is;
 use dg_bytes::{Bytes, Seq, TryCopy};
 use dg_language::{Clause, Clauses, Queue};
 use std::alloc::{AllocError, Global};
@@ -16,11 +17,21 @@ fn first_clause(words: &[Bytes]) -> Option<(&Bytes, &Bytes, &[Bytes])>
 {
     let (condition, behind) = split(words)?;
     let (first, others) = split(behind)?;
-    if first.as_slice() == b"then".as_slice() {
+    if is(first, b"then") {
         let (body, others) = split(others)?;
         return Some((condition, body, others));
     }
     Some((condition, first, others))
+}
+
+/// A clause of this condition and this body.
+fn clause_of(alloc: Global, condition: &Bytes, body: &Bytes) -> Result<Clause, AllocError>
+    ensures { IfOk result (λ c. c ≡ record { condition = condition.now; body = body.now }) }
+{
+    Ok(Clause {
+        condition: condition.copy(alloc)?,
+        body: body.copy(alloc)?,
+    })
 }
 
 /// Whether another clause begins.
@@ -34,7 +45,7 @@ fn is_elseif(word: &Bytes) -> bool
 fn last_words<'a>(first: &'a Bytes, others: &'a [Bytes]) -> Option<&'a Bytes>
     ensures { MatchOption result (last_words first.now others.now ≡ None) (λ body. last_words first.now others.now ≡ last_body (body.now ∷ [])) }
 {
-    if first.as_slice() == b"else".as_slice() {
+    if is(first, b"else") {
         return only(others);
     }
     if others.is_empty() {
@@ -54,10 +65,7 @@ pub fn clauses_of(alloc: Global, words: &[Bytes]) -> Result<Option<Clauses>, All
         let Some((condition, body, behind)) = first_clause(left) else {
             return Ok(None);
         };
-        tested.push(Clause {
-            condition: condition.copy(alloc)?,
-            body: body.copy(alloc)?,
-        })?;
+        tested.push(clause_of(alloc, condition, body)?)?;
         let Some((first, others)) = split(behind) else {
             return Ok(Some(Clauses {
                 tested: Queue::new(tested.into_vec()),

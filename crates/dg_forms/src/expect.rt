@@ -1,11 +1,11 @@
 //! The words of `expect`, and its pairs taken apart, by expect(1).
-ghost use Rattle.std.specs.Prelude.{◌≡◌, ◌++◌, ◌||◌, ◌==◌, IfOk, None, Some, false, is_some, option_map};
+ghost use Rattle.std.specs.Prelude.{◌≡◌, ◌++◌, ◌∷◌, ◌||◌, ◌==◌, ◌≤◌, length, IfOk, MatchResult, Err, None, Some, false, is_some, option_map};
 ghost use Rattle.std.specs.Option.{option_copied};
 ghost use Rattle.dg_expr.specs.Number.{number_of};
-ghost use Rattle.dg_language.specs.ExpectWords.{awaited_as, awaited_by, expect_words, is_for_end, is_for_timeout, kind_named, leads_a_list, listed, one_word, only_pair, pairs_of, pattern_in, regex_in, regexes_in, two_words};
+ghost use Rattle.dg_language.specs.ExpectWords.{awaited_as, awaited_by, expect_words, is_for_end, is_for_timeout, kind_named, leads_a_list, listed, one_word, only_pair, pair, pairs_of, pattern_in, regex_in, regexes_in, two_words, with_pair};
 ghost use Rattle.dg_language.specs.Expecting.{action_at, first_action, milliseconds};
 
-use crate::arguments::{only, split};
+use crate::arguments::{copied_text, only, split};
 use crate::sessions::bad_flag;
 use crate::switch::{is, is_flag};
 use crate::values::wrong_count;
@@ -91,6 +91,63 @@ fn two_words(alloc: Global, word: &Bytes, next: &Bytes) -> Result<Result<Pair, B
     }))
 }
 
+/// A pair of a pattern of a kind and an action.
+fn pair_as(
+    alloc: Global,
+    kind: PatternKind,
+    pattern: &Bytes,
+    action: &Bytes,
+) -> Result<Pair, AllocError>
+    ensures { IfOk result (λ p. p ≡ pair (awaited_as kind pattern.now) (Some action.now)) }
+{
+    Ok(Pair {
+        awaited: awaited_as(alloc, kind, pattern)?,
+        action: Some(action.copy(alloc)?),
+    })
+}
+
+/// A pair of a word without a kind and an action.
+fn pair_by(alloc: Global, word: &Bytes, action: &Bytes) -> Result<Pair, AllocError>
+    ensures { IfOk result (λ p. p ≡ pair (awaited_by word.now) (Some action.now)) }
+{
+    Ok(Pair {
+        awaited: awaited_by(alloc, word)?,
+        action: Some(action.copy(alloc)?),
+    })
+}
+
+/// The first pair, of a word and those behind it, and the words behind the pair; or the message of a bad flag or of a kind
+/// without a pattern.
+#[tactic(auto, unfolding(dg_language::specs::ExpectWords::pairs_of))]
+fn first_pair<'a>(
+    alloc: Global,
+    word: &Bytes,
+    behind: &'a [Bytes],
+) -> Result<Result<(Pair, &'a [Bytes]), Bytes>, AllocError>
+    ensures pair { IfOk result (λ r. MatchResult r (λ p. pairs_of (word.now ∷ behind.now) ≡ with_pair p.0 (pairs_of p.1.now)) (λ why. pairs_of (word.now ∷ behind.now) ≡ Err why)) }
+    ensures fewer { IfOk result (λ r. IfOk r (λ p. length p.1.now ≤ length behind.now)) }
+{
+    let Some((next, rest)) = split(behind) else {
+        match one_word(alloc, word)? {
+            Ok(pair) => return Ok(Ok((pair, behind))),
+            Err(why) => return Ok(Err(why)),
+        }
+    };
+    let Some((third, others)) = split(rest) else {
+        match two_words(alloc, word, next)? {
+            Ok(pair) => return Ok(Ok((pair, rest))),
+            Err(why) => return Ok(Err(why)),
+        }
+    };
+    if let Some(kind) = kind_named(word) {
+        return Ok(Ok((pair_as(alloc, kind, next, third)?, others)));
+    }
+    if is_flag(word) {
+        return Ok(Err(bad_flag(alloc, word)?));
+    }
+    Ok(Ok((pair_by(alloc, word, next)?, rest)))
+}
+
 /// The pairs that these words are, or the message of a bad flag or of a kind without a pattern.
 #[tactic(auto, unfolding(dg_language::specs::ExpectWords::pairs_of))]
 fn pairs_of(alloc: Global, words: &[Bytes]) -> Result<Result<Seq<Pair>, Bytes>, AllocError>
@@ -102,42 +159,12 @@ fn pairs_of(alloc: Global, words: &[Bytes]) -> Result<Result<Seq<Pair>, Bytes>, 
         let Some((word, behind)) = split(left) else {
             return Ok(Ok(pairs));
         };
-        let Some((next, rest)) = split(behind) else {
-            match one_word(alloc, word)? {
-                Ok(pair) => {
-                    pairs.push(pair)?;
-                    return Ok(Ok(pairs));
-                }
-                Err(why) => return Ok(Err(why)),
-            }
-        };
-        let Some((third, others)) = split(rest) else {
-            match two_words(alloc, word, next)? {
-                Ok(pair) => {
-                    pairs.push(pair)?;
-                    return Ok(Ok(pairs));
-                }
-                Err(why) => return Ok(Err(why)),
-            }
-        };
-        match kind_named(word) {
-            Some(kind) => {
-                pairs.push(Pair {
-                    awaited: awaited_as(alloc, kind, next)?,
-                    action: Some(third.copy(alloc)?),
-                })?;
+        match first_pair(alloc, word, behind)? {
+            Ok((pair, others)) => {
+                pairs.push(pair)?;
                 left = others;
             }
-            None => {
-                if is_flag(word) {
-                    return Ok(Err(bad_flag(alloc, word)?));
-                }
-                pairs.push(Pair {
-                    awaited: awaited_by(alloc, word)?,
-                    action: Some(next.copy(alloc)?),
-                })?;
-                left = rest;
-            }
+            Err(why) => return Ok(Err(why)),
         }
     }
 }
@@ -162,22 +189,38 @@ pub fn expect_words(
             let Some((value, others)) = split(behind) else {
                 return Ok(Err(wrong_count(alloc, b"expect")?));
             };
-            timeout = Some(value.copy(alloc)?);
+            timeout = Some(value);
             left = others;
         } else if is(word, b"-i") {
             let Some((value, others)) = split(behind) else {
                 return Ok(Err(wrong_count(alloc, b"expect")?));
             };
-            id = Some(value.copy(alloc)?);
+            id = Some(value);
             left = others;
         } else {
             break;
         }
     }
     match pairs_of(alloc, left)? {
-        Ok(pairs) => Ok(Ok(Expectation { timeout, id, pairs })),
+        Ok(pairs) => Ok(Ok(expectation(alloc, timeout, id, pairs)?)),
         Err(why) => Ok(Err(why)),
     }
+}
+
+/// The words of `expect`, of these flags' values and these pairs.
+fn expectation(
+    alloc: Global,
+    timeout: Option<&Bytes>,
+    id: Option<&Bytes>,
+    pairs: Seq<Pair>,
+) -> Result<Expectation, AllocError>
+    ensures { IfOk result (λ e. e ≡ record { timeout = option_copied timeout.entry; id = option_copied id.entry; pairs = pairs }) }
+{
+    Ok(Expectation {
+        timeout: copied_text(alloc, timeout)?,
+        id: copied_text(alloc, id)?,
+        pairs,
+    })
 }
 
 /// Whether a text has a byte other than blanks and newlines, and a newline before the first such

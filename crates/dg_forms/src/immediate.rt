@@ -5,6 +5,7 @@ ghost use Rattle.dg_language.specs.Expecting.{do_exp_continue};
 ghost use Rattle.dg_language.specs.Immediate.{immediate, immediate_commands, is_for_scripts, result_commands};
 ghost use Rattle.dg_language.specs.Language.{with_name};
 
+use crate::arguments::is_word;
 use crate::boards::{
     board_info, load_generic_config, set_board_info, target_info, unset_board_info,
 };
@@ -25,19 +26,19 @@ pub fn run_immediate(
     ensures { IfOk result (λ r. r ≡ immediate which args.now state.now) }
 {
     match which {
-        ImmediateCommand::Result(which) => Ok(result(alloc, which, args)?),
+        ImmediateCommand::Result(which) => result(alloc, which, args),
         ImmediateCommand::Silent => Ok(gives(Bytes::new(alloc))),
-        ImmediateCommand::Proc => Ok(procedure(alloc, args)?),
-        ImmediateCommand::Break => Ok(leave(alloc, Code::Broken, b"break", args)?),
-        ImmediateCommand::Continue => Ok(leave(alloc, Code::Continued, b"continue", args)?),
-        ImmediateCommand::Return => Ok(give_back(alloc, args)?),
-        ImmediateCommand::Error => Ok(error(alloc, args)?),
-        ImmediateCommand::ExpContinue => Ok(exp_continue(alloc, state, args)?),
-        ImmediateCommand::SetBoardInfo => Ok(set_board_info(alloc, args)?),
-        ImmediateCommand::UnsetBoardInfo => Ok(unset_board_info(alloc, args)?),
-        ImmediateCommand::LoadGenericConfig => Ok(load_generic_config(alloc, args)?),
-        ImmediateCommand::TargetInfo => Ok(target_info(alloc, state, args)?),
-        ImmediateCommand::BoardInfo => Ok(board_info(alloc, state, args)?),
+        ImmediateCommand::Proc => procedure(alloc, args),
+        ImmediateCommand::Break => leave(alloc, Code::Broken, b"break", args),
+        ImmediateCommand::Continue => leave(alloc, Code::Continued, b"continue", args),
+        ImmediateCommand::Return => give_back(alloc, args),
+        ImmediateCommand::Error => error(alloc, args),
+        ImmediateCommand::ExpContinue => exp_continue(alloc, state, args),
+        ImmediateCommand::SetBoardInfo => set_board_info(alloc, args),
+        ImmediateCommand::UnsetBoardInfo => unset_board_info(alloc, args),
+        ImmediateCommand::LoadGenericConfig => load_generic_config(alloc, args),
+        ImmediateCommand::TargetInfo => target_info(alloc, state, args),
+        ImmediateCommand::BoardInfo => board_info(alloc, state, args),
     }
 }
 
@@ -45,25 +46,25 @@ pub fn run_immediate(
 pub(crate) fn find_result(name: &[u8]) -> Option<Builtin>
     ensures { result ≡ with_name name.now result_commands }
 {
-    let which = if name == b"pass".as_slice() {
+    let which = if is_word(name, b"pass") {
         ImmediateCommand::Result(ResultCommand::Pass)
-    } else if name == b"fail".as_slice() {
+    } else if is_word(name, b"fail") {
         ImmediateCommand::Result(ResultCommand::Fail)
-    } else if name == b"unresolved".as_slice() {
+    } else if is_word(name, b"unresolved") {
         ImmediateCommand::Result(ResultCommand::Unresolved)
-    } else if name == b"untested".as_slice() {
+    } else if is_word(name, b"untested") {
         ImmediateCommand::Result(ResultCommand::Untested)
-    } else if name == b"unsupported".as_slice() {
+    } else if is_word(name, b"unsupported") {
         ImmediateCommand::Result(ResultCommand::Unsupported)
-    } else if name == b"note".as_slice() {
+    } else if is_word(name, b"note") {
         ImmediateCommand::Result(ResultCommand::Note)
-    } else if name == b"perror".as_slice() {
+    } else if is_word(name, b"perror") {
         ImmediateCommand::Result(ResultCommand::Perror)
-    } else if name == b"warning".as_slice() {
+    } else if is_word(name, b"warning") {
         ImmediateCommand::Result(ResultCommand::Warning)
-    } else if name == b"verbose".as_slice()
-        || name == b"send_user".as_slice()
-        || name == b"send_log".as_slice()
+    } else if is_word(name, b"verbose")
+        || is_word(name, b"send_user")
+        || is_word(name, b"send_log")
     {
         ImmediateCommand::Silent
     } else {
@@ -76,27 +77,27 @@ pub(crate) fn find_result(name: &[u8]) -> Option<Builtin>
 pub(crate) fn find_immediate(name: &[u8]) -> Option<Builtin>
     ensures { result ≡ with_name name.now immediate_commands }
 {
-    let which = if name == b"proc".as_slice() {
+    let which = if is_word(name, b"proc") {
         ImmediateCommand::Proc
-    } else if name == b"break".as_slice() {
+    } else if is_word(name, b"break") {
         ImmediateCommand::Break
-    } else if name == b"continue".as_slice() {
+    } else if is_word(name, b"continue") {
         ImmediateCommand::Continue
-    } else if name == b"return".as_slice() {
+    } else if is_word(name, b"return") {
         ImmediateCommand::Return
-    } else if name == b"error".as_slice() {
+    } else if is_word(name, b"error") {
         ImmediateCommand::Error
-    } else if name == b"exp_continue".as_slice() {
+    } else if is_word(name, b"exp_continue") {
         ImmediateCommand::ExpContinue
-    } else if name == b"set_board_info".as_slice() {
+    } else if is_word(name, b"set_board_info") {
         ImmediateCommand::SetBoardInfo
-    } else if name == b"unset_board_info".as_slice() {
+    } else if is_word(name, b"unset_board_info") {
         ImmediateCommand::UnsetBoardInfo
-    } else if name == b"load_generic_config".as_slice() {
+    } else if is_word(name, b"load_generic_config") {
         ImmediateCommand::LoadGenericConfig
-    } else if name == b"target_info".as_slice() {
+    } else if is_word(name, b"target_info") {
         ImmediateCommand::TargetInfo
-    } else if name == b"board_info".as_slice() {
+    } else if is_word(name, b"board_info") {
         ImmediateCommand::BoardInfo
     } else {
         return None;
@@ -126,7 +127,7 @@ fn leave(
 {
     match args {
         [] => Ok(completes(code, Bytes::new(alloc))),
-        [_, ..] => Ok(miscounted(alloc, name)?),
+        [_, ..] => miscounted(alloc, name),
     }
 }
 
@@ -138,7 +139,7 @@ fn give_back(alloc: Global, args: &[Bytes]) -> Result<Result<Completion, Bytes>,
     match args {
         [] => Ok(completes(Code::Returned, Bytes::new(alloc))),
         [value] => Ok(completes(Code::Returned, value.copy(alloc)?)),
-        _ => Ok(miscounted(alloc, b"return")?),
+        _ => miscounted(alloc, b"return"),
     }
 }
 
@@ -149,7 +150,7 @@ fn error(alloc: Global, args: &[Bytes]) -> Result<Result<Completion, Bytes>, All
 {
     match args {
         [message] | [message, _] | [message, _, _] => Ok(Err(message.copy(alloc)?)),
-        _ => Ok(miscounted(alloc, b"error")?),
+        _ => miscounted(alloc, b"error"),
     }
 }
 
@@ -165,6 +166,6 @@ fn exp_continue(
     match args {
         [] if state.is_in_action() => Ok(completes(Code::ExpContinued, Bytes::new(alloc))),
         [] => Ok(Err(Bytes::from_slice(alloc, b"exp_continue outside of expect")?)),
-        [_, ..] => Ok(miscounted(alloc, b"exp_continue")?),
+        [_, ..] => miscounted(alloc, b"exp_continue"),
     }
 }

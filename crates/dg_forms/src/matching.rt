@@ -1,5 +1,5 @@
 //! The words of `regexp`, and the texts of what it has found, by regexp(n).
-ghost use Rattle.std.specs.Prelude.{◌≡◌, IfOk, IfSome, length};
+ghost use Rattle.std.specs.Prelude.{◌≡◌, ◌++◌, ◌∷◌, [], IfOk, IfSome, OnOk, length};
 ghost use Rattle.std.specs.List.{All};
 ghost use Rattle.dg_match.specs.Hits.{LiesBetween, LiesIn, hit_at};
 ghost use Rattle.dg_language.specs.Expecting.{group_text};
@@ -14,6 +14,14 @@ use dg_bytes::{Bytes, Seq, TryCopy};
 use dg_language::Search;
 use dg_match::Found;
 use std::alloc::{AllocError, Global};
+
+/// Adds a copy of a text.
+fn push_copy(alloc: Global, list: &mut Seq<Bytes>, text: &[u8]) -> Result<(), AllocError>
+    ensures { OnOk result (list.new ≡ list.old ++ text.now ∷ []) }
+{
+    list.push(Bytes::from_slice(alloc, text)?)?;
+    Ok(())
+}
 
 /// Copies of words.
 fn copied(alloc: Global, words: &[Bytes]) -> Result<Seq<Bytes>, AllocError>
@@ -45,15 +53,15 @@ pub fn regexp_words(alloc: Global, args: &[Bytes]) -> Result<Result<Search, Byte
     ensures { IfOk result (λ r. r ≡ regexp_words args.now) }
 {
     let Some((word, others)) = split(args) else {
-        return Ok(search_of(alloc, args)?);
+        return search_of(alloc, args);
     };
     if is(word, b"--") {
-        return Ok(search_of(alloc, others)?);
+        return search_of(alloc, others);
     }
     if is_flag(word) {
         return Ok(Err(bad_flag(alloc, word)?));
     }
-    Ok(search_of(alloc, args)?)
+    search_of(alloc, args)
 }
 
 /// The texts of a match in a text: of all of it, and of each of its groups.
@@ -62,10 +70,10 @@ pub fn parts_of(alloc: Global, text: &[u8], found: &Found) -> Result<Seq<Bytes>,
     ensures { IfOk result (λ parts. parts ≡ parts_of text.now found.now) }
 {
     let mut parts = Seq::new(alloc);
-    parts.push(Bytes::from_slice(alloc, &text[found.start..found.end])?)?;
+    push_copy(alloc, &mut parts, &text[found.start..found.end])?;
     let groups = found.groups.as_slice();
     for group in groups {
-        parts.push(Bytes::from_slice(alloc, group_text(text, group))?)?;
+        push_copy(alloc, &mut parts, group_text(text, group))?;
     }
     Ok(parts)
 }

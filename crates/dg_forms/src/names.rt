@@ -2,6 +2,7 @@
 ghost use Rattle.std.specs.Prelude.{◌≡◌};
 ghost use Rattle.dg_language.specs.Language.{builtin_of, with_name, variable_commands, control_commands, choice_commands, session_commands, target_commands, records, usable};
 
+use crate::arguments::is_word;
 use crate::immediate::{find_immediate, find_result, is_for_scripts};
 use dg_language::{
     Builtin, ChoiceCommand, ControlCommand, FlagCommand, SessionCommand, TargetCommand,
@@ -12,21 +13,21 @@ use dg_language::{
 fn find_variable(name: &[u8]) -> Option<Builtin>
     ensures { result ≡ with_name name.now variable_commands }
 {
-    if name == b"set".as_slice() {
+    if is_word(name, b"set") {
         Some(Builtin::Variable(VariableCommand::Set))
-    } else if name == b"append".as_slice() {
+    } else if is_word(name, b"append") {
         Some(Builtin::Variable(VariableCommand::Append))
-    } else if name == b"lappend".as_slice() {
+    } else if is_word(name, b"lappend") {
         Some(Builtin::Variable(VariableCommand::ListAppend))
-    } else if name == b"incr".as_slice() {
+    } else if is_word(name, b"incr") {
         Some(Builtin::Variable(VariableCommand::Increase))
-    } else if name == b"unset".as_slice() {
+    } else if is_word(name, b"unset") {
         Some(Builtin::Variable(VariableCommand::Unset))
-    } else if name == b"info".as_slice() {
+    } else if is_word(name, b"info") {
         Some(Builtin::Variable(VariableCommand::Info))
-    } else if name == b"global".as_slice() {
+    } else if is_word(name, b"global") {
         Some(Builtin::Variable(VariableCommand::Global))
-    } else if name == b"regexp".as_slice() {
+    } else if is_word(name, b"regexp") {
         Some(Builtin::Regexp)
     } else {
         None
@@ -37,11 +38,11 @@ fn find_variable(name: &[u8]) -> Option<Builtin>
 fn find_control(name: &[u8]) -> Option<Builtin>
     ensures { result ≡ with_name name.now control_commands }
 {
-    if name == b"foreach".as_slice() {
+    if is_word(name, b"foreach") {
         Some(Builtin::Control(ControlCommand::Foreach))
-    } else if name == b"catch".as_slice() {
+    } else if is_word(name, b"catch") {
         Some(Builtin::Control(ControlCommand::Catch))
-    } else if name == b"load_lib".as_slice() {
+    } else if is_word(name, b"load_lib") {
         Some(Builtin::LoadLib)
     } else {
         None
@@ -52,17 +53,17 @@ fn find_control(name: &[u8]) -> Option<Builtin>
 fn find_choice(name: &[u8]) -> Option<Builtin>
     ensures { result ≡ with_name name.now choice_commands }
 {
-    if name == b"expr".as_slice() {
+    if is_word(name, b"expr") {
         Some(Builtin::Choice(ChoiceCommand::Expr))
-    } else if name == b"eval".as_slice() {
+    } else if is_word(name, b"eval") {
         Some(Builtin::Choice(ChoiceCommand::Eval))
-    } else if name == b"if".as_slice() {
+    } else if is_word(name, b"if") {
         Some(Builtin::Choice(ChoiceCommand::If))
-    } else if name == b"switch".as_slice() {
+    } else if is_word(name, b"switch") {
         Some(Builtin::Choice(ChoiceCommand::Switch))
-    } else if name == b"while".as_slice() {
+    } else if is_word(name, b"while") {
         Some(Builtin::Choice(ChoiceCommand::While))
-    } else if name == b"for".as_slice() {
+    } else if is_word(name, b"for") {
         Some(Builtin::Choice(ChoiceCommand::For))
     } else {
         None
@@ -73,21 +74,21 @@ fn find_choice(name: &[u8]) -> Option<Builtin>
 fn find_target(name: &[u8]) -> Option<Builtin>
     ensures { result ≡ with_name name.now target_commands }
 {
-    if name == b"istarget".as_slice() {
+    if is_word(name, b"istarget") {
         Some(Builtin::Target(TargetCommand::IsTarget))
-    } else if name == b"ishost".as_slice() {
+    } else if is_word(name, b"ishost") {
         Some(Builtin::Target(TargetCommand::IsHost))
-    } else if name == b"isbuild".as_slice() {
+    } else if is_word(name, b"isbuild") {
         Some(Builtin::Target(TargetCommand::IsBuild))
-    } else if name == b"isnative".as_slice() {
+    } else if is_word(name, b"isnative") {
         Some(Builtin::Target(TargetCommand::IsNative))
-    } else if name == b"setup_xfail".as_slice() {
+    } else if is_word(name, b"setup_xfail") {
         Some(Builtin::Flag(FlagCommand::SetupXfail))
-    } else if name == b"setup_kfail".as_slice() {
+    } else if is_word(name, b"setup_kfail") {
         Some(Builtin::Flag(FlagCommand::SetupKfail))
-    } else if name == b"clear_xfail".as_slice() {
+    } else if is_word(name, b"clear_xfail") {
         Some(Builtin::Flag(FlagCommand::ClearXfail))
-    } else if name == b"clear_kfail".as_slice() {
+    } else if is_word(name, b"clear_kfail") {
         Some(Builtin::Flag(FlagCommand::ClearKfail))
     } else {
         None
@@ -98,17 +99,17 @@ fn find_target(name: &[u8]) -> Option<Builtin>
 fn find_session(name: &[u8]) -> Option<Builtin>
     ensures { result ≡ with_name name.now session_commands }
 {
-    if name == b"spawn".as_slice() {
+    if is_word(name, b"spawn") {
         Some(Builtin::Session(SessionCommand::Spawn))
-    } else if name == b"send".as_slice() {
+    } else if is_word(name, b"send") {
         Some(Builtin::Session(SessionCommand::Send))
-    } else if name == b"close".as_slice() {
+    } else if is_word(name, b"close") {
         Some(Builtin::Session(SessionCommand::Close))
-    } else if name == b"wait".as_slice() {
+    } else if is_word(name, b"wait") {
         Some(Builtin::Session(SessionCommand::Wait))
-    } else if name == b"match_max".as_slice() {
+    } else if is_word(name, b"match_max") {
         Some(Builtin::Session(SessionCommand::MatchMax))
-    } else if name == b"expect".as_slice() {
+    } else if is_word(name, b"expect") {
         Some(Builtin::Expect)
     } else {
         None

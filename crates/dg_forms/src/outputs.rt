@@ -7,6 +7,7 @@ ghost use Rattle.dg_sessions.specs.Views.{session_at};
 ghost use Rattle.dg_language.specs.State.{assigned};
 ghost use Rattle.dg_language.specs.Expecting.{group_text, out_name, with_groups};
 
+use crate::values::joined;
 use dg_bytes::Bytes;
 use dg_language::State;
 use dg_match::Span;
@@ -16,13 +17,7 @@ use std::alloc::{AllocError, Global};
 fn out_name(alloc: Global, index: &[u8]) -> Result<Bytes, AllocError>
     ensures { IfOk result (λ n. n ≡ out_name index.now) }
 {
-    let mut behind = Bytes::from_slice(alloc, index)?;
-    behind.extend(b")")?;
-    let mut bracketed = Bytes::from_slice(alloc, b"(")?;
-    bracketed.extend(behind.as_slice())?;
-    let mut name = Bytes::from_slice(alloc, b"expect_out")?;
-    name.extend(bracketed.as_slice())?;
-    Ok(name)
+    joined(alloc, b"expect_out(", index, b")")
 }
 
 /// Writes a variable of `expect_out`.
@@ -60,6 +55,23 @@ pub(crate) fn group_text<'a>(bytes: &'a [u8], group: &Option<Span>) -> &'a [u8]
     }
 }
 
+/// Writes the text of a group of a match in these bytes.
+fn write_group(
+    alloc: Global,
+    state: &mut State,
+    n: u32,
+    bytes: &[u8],
+    group: &Option<Span>,
+) -> Result<(), AllocError>
+    requires short { length bytes.now ≤ value_limit }
+    requires within { IfSome group.now (LiesBetween 0 (length bytes.now)) }
+    ensures { OnOk result (state.new ≡ assigned (out_name (decimal n ++ codes ",string")) (group_text bytes.now group.now) state.old) }
+{
+    let text = Bytes::from_slice(alloc, group_text(bytes, group))?;
+    let index = group_index(alloc, n)?;
+    write_out(alloc, state, index.as_slice(), text)
+}
+
 /// Writes the texts of the first nine groups of a match in these bytes.
 pub fn write_groups(
     alloc: Global,
@@ -75,9 +87,7 @@ pub fn write_groups(
         if n >= groups.len() {
             return Ok(());
         }
-        let text = Bytes::from_slice(alloc, group_text(bytes, &groups[n]))?;
-        let index = group_index(alloc, n as u32 + 1)?;
-        write_out(alloc, state, index.as_slice(), text)?;
+        write_group(alloc, state, n as u32 + 1, bytes, &groups[n])?;
     }
     Ok(())
 }

@@ -1,10 +1,13 @@
 //! Procedures: their parameters, and what calls bind them to.
 ghost use Rattle.std.specs.Prelude.{◌≡◌, ◌<◌, [], IfOk, MatchOption, Some, None, nat_lt};
 ghost use Rattle.dg_scope.specs.Scopes.{value_limit};
+ghost use Rattle.dg_words.specs.Canonical.{text_of_list};
+ghost use Rattle.dg_language.specs.declared.completion.Effect.{Effect as Change};
 ghost use Rattle.dg_language.specs.Procedures.{has_colons, name_fault, named, parameter_of, parameters, parameters_of, do_proc, binding, bindings, collects, value_for, longest};
 
 use crate::arguments::{split, three};
 use crate::completing::{does, miscounted};
+use crate::switch::is;
 use crate::values::{about_quoted, elements_in, text_of};
 use dg_bytes::{Bytes, Seq, TryCopy};
 use dg_language::{Binding, Completion, Effect, Parameter, Procedure};
@@ -70,8 +73,8 @@ fn parameter_of(
 {
     match fields {
         [] => Ok(Err(Bytes::from_slice(alloc, b"argument with no name")?)),
-        [name] => Ok(named(alloc, name, None)?),
-        [name, default] => Ok(named(alloc, name, Some(default.copy(alloc)?))?),
+        [name] => named(alloc, name, None),
+        [name, default] => named(alloc, name, Some(default.copy(alloc)?)),
         _ => {
             let message = about_quoted(
                 alloc,
@@ -108,9 +111,23 @@ fn parameters_of(alloc: Global, text: &[u8]) -> Result<Result<Seq<Parameter>, By
     ensures { IfOk result (λ r. r ≡ parameters_of text.now) }
 {
     match elements_in(alloc, text)? {
-        Ok(texts) => Ok(parameters(alloc, texts.as_slice())?),
+        Ok(texts) => parameters(alloc, texts.as_slice()),
         Err(message) => Ok(Err(message)),
     }
+}
+
+/// A name gets a procedure of these parameters and this body.
+fn definition(
+    alloc: Global,
+    name: &Bytes,
+    parameters: Seq<Parameter>,
+    body: &Bytes,
+) -> Result<Effect, AllocError>
+    ensures { IfOk result (λ e. e ≡ Change.Defines name.now (record { parameters = parameters; body = body.now })) }
+{
+    let body = body.copy(alloc)?;
+    let procedure = Procedure { parameters, body };
+    Ok(Effect::Defines(name.copy(alloc)?, procedure))
 }
 
 /// `proc name parameters body`.
@@ -122,13 +139,11 @@ pub(crate) fn procedure(
     ensures { IfOk result (λ r. r ≡ do_proc args.now) }
 {
     let Some((name, parameters, body)) = three(args) else {
-        return Ok(miscounted(alloc, b"proc")?);
+        return miscounted(alloc, b"proc");
     };
     match parameters_of(alloc, parameters.as_slice())? {
         Ok(parameters) => {
-            let body = body.copy(alloc)?;
-            let procedure = Procedure { parameters, body };
-            let definition = Effect::Defines(name.copy(alloc)?, procedure);
+            let definition = definition(alloc, name, parameters, body)?;
             Ok(does(alloc, definition))
         }
         Err(message) => Ok(Err(message)),
@@ -148,13 +163,13 @@ pub fn bindings(
     let mut args = args;
     'parameters: while let Some((parameter, others)) = split(left) {
         if collects(parameter, others) {
-            made.push(bind(alloc, &parameter.name, text_of(alloc, args)?)?)?;
+            made.push(bind_all(alloc, &parameter.name, args)?)?;
             return Ok(Some(made));
         }
         let Some((value, more)) = value_for(parameter, args) else {
             return Ok(None);
         };
-        made.push(bind(alloc, &parameter.name, value.copy(alloc)?)?)?;
+        made.push(bind(alloc, &parameter.name, value)?)?;
         left = others;
         args = more;
     }
@@ -168,7 +183,7 @@ pub fn bindings(
 fn collects(parameter: &Parameter, others: &[Parameter]) -> bool
     ensures { result ≡ collects parameter.now others.now }
 {
-    others.is_empty() && parameter.name.as_slice() == b"args".as_slice()
+    others.is_empty() && is(&parameter.name, b"args")
 }
 
 /// The value of a parameter, by the next argument or else by default, and the arguments behind it.
@@ -185,12 +200,22 @@ fn value_for<'a>(parameter: &'a Parameter, args: &'a [Bytes]) -> Option<(&'a Byt
 }
 
 /// A name and its value.
-fn bind(alloc: Global, name: &Bytes, value: Bytes) -> Result<Binding, AllocError>
-    ensures { IfOk result (λ b. b ≡ binding name.now value) }
+fn bind(alloc: Global, name: &Bytes, value: &Bytes) -> Result<Binding, AllocError>
+    ensures { IfOk result (λ b. b ≡ binding name.now value.now) }
 {
     Ok(Binding {
         name: name.copy(alloc)?,
-        value,
+        value: value.copy(alloc)?,
+    })
+}
+
+/// A name, whose value is the list of these.
+fn bind_all(alloc: Global, name: &Bytes, values: &[Bytes]) -> Result<Binding, AllocError>
+    ensures { IfOk result (λ b. b ≡ binding name.now (text_of_list values.now)) }
+{
+    Ok(Binding {
+        name: name.copy(alloc)?,
+        value: text_of(alloc, values)?,
     })
 }
 

@@ -94,19 +94,19 @@ pub(crate) fn result(
     ensures { IfOk result (λ r. r ≡ do_result which args.now) }
 {
     let Some((message, others)) = split(args) else {
-        return Ok(miscounted(alloc, name_of(which))?);
+        return miscounted(alloc, name_of(which));
     };
     if others.is_empty() {
-        return Ok(recorded(alloc, which, message, None)?);
+        return recorded(alloc, which, message, None);
     }
     let Some(text) = only(others) else {
-        return Ok(miscounted(alloc, name_of(which))?);
+        return miscounted(alloc, name_of(which));
     };
     if !takes_count(which) {
-        return Ok(miscounted(alloc, name_of(which))?);
+        return miscounted(alloc, name_of(which));
     }
     let Some(count) = count_of(text.as_slice()) else {
         return Ok(Err(Bytes::from_slice(alloc, b"bad count")?));
     };
-    Ok(recorded(alloc, which, message, Some(count))?)
+    recorded(alloc, which, message, Some(count))
 }

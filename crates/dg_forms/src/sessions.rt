@@ -1,12 +1,13 @@
 //! The words and the messages of spawn, send, close, wait and match_max, by expect(1).
-ghost use Rattle.std.specs.Prelude.{◌≡◌, ◌++◌, ◌≤◌, codes, length, IfOk, MatchResult, None, Ok, Err, false};
+ghost use Rattle.std.specs.Prelude.{◌≡◌, ◌++◌, ◌≤◌, codes, decimal, length, IfOk, MatchResult, None, Ok, Err, false};
+ghost use Rattle.std.specs.Option.{option_copied};
 ghost use Rattle.dg_sessions.specs.Views.{id_of};
 ghost use Rattle.dg_language.specs.SessionWords.{bad_flag, id_words, match_words, send_words, sent_text, spawn_words};
 ghost use Rattle.dg_language.specs.Sessions.{cannot_execute, end_text, kept_limit, not_open};
 
-use crate::arguments::split;
+use crate::arguments::{copied_text, split};
 use crate::switch::{is, is_flag};
-use crate::values::{with_quoted, wrong_count};
+use crate::values::{joined, with_number, with_quoted, wrong_count};
 use dg_bytes::{Bytes, TryCopy};
 use dg_expr::number;
 use dg_transcript::Entry;
@@ -25,8 +26,7 @@ pub fn session_id(alloc: Global, number: u32) -> Result<Bytes, AllocError>
     ensures value { IfOk result (λ id. id ≡ id_of number) }
     ensures short { IfOk result (λ id. length id ≤ 13) }
 {
-    let mut id = Bytes::from_slice(alloc, b"exp")?;
-    id.extend(number.to_string(alloc)?.as_bytes())?;
+    let id = with_number(alloc, b"exp", number)?;
     Ok(id)
 }
 
@@ -34,11 +34,7 @@ pub fn session_id(alloc: Global, number: u32) -> Result<Bytes, AllocError>
 pub fn not_open(alloc: Global, id: &[u8]) -> Result<Bytes, AllocError>
     ensures { IfOk result (λ b. b ≡ not_open id.now) }
 {
-    let mut behind = Bytes::from_slice(alloc, id)?;
-    behind.extend(b" not open")?;
-    let mut message = Bytes::from_slice(alloc, b"spawn id ")?;
-    message.extend(behind.as_slice())?;
-    Ok(message)
+    joined(alloc, b"spawn id ", id, b" not open")
 }
 
 /// The message of a program that could not be started.
@@ -71,13 +67,13 @@ pub fn spawn_words(alloc: Global, args: &[Bytes]) -> Result<Result<&[Bytes], Byt
 /// The text that `send` sends, behind its flags.
 fn sent_text(
     alloc: Global,
-    id: Option<Bytes>,
+    id: Option<&Bytes>,
     left: &[Bytes],
 ) -> Result<Result<(Option<Bytes>, Bytes), Bytes>, AllocError>
-    ensures { IfOk result (λ r. r ≡ sent_text id left.now) }
+    ensures { IfOk result (λ r. r ≡ sent_text (option_copied id.entry) left.now) }
 {
     match left {
-        [text] => Ok(Ok((id, text.copy(alloc)?))),
+        [text] => Ok(Ok((copied_text(alloc, id)?, text.copy(alloc)?))),
         _ => Ok(Err(wrong_count(alloc, b"send")?)),
     }
 }
@@ -98,10 +94,10 @@ pub fn send_words(
             return Ok(Err(wrong_count(alloc, b"send")?));
         };
         if !is_flag(word) {
-            return Ok(sent_text(alloc, id, left)?);
+            return sent_text(alloc, id, left);
         }
         if is(word, b"--") {
-            return Ok(sent_text(alloc, id, behind)?);
+            return sent_text(alloc, id, behind);
         }
         if !is(word, b"-i") {
             return Ok(Err(bad_flag(alloc, word)?));
@@ -109,7 +105,7 @@ pub fn send_words(
         let Some((value, others)) = split(behind) else {
             return Ok(Err(wrong_count(alloc, b"send")?));
         };
-        id = Some(value.copy(alloc)?);
+        id = Some(value);
         left = others;
     }
 }
@@ -128,7 +124,7 @@ pub fn id_words(
     let mut left = args;
     'flags: loop {
         let Some((word, behind)) = split(left) else {
-            return Ok(Ok(id));
+            return Ok(Ok(copied_text(alloc, id)?));
         };
         if !is_flag(word) {
             return Ok(Err(wrong_count(alloc, name)?));
@@ -139,7 +135,7 @@ pub fn id_words(
         let Some((value, others)) = split(behind) else {
             return Ok(Err(wrong_count(alloc, name)?));
         };
-        id = Some(value.copy(alloc)?);
+        id = Some(value);
         left = others;
     }
 }
@@ -186,41 +182,33 @@ pub fn kept_limit(text: &[u8]) -> Option<usize>
     }
 }
 
+/// How a child ended that a signal has killed.
+#[tactic(auto, using(std::proofs::Common::append_assoc))]
+fn killed_text(alloc: Global, signal: u32) -> Result<Bytes, AllocError>
+    ensures { IfOk result (λ b. b ≡ codes " 0 0 CHILDKILLED SIG" ++ (decimal signal ++ codes " signal")) }
+{
+    let mut text = with_number(alloc, b" 0 0 CHILDKILLED SIG", signal)?;
+    text.extend(b" signal")?;
+    Ok(text)
+}
+
 /// How a child ended, as `wait` tells it behind its session's name.
 fn end_text(alloc: Global, entry: &Entry) -> Result<Bytes, AllocError>
     ensures { IfOk result (λ b. b ≡ end_text entry.now) }
 {
-    let mut text = Bytes::new(alloc);
     match entry {
-        Entry::Exited(status) => {
-            text.extend(b" 0 ")?;
-            text.extend(u32::from(*status).to_string(alloc)?.as_bytes())?;
-        }
-        Entry::Killed(signal) => {
-            let mut name = Bytes::from_slice(
-                alloc,
-                u32::from(*signal).to_string(alloc)?.as_bytes(),
-            )?;
-            name.extend(b" signal")?;
-            text.extend(b" 0 0 CHILDKILLED SIG")?;
-            text.extend(name.as_slice())?;
-        }
-        Entry::NoWait(code) => {
-            text.extend(b" -1 ")?;
-            text.extend(u32::from(code.number()).to_string(alloc)?.as_bytes())?;
-        }
-        _ => {}
+        Entry::Exited(status) => with_number(alloc, b" 0 ", u32::from(*status)),
+        Entry::Killed(signal) => killed_text(alloc, u32::from(*signal)),
+        Entry::NoWait(code) => with_number(alloc, b" -1 ", u32::from(code.number())),
+        _ => Ok(Bytes::new(alloc)),
     }
-    Ok(text)
 }
 
 /// The value of `wait`, of a session's name and the entry of its child's end.
 pub fn wait_value(alloc: Global, id: &[u8], entry: &Entry) -> Result<Bytes, AllocError>
     ensures { IfOk result (λ b. b ≡ codes "0 " ++ (id.now ++ end_text entry.now)) }
 {
-    let mut behind = Bytes::from_slice(alloc, id)?;
-    behind.extend(end_text(alloc, entry)?.as_slice())?;
-    let mut value = Bytes::from_slice(alloc, b"0 ")?;
-    value.extend(behind.as_slice())?;
+    let end = end_text(alloc, entry)?;
+    let value = joined(alloc, b"0 ", id, end.as_slice())?;
     Ok(value)
 }

@@ -89,7 +89,7 @@ fn pairs_fault(alloc: Global, pairs: &[Bytes]) -> Result<Option<Bytes>, AllocErr
             return Ok(Some(message));
         };
         if others.is_empty() {
-            return Ok(last_fault(alloc, pattern, body)?);
+            return last_fault(alloc, pattern, body);
         }
         left = others;
     }
@@ -128,10 +128,10 @@ fn taken(
         return Ok(Err(wrong_count(alloc, b"switch")?));
     };
     if !others.is_empty() {
-        return Ok(among(alloc, matching, text, pairs)?);
+        return among(alloc, matching, text, pairs);
     }
     match elements_in(alloc, first.as_slice())? {
-        Ok(pairs) => Ok(among(alloc, matching, text, pairs.as_slice())?),
+        Ok(pairs) => among(alloc, matching, text, pairs.as_slice()),
         Err(message) => Ok(Err(message)),
     }
 }
@@ -179,10 +179,10 @@ fn behind_kind(
     ensures { IfOk result (λ r. r ≡ behind_kind matching args.now (flag_in args.now)) }
 {
     let Some((flag, others)) = flag_in(args) else {
-        return Ok(taken(alloc, matching, args)?);
+        return taken(alloc, matching, args);
     };
     if is(flag, b"--") {
-        return Ok(taken(alloc, matching, others)?);
+        return taken(alloc, matching, others);
     }
     let message = with_quoted(alloc, b"bad flag ", flag.as_slice())?;
     Ok(Err(message))
@@ -195,10 +195,10 @@ pub fn switched(alloc: Global, args: &[Bytes]) -> Result<Result<Option<Bytes>, B
     ensures { IfOk result (λ r. r ≡ switched args.now) }
 {
     let Some((flag, others)) = flag_in(args) else {
-        return Ok(taken(alloc, Matching::Exact, args)?);
+        return taken(alloc, Matching::Exact, args);
     };
     match matching_of(flag) {
-        Some(matching) => Ok(behind_kind(alloc, matching, others)?),
-        None => Ok(behind_kind(alloc, Matching::Exact, args)?),
+        Some(matching) => behind_kind(alloc, matching, others),
+        None => behind_kind(alloc, Matching::Exact, args),
     }
 }

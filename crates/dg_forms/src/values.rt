@@ -1,5 +1,5 @@
 //! The messages of errors.
-ghost use Rattle.std.specs.Prelude.{◌≡◌, ◌++◌, ◌∷◌, [], codes, IfOk};
+ghost use Rattle.std.specs.Prelude.{◌≡◌, ◌++◌, ◌∷◌, [], codes, decimal, IfOk};
 ghost use Rattle.dg_language.specs.Evaluation.{quoted, wrong_count, outside_of_a_loop, list_in};
 ghost use Rattle.dg_cmds.specs.Lists.{concat_of};
 ghost use Rattle.dg_language.specs.Switching.{text_in};
@@ -11,19 +11,43 @@ use dg_cmds::{CmdFault, concat};
 use dg_words::{WordFault, fault_text, list_elements, list_text, split_list};
 use std::alloc::{AllocError, Global};
 
+/// Three texts, one after another.
+#[tactic(auto, using(std::proofs::Common::append_assoc))]
+pub(crate) fn joined(
+    alloc: Global,
+    first: &[u8],
+    second: &[u8],
+    third: &[u8],
+) -> Result<Bytes, AllocError>
+    ensures { IfOk result (λ b. b ≡ first.now ++ (second.now ++ third.now)) }
+{
+    let mut text = Bytes::from_slice(alloc, first)?;
+    text.extend(second)?;
+    text.extend(third)?;
+    Ok(text)
+}
+
+/// A number in decimal, behind a text.
+pub(crate) fn with_number(alloc: Global, text: &[u8], number: u32) -> Result<Bytes, AllocError>
+    ensures { IfOk result (λ b. b ≡ text.now ++ decimal number) }
+{
+    let mut whole = Bytes::from_slice(alloc, text)?;
+    whole.extend(number.to_string(alloc)?.as_bytes())?;
+    Ok(whole)
+}
+
 /// A name between quotes, behind a text.
+#[tactic(auto, using(std::proofs::Common::append_assoc))]
 pub(crate) fn with_quoted(alloc: Global, text: &[u8], name: &[u8]) -> Result<Bytes, AllocError>
     ensures { IfOk result (λ b. b ≡ text.now ++ quoted name.now) }
 {
-    let mut between = Bytes::from_slice(alloc, b"\"")?;
-    between.extend(name)?;
-    between.extend(b"\"")?;
-    let mut message = Bytes::from_slice(alloc, text)?;
-    message.extend(between.as_slice())?;
+    let mut message = joined(alloc, text, b"\"", name)?;
+    message.extend(b"\"")?;
     Ok(message)
 }
 
 /// A name between quotes, behind a text and before another.
+#[tactic(auto, using(std::proofs::Common::append_assoc))]
 pub fn about_quoted(
     alloc: Global,
     before: &[u8],
@@ -32,10 +56,8 @@ pub fn about_quoted(
 ) -> Result<Bytes, AllocError>
     ensures { IfOk result (λ b. b ≡ before.now ++ (quoted name.now ++ behind.now)) }
 {
-    let mut between = with_quoted(alloc, b"", name)?;
-    between.extend(behind)?;
-    let mut message = Bytes::from_slice(alloc, before)?;
-    message.extend(between.as_slice())?;
+    let mut message = with_quoted(alloc, before, name)?;
+    message.extend(behind)?;
     Ok(message)
 }
 

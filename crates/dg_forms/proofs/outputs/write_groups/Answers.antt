@@ -4,7 +4,7 @@ use Rattle.dg_forms.proofs.outputs.write_groups.Goals as goal
 
 pub loop-n-preserved : goal.loop-n-preserved
 loop-n-preserved c =
-    rw (c.in_ok-write_out.ensures, c.as_slice.ensures, c.in_ok-index.ensures, c.in_ok-text.ensures, c.group_text.ensures.text)
+    rw c.in_ok-write_group.ensures
     (sym (groups-next c.args.bytes.now c.args.groups.now c.loop-n.n _ c.loop-n.state c.loop-n-test.true (omega arith)) ∙ c.loop-n.invariant)
 
 pub returns : goal.returns

@@ -6,7 +6,7 @@ use Rattle.dg_forms.proofs.procedures.bindings.Goals as goal
 pub returns-then-collects : goal.returns-then-collects
 returns-then-collects c =
     let all = bindings-collected c.parameters.made _ c.parameters.args.now _ _ c.in-Some.ensures (sym c.collects.ensures ∙ c.if-collects.true) in
-    rw (c.in_ok-push.ensures.ok, c.in_ok-bind.ensures, c.in_ok-text_of.ensures) (sym all ∙ c.parameters.invariant)
+    rw (c.in_ok-push.ensures.ok, c.in_ok-bind_all.ensures) (sym all ∙ c.parameters.invariant)
 
 pub returns-in_default-value_for : goal.returns-in_default-value_for
 returns-in_default-value_for c =
@@ -16,7 +16,7 @@ returns-in_default-value_for c =
 pub parameters-preserved : goal.parameters-preserved
 parameters-preserved c =
     let next = bindings-next c.parameters.made _ c.parameters.args.now _ _ c.in-Some.ensures _ _ (sym c.collects.ensures ∙ c.if-collects.false) c.in-Some-value_for.ensures in
-    rw (c.in_ok-push-2.ensures.ok, c.in_ok-bind-2.ensures, c.in_ok-copy.ensures) (next ∙ c.parameters.invariant)
+    rw (c.in_ok-push-2.ensures.ok, c.in_ok-bind.ensures) (next ∙ c.parameters.invariant)
 
 pub returns-then-not-is_empty : goal.returns-then-not-is_empty
 returns-then-not-is_empty c =

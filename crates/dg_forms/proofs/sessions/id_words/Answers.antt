@@ -1,12 +1,10 @@
-use Rattle.std.proofs.Common.{◌∙◌, ap, sym}
-use Rattle.std.specs.Prelude.{Some}
-use Rattle.dg_language.specs.SessionWords.{id_words}
+use Rattle.std.proofs.Common.{◌∙◌, sym}
+use Rattle.std.specs.Option.{option_copied}
 use Rattle.dg_forms.proofs.SessionLemmas.{id-more}
 use Rattle.dg_forms.proofs.sessions.id_words.Goals as goal
 
 pub flags-preserved : goal.flags-preserved
 flags-preserved c =
-    ap (λ x. id_words c.args.name.now (Some x) c.in-Some-split.others.now) c.in_ok-copy.ensures
-    ∙ sym (id-more c.args.name.now c.flags.id c.flags.left.now c.in-Some.word.now c.in-Some-split.value.now c.in-Some.behind.now c.in-Some-split.others.now
+    sym (id-more c.args.name.now (option_copied c.flags.id) c.flags.left.now c.in-Some.word.now c.in-Some-split.value.now c.in-Some.behind.now c.in-Some-split.others.now
     c.in-Some.ensures c.in-Some-split.ensures (sym c.is_flag.ensures ∙ c.if-not-is_flag.false) (sym c.is.ensures ∙ c.if-not-is.false))
     ∙ c.flags.invariant
