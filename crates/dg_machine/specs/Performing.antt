@@ -6,8 +6,10 @@ use Rattle.dg_sessions.specs.Views.{SessionView, session_at}
 use Rattle.dg_world.specs.declared.question.Answer.TheVariants as answer
 use Rattle.dg_language.specs.Play.{Asks, lookup}
 use Rattle.dg_language.specs.State.{State, learn}
-use Rattle.dg_language.specs.Sessions.{Told, Late, entry_for, perform}
+use Rattle.dg_language.specs.Sessions.{Told, Late, depart, entry_for, perform}
 use Rattle.dg_machine.specs.declared.machine.Machine.{Machine}
+use Rattle.dg_machine.specs.declared.acting.NextEntry.{NextEntry}
+use Rattle.dg_machine.specs.declared.acting.NextEntry.TheVariants.{Told as IsTold, Unanswered, Missing}
 use Rattle.dg_machine.specs.declared.frame.Came.{Came}
 use Rattle.dg_machine.specs.declared.frame.Came.TheVariants.{Stands, Over, Passed, Answered, Late as TooLate}
 use Rattle.dg_machine.specs.Acting.{UsesOne, Acts, SameKind}
@@ -16,6 +18,14 @@ use Rattle.dg_machine.specs.Meaning.{ends_with}
 -- the next entry of the session was told, and is this
 abbrev pub IsNext : ℕ → Action → Entry → State → Type 0
 IsNext n a e s = (v : SessionView) × (session_at n s.sessions ≡ Some v) × (lookup (entry_for n v a s).question s.known ≡ Some (answer.Entry e))
+
+-- what is known of the next entry of the session: this one; a question for it that stands; or that there is none
+abbrev pub KnowsNext : ℕ → Action → State → NextEntry → Type 0
+KnowsNext n a s (IsTold e) = IsNext n a e s
+KnowsNext n a s (Unanswered ask) =
+    ((told : Told) (late : Late) → perform n a told late s ≡ Asks ask (λ x. perform n a told late (learn ask.question x s)))
+    × (lookup ask.question s.known ≡ None)
+KnowsNext n a s Missing = (told : Told) (late : Late) → perform n a told late s ≡ depart s
 
 -- To a question that stands, and nothing has changed; to the end of the whole test; to the entry behind it, or to its answer or
 -- its limit, and but for the sessions nothing has changed. Behind it the second action is what is left of the first.

@@ -8,7 +8,7 @@ ghost use Rattle.dg_language.specs.Evaluation.{Ending};
 ghost use Rattle.dg_machine.specs.declared.frame.Control.{Control};
 ghost use Rattle.dg_machine.specs.Acting.{acting, after_weight, naming, told_after};
 ghost use Rattle.dg_machine.specs.Meaning.{all_back, weight_of, ends_with, Comes, Goes, GoesAs};
-ghost use Rattle.dg_machine.specs.Performing.{IsNext, Performs};
+ghost use Rattle.dg_machine.specs.Performing.{IsNext, KnowsNext, Performs};
 
 use crate::boxed::Boxed;
 use crate::frame::{Acting, After, Came, Closing, Frame, Pace};
@@ -20,6 +20,17 @@ use dg_sessions::{Session, id_of};
 use dg_transcript::{Act, Action, Entry};
 use dg_world::{Answer, EntryPlace, Question};
 use std::alloc::{AllocError, Global};
+
+/// What is known of the next entry of a session.
+#[derive(Drop)]
+enum NextEntry {
+    /// It is this one.
+    Told(Entry),
+    /// This question for it has no answer yet.
+    Unanswered(Boxed<Ask>),
+    /// There is none.
+    Missing,
+}
 
 impl Machine {
     /// A child did not do what was asked of it: the whole test ends.
@@ -72,25 +83,42 @@ impl Machine {
             let closing = self.cut(alloc, b"too many transcript entries")?;
             return Ok(Came::Over(closing));
         }
+        let next = self.next_entry(alloc, number, action)?;
+        match next {
+            NextEntry::Told(entry) => self.take_entry(alloc, number, action, entry),
+            NextEntry::Unanswered(ask) => Ok(Came::Stands(ask)),
+            NextEntry::Missing => {
+                let closing = self.depart(alloc)?;
+                Ok(Came::Over(closing))
+            }
+        }
+    }
+
+    /// What is known of the next entry of a session, for an action.
+    fn next_entry(
+        &self,
+        alloc: Global,
+        number: u32,
+        action: &Action,
+    ) -> Result<NextEntry, AllocError>
+        requires { self.now.state.sessions.used < most_entries }
+        ensures { IfOk result (KnowsNext number action.now self.now.state) }
+    {
         let Some(session) = self.state.session(number) else {
-            let closing = self.depart(alloc)?;
-            return Ok(Came::Over(closing));
+            return Ok(NextEntry::Missing);
         };
         if let Some(entry) = self.state.last_entry(number, session.place()) {
-            let entry = entry.copy(alloc)?;
-            return Ok(self.take_entry(alloc, number, action, entry)?);
+            return Ok(NextEntry::Told(entry.copy(alloc)?));
         }
         let ask = self.ask_for_entry(alloc, number, session, action)?;
         let Some(answer) = self.state.answer_to(&ask.question) else {
             let asked = Boxed::new(alloc, ask)?;
-            return Ok(Came::Stands(asked));
+            return Ok(NextEntry::Unanswered(asked));
         };
         let Answer::Entry(entry) = answer else {
-            let closing = self.depart(alloc)?;
-            return Ok(Came::Over(closing));
+            return Ok(NextEntry::Missing);
         };
-        let entry = entry.copy(alloc)?;
-        Ok(self.take_entry(alloc, number, action, entry)?)
+        Ok(NextEntry::Told(entry.copy(alloc)?))
     }
 
     /// An action on a session comes to its next entry, which was told.
@@ -190,12 +218,10 @@ impl Machine {
         ensures { IfOk result (λ p. (more : Play Ending) → Goes (told_after after session (all_back self.old.stack) entry.now self.old.state more) self.old.state.known (weight_of self.old + after_weight after) self.new p) }
     {
         match after {
-            After::Spawned(words) => {
-                Ok(self.after_spawn(alloc, session, words.as_slice(), entry)?)
-            }
-            After::Reported => Ok(self.report(alloc, session, entry)?),
-            After::ToWait => Ok(self.wait_for(session)?),
-            After::Waited => Ok(self.tell_end(alloc, session, entry)?),
+            After::Spawned(words) => self.after_spawn(alloc, session, words.as_slice(), entry),
+            After::Reported => self.report(alloc, session, entry),
+            After::ToWait => self.wait_for(session),
+            After::Waited => self.tell_end(alloc, session, entry),
         }
     }
 

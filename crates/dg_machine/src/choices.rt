@@ -195,12 +195,12 @@ impl Machine {
         ensures { IfOk result (GoesAs (do_choice (evaluate depth) which args.now) (2 ^ 249) self.old self.new) }
     {
         match which {
-            ChoiceCommand::Expr => Ok(self.expr(alloc, args, depth)?),
-            ChoiceCommand::Eval => Ok(self.eval(alloc, args, depth)?),
-            ChoiceCommand::If => Ok(self.branch(alloc, args, depth)?),
-            ChoiceCommand::Switch => Ok(self.switch(alloc, args, depth)?),
-            ChoiceCommand::While => Ok(self.repeat_while(alloc, args, depth)?),
-            ChoiceCommand::For => Ok(self.repeat_for(alloc, args, depth)?),
+            ChoiceCommand::Expr => self.expr(alloc, args, depth),
+            ChoiceCommand::Eval => self.eval(alloc, args, depth),
+            ChoiceCommand::If => self.branch(alloc, args, depth),
+            ChoiceCommand::Switch => self.switch(alloc, args, depth),
+            ChoiceCommand::While => self.repeat_while(alloc, args, depth),
+            ChoiceCommand::For => self.repeat_for(alloc, args, depth),
         }
     }
 }

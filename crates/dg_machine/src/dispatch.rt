@@ -44,7 +44,7 @@ impl Machine {
                 self.end(completion.code, completion.value);
                 Ok(Pace::Moved)
             }
-            Err(message) => Ok(self.fail(alloc, message)?),
+            Err(message) => self.fail(alloc, message),
         }
     }
 
@@ -60,16 +60,16 @@ impl Machine {
         ensures { IfOk result (RunsAs (builtin (evaluate depth) which args.now) self.old self.new) }
     {
         match which {
-            Builtin::Immediate(which) => Ok(self.immediate(alloc, which, args)?),
+            Builtin::Immediate(which) => self.immediate(alloc, which, args),
             Builtin::Variable(which) => Ok(self.variable(alloc, which, args)?),
-            Builtin::Control(which) => Ok(self.control(alloc, which, args, depth)?),
-            Builtin::Choice(which) => Ok(self.choice(alloc, which, args, depth)?),
+            Builtin::Control(which) => self.control(alloc, which, args, depth),
+            Builtin::Choice(which) => self.choice(alloc, which, args, depth),
             Builtin::Target(which) => Ok(self.target(alloc, which, args)?),
-            Builtin::Flag(which) => Ok(self.flag(alloc, which, args)?),
+            Builtin::Flag(which) => self.flag(alloc, which, args),
             Builtin::Session(which) => Ok(self.session(alloc, which, args)?),
-            Builtin::LoadLib => Ok(self.load_lib(alloc, args, depth)?),
-            Builtin::Expect => Ok(self.expect(alloc, args, depth)?),
-            Builtin::Regexp => Ok(self.regexp(alloc, args)?),
+            Builtin::LoadLib => self.load_lib(alloc, args, depth),
+            Builtin::Expect => self.expect(alloc, args, depth),
+            Builtin::Regexp => self.regexp(alloc, args),
         }
     }
 
@@ -82,13 +82,13 @@ impl Machine {
         match run_pure(alloc, name, args) {
             None => {
                 let message = invalid_command(alloc, name)?;
-                Ok(self.fail(alloc, message)?)
+                self.fail(alloc, message)
             }
             Some(Ok(value)) => {
                 self.end(Code::Done, value);
                 Ok(Pace::Moved)
             }
-            Some(Err(CmdFault::Tcl(message))) => Ok(self.fail(alloc, message)?),
+            Some(Err(CmdFault::Tcl(message))) => self.fail(alloc, message),
             Some(Err(CmdFault::TooLong)) => {
                 let closing = self.cut(alloc, b"value too long")?;
                 Ok(Pace::Over(closing))

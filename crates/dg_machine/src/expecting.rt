@@ -150,8 +150,8 @@ impl Machine {
         ensures { IfOk result (λ p. Comes (awaiting reach wait self.old.state (all_back self.old.stack)) self.old.state.known (weight_of self.old + 256 * wait.left + reach_weight reach) self.new p) }
     {
         match reach {
-            Reach::Trying => Ok(self.begin_round(alloc, wait)?),
-            Reach::Reading(limit) => Ok(self.read_on(alloc, wait, limit)?),
+            Reach::Trying => self.begin_round(alloc, wait),
+            Reach::Reading(limit) => self.read_on(alloc, wait, limit),
             Reach::InAction => Ok(self.go_up(Code::Done, Bytes::new(alloc))),
         }
     }
@@ -256,7 +256,7 @@ impl Machine {
     {
         let Some(limit) = limit_of(text) else {
             let message = expected_integer(alloc, text)?;
-            return Ok(self.fail(alloc, message)?);
+            return self.fail(alloc, message);
         };
         let Limiting {
             timeout: _,

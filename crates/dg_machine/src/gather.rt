@@ -19,15 +19,14 @@ use std::alloc::{AllocError, Global};
 use std::mem;
 
 /// The name of an element.
+#[tactic(auto, using(std::proofs::Common::append_assoc))]
 fn element(alloc: Global, name: &[u8], index: &[u8]) -> Result<Bytes, AllocError>
     ensures { IfOk result (λ b. b ≡ element name.now index.now) }
 {
-    let mut behind = Bytes::from_slice(alloc, index)?;
-    behind.extend(b")")?;
-    let mut between = Bytes::from_slice(alloc, b"(")?;
-    between.extend(behind.as_slice())?;
     let mut element = Bytes::from_slice(alloc, name)?;
-    element.extend(between.as_slice())?;
+    element.extend(b"(")?;
+    element.extend(index)?;
+    element.extend(b")")?;
     Ok(element)
 }
 

@@ -73,9 +73,8 @@ impl Machine {
         requires { self.old.control ≡ Control.Go }
         ensures { IfOk result (Opens open_tool (opening_weight Opening.Tool) self.old self.new) }
     {
-        let question = Question::Tool;
-        let Some(answer) = self.state.answer_to(&question) else {
-            let ask = plain_ask(alloc, question)?;
+        let Some(answer) = self.state.answer_to(&Question::Tool) else {
+            let ask = plain_ask(alloc, Question::Tool)?;
             return Ok(Pace::Stands(ask));
         };
         let name = tool_library(alloc, tool_of(answer))?;

@@ -23,8 +23,7 @@ impl Machine {
         }
         let Some(value) = self.state.value_of(name) else {
             let message = cannot_read(alloc, name)?;
-            let pace = self.fail(alloc, message)?;
-            return Ok(pace);
+            return self.fail(alloc, message);
         };
         let value = value.copy(alloc)?;
         self.end(Code::Done, value);

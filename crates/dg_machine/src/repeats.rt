@@ -144,10 +144,10 @@ impl Machine {
         ensures { IfOk result (λ p. Comes (next_script repetition self.old.state (all_back self.old.stack)) self.old.state.known (weight_of self.old + 16) self.new p) }
     {
         let Some(next) = &repetition.next else {
-            return Ok(self.next_test(alloc, repetition)?);
+            return self.next_test(alloc, repetition);
         };
         let commands = next.script(alloc)?;
-        Ok(self.begin_next(alloc, repetition, commands)?)
+        self.begin_next(alloc, repetition, commands)
     }
 
     /// A loop goes on behind its first script.
@@ -245,10 +245,10 @@ impl Machine {
         ensures { IfOk result (λ p. Comes (repeating repetition repetition.stage (all_back self.old.stack) code value self.old.state) self.old.state.known (weight_of self.old + stage_weight repetition.stage) self.new p) }
     {
         match repetition.stage {
-            Stage::Start => Ok(self.behind_start(alloc, repetition, code, value)?),
-            Stage::Test => Ok(self.behind_test(alloc, repetition, code, value)?),
-            Stage::Body => Ok(self.behind_body(alloc, repetition, code, value)?),
-            Stage::Next => Ok(self.behind_next(alloc, repetition, code, value)?),
+            Stage::Start => self.behind_start(alloc, repetition, code, value),
+            Stage::Test => self.behind_test(alloc, repetition, code, value),
+            Stage::Body => self.behind_body(alloc, repetition, code, value),
+            Stage::Next => self.behind_next(alloc, repetition, code, value),
         }
     }
 

@@ -317,11 +317,11 @@ impl Machine {
         ensures { IfOk result (RunsAs (do_session which args.now) self.old self.new) }
     {
         match which {
-            SessionCommand::Spawn => Ok(self.spawn(alloc, args)?),
-            SessionCommand::Send => Ok(self.send(alloc, args)?),
-            SessionCommand::Close => Ok(self.close(alloc, args)?),
-            SessionCommand::Wait => Ok(self.wait(alloc, args)?),
-            SessionCommand::MatchMax => Ok(self.match_max(alloc, args)?),
+            SessionCommand::Spawn => self.spawn(alloc, args),
+            SessionCommand::Send => self.send(alloc, args),
+            SessionCommand::Close => self.close(alloc, args),
+            SessionCommand::Wait => self.wait(alloc, args),
+            SessionCommand::MatchMax => self.match_max(alloc, args),
         }
     }
 }

@@ -42,12 +42,12 @@ impl Machine {
         ensures { IfOk result (λ p. Comes (go frame self.old.state (all_back self.old.stack)) self.old.state.known (weight_of self.old + frame_weight frame) self.new p) }
     {
         match frame {
-            Frame::Opening { what } => Ok(self.open(alloc, what)?),
+            Frame::Opening { what } => self.open(alloc, what),
             Frame::Sequence { commands, depth } => {
-                Ok(self.sequence(alloc, commands, Bytes::new(alloc), depth)?)
+                self.sequence(alloc, commands, Bytes::new(alloc), depth)
             }
-            Frame::Gathering { making, depth } => Ok(self.gather(alloc, making, depth)?),
-            Frame::Running { words, depth } => Ok(self.run_command(alloc, words, depth)?),
+            Frame::Gathering { making, depth } => self.gather(alloc, making, depth),
+            Frame::Running { words, depth } => self.run_command(alloc, words, depth),
             Frame::Catching { name: _ }
             | Frame::Calling
             | Frame::Loading
@@ -58,18 +58,16 @@ impl Machine {
                 self.end(Code::Done, Bytes::new(alloc));
                 Ok(Pace::Moved)
             }
-            Frame::Looping { rounds } => Ok(self.go_round(alloc, rounds)?),
-            Frame::Unsetting { complains, names } => {
-                Ok(self.unset_next(alloc, complains, names)?)
-            }
-            Frame::Calculating { calculation } => Ok(self.compute(alloc, calculation)?),
-            Frame::Acting { acting } => Ok(self.act(alloc, acting)?),
-            Frame::Naming { session } => Ok(self.name_session(alloc, session)?),
-            Frame::Expecting { words, depth } => Ok(self.expect_words(alloc, words, depth)?),
-            Frame::Limiting { limiting } => Ok(self.seek_limit(alloc, limiting)?),
-            Frame::Compiling { compiling } => Ok(self.compile(alloc, compiling)?),
-            Frame::Awaiting { reach, wait } => Ok(self.await_output(alloc, reach, wait)?),
-            Frame::Giving { names, values } => Ok(self.give_parts(alloc, names, values)?),
+            Frame::Looping { rounds } => self.go_round(alloc, rounds),
+            Frame::Unsetting { complains, names } => { self.unset_next(alloc, complains, names) }
+            Frame::Calculating { calculation } => self.compute(alloc, calculation),
+            Frame::Acting { acting } => self.act(alloc, acting),
+            Frame::Naming { session } => self.name_session(alloc, session),
+            Frame::Expecting { words, depth } => self.expect_words(alloc, words, depth),
+            Frame::Limiting { limiting } => self.seek_limit(alloc, limiting),
+            Frame::Compiling { compiling } => self.compile(alloc, compiling),
+            Frame::Awaiting { reach, wait } => self.await_output(alloc, reach, wait),
+            Frame::Giving { names, values } => self.give_parts(alloc, names, values),
         }
     }
 
@@ -80,13 +78,13 @@ impl Machine {
         ensures { IfOk result (λ p. Comes (go frame self.old.state (all_back self.old.stack)) self.old.state.known (weight_of self.old + frame_weight frame) self.new p) }
     {
         match frame {
-            Frame::Gathering { making, depth } => Ok(self.gather(alloc, making, depth)?),
-            Frame::Calculating { calculation } => Ok(self.compute(alloc, calculation)?),
+            Frame::Gathering { making, depth } => self.gather(alloc, making, depth),
+            Frame::Calculating { calculation } => self.compute(alloc, calculation),
             Frame::Sequence { commands, depth } => {
-                Ok(self.sequence(alloc, commands, Bytes::new(alloc), depth)?)
+                self.sequence(alloc, commands, Bytes::new(alloc), depth)
             }
-            Frame::Awaiting { reach, wait } => Ok(self.await_output(alloc, reach, wait)?),
-            frame => Ok(self.resume_any(alloc, frame)?),
+            Frame::Awaiting { reach, wait } => self.await_output(alloc, reach, wait),
+            frame => self.resume_any(alloc, frame),
         }
     }
 
@@ -96,8 +94,8 @@ impl Machine {
         ensures { IfOk result (λ p. Comes (looping rounds rounds.given self.old.state (all_back self.old.stack)) self.old.state.known (weight_of self.old + frame_weight (Frame.Looping rounds)) self.new p) }
     {
         match rounds.given {
-            None => Ok(self.next_round(alloc, rounds)?),
-            Some(at) => Ok(self.give_next(alloc, rounds, at)?),
+            None => self.next_round(alloc, rounds),
+            Some(at) => self.give_next(alloc, rounds, at),
         }
     }
 
@@ -124,7 +122,7 @@ impl Machine {
         ensures { IfOk result (λ p. Comes (if_done (λ v s. sequence (evaluate depth) commands v s (all_back self.old.stack)) (all_back self.old.stack) code value self.old.state) self.old.state.known (weight_of self.old + 3) self.new p) }
     {
         match code {
-            Code::Done => Ok(self.sequence(alloc, commands, value, depth)?),
+            Code::Done => self.sequence(alloc, commands, value, depth),
             Code::Failed | Code::Returned | Code::Broken | Code::Continued | Code::ExpContinued => {
                 Ok(self.go_up(code, value))
             }
@@ -144,7 +142,7 @@ impl Machine {
         ensures { IfOk result (λ p. Comes (if_done (λ v s. making_with making depth v s (all_back self.old.stack)) (all_back self.old.stack) code value self.old.state) self.old.state.known (weight_of self.old + budget making.purpose + 5 + 4 * length making.left) self.new p) }
     {
         match code {
-            Code::Done => Ok(self.add_and_gather(alloc, making, value, depth)?),
+            Code::Done => self.add_and_gather(alloc, making, value, depth),
             Code::Failed | Code::Returned | Code::Broken | Code::Continued | Code::ExpContinued => {
                 Ok(self.go_up(code, value))
             }
@@ -176,7 +174,7 @@ impl Machine {
         ensures { IfOk result (λ p. Comes (loop_after (λ s. next_round rounds rounds.values s (all_back self.old.stack)) (all_back self.old.stack) code value self.old.state) self.old.state.known (weight_of self.old + 5) self.new p) }
     {
         match code {
-            Code::Done | Code::Continued => Ok(self.next_round(alloc, rounds)?),
+            Code::Done | Code::Continued => self.next_round(alloc, rounds),
             Code::Broken => Ok(self.go_up(Code::Done, Bytes::new(alloc))),
             Code::Failed | Code::Returned | Code::ExpContinued => Ok(self.go_up(code, value)),
         }
@@ -196,28 +194,28 @@ impl Machine {
     {
         match frame {
             Frame::Opening { what: _ } => Ok(self.go_up(code, value)),
-            Frame::Preceding { next } => Ok(self.after_file(alloc, next, code, value)?),
+            Frame::Preceding { next } => self.after_file(alloc, next, code, value),
             Frame::Sequence { commands, depth } => {
-                Ok(self.after_command(alloc, commands, depth, code, value)?)
+                self.after_command(alloc, commands, depth, code, value)
             }
             Frame::Gathering { making, depth } => {
-                Ok(self.after_script(alloc, making, depth, code, value)?)
+                self.after_script(alloc, making, depth, code, value)
             }
             Frame::Running { words: _, depth: _ } => Ok(self.go_up(code, value)),
-            Frame::Catching { name } => Ok(self.caught(alloc, name, code, value)?),
-            Frame::Calling => Ok(self.after_call(alloc, code, value)?),
-            Frame::Loading => Ok(self.after_library(alloc, code, value)?),
-            Frame::Looping { rounds } => Ok(self.after_body(alloc, rounds, code, value)?),
+            Frame::Catching { name } => self.caught(alloc, name, code, value),
+            Frame::Calling => self.after_call(alloc, code, value),
+            Frame::Loading => self.after_library(alloc, code, value),
+            Frame::Looping { rounds } => self.after_body(alloc, rounds, code, value),
             Frame::Unsetting {
                 complains: _,
                 names: _,
             } => Ok(self.go_up(code, value)),
             Frame::Calculating { calculation } => {
-                Ok(self.after_operand(alloc, calculation, code, value)?)
+                self.after_operand(alloc, calculation, code, value)
             }
-            Frame::Writing => Ok(self.write_value(alloc, code, value)?),
-            Frame::Choosing { choice } => Ok(self.after_condition(alloc, choice, code, value)?),
-            Frame::Repeating { repetition } => Ok(self.repeat(alloc, repetition, code, value)?),
+            Frame::Writing => self.write_value(alloc, code, value),
+            Frame::Choosing { choice } => self.after_condition(alloc, choice, code, value),
+            Frame::Repeating { repetition } => self.repeat(alloc, repetition, code, value),
             Frame::Acting { acting: _ }
             | Frame::Naming { session: _ }
             | Frame::Expecting { words: _, depth: _ }
@@ -227,7 +225,7 @@ impl Machine {
                 names: _,
                 values: _,
             } => Ok(self.go_up(code, value)),
-            Frame::Awaiting { reach: _, wait } => Ok(self.after_action(alloc, wait, code, value)?),
+            Frame::Awaiting { reach: _, wait } => self.after_action(alloc, wait, code, value),
         }
     }
 
@@ -245,16 +243,16 @@ impl Machine {
     {
         match frame {
             Frame::Sequence { commands, depth } => {
-                Ok(self.after_command(alloc, commands, depth, code, value)?)
+                self.after_command(alloc, commands, depth, code, value)
             }
             Frame::Gathering { making, depth } => {
-                Ok(self.after_script(alloc, making, depth, code, value)?)
+                self.after_script(alloc, making, depth, code, value)
             }
             Frame::Calculating { calculation } => {
-                Ok(self.after_operand(alloc, calculation, code, value)?)
+                self.after_operand(alloc, calculation, code, value)
             }
-            Frame::Repeating { repetition } => Ok(self.repeat(alloc, repetition, code, value)?),
-            frame => Ok(self.give_back_any(alloc, frame, code, value)?),
+            Frame::Repeating { repetition } => self.repeat(alloc, repetition, code, value),
+            frame => self.give_back_any(alloc, frame, code, value),
         }
     }
 
@@ -296,8 +294,8 @@ impl Machine {
             return Ok(Pace::Over(Boxed::new(alloc, closing)?));
         };
         match control {
-            Control::Go => Ok(self.resume(alloc, frame)?),
-            Control::Ended { code, value } => Ok(self.give_back(alloc, frame, code, value)?),
+            Control::Go => self.resume(alloc, frame),
+            Control::Ended { code, value } => self.give_back(alloc, frame, code, value),
         }
     }
 

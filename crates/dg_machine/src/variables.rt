@@ -100,11 +100,9 @@ impl Machine {
     {
         let old = or_empty(alloc, self.state.value_of(name))?;
         if let Err(message) = elements_held(alloc, &old)? {
-            let pace = self.fail(alloc, message)?;
-            return Ok(pace);
+            return self.fail(alloc, message);
         }
-        let pace = self.store(alloc, name, old)?;
-        Ok(pace)
+        self.store(alloc, name, old)
     }
 
     /// A number more, as the value of a variable that can be used.
@@ -160,16 +158,13 @@ impl Machine {
         ensures { IfOk result (RunsAs (do_set args.now) self.old self.new) }
     {
         let Some((name, others)) = split(args) else {
-            let pace = self.wrong_count(alloc, b"set")?;
-            return Ok(pace);
+            return self.wrong_count(alloc, b"set");
         };
         if others.is_empty() {
-            let pace = self.read(alloc, name.as_slice())?;
-            return Ok(pace);
+            return self.read(alloc, name.as_slice());
         }
         let Some(value) = only(others) else {
-            let pace = self.wrong_count(alloc, b"set")?;
-            return Ok(pace);
+            return self.wrong_count(alloc, b"set");
         };
         let pace = self.write(alloc, name.as_slice(), value)?;
         Ok(pace)
@@ -276,17 +271,14 @@ impl Machine {
         ensures { IfOk result (RunsAs (do_info args.now) self.old self.new) }
     {
         let Some((subcommand, others)) = split(args) else {
-            let pace = self.wrong_count(alloc, b"info")?;
-            return Ok(pace);
+            return self.wrong_count(alloc, b"info");
         };
         if subcommand.as_slice() != b"exists".as_slice() {
             let message = Bytes::from_slice(alloc, b"unknown subcommand")?;
-            let pace = self.fail(alloc, message)?;
-            return Ok(pace);
+            return self.fail(alloc, message);
         }
         let Some(name) = only(others) else {
-            let pace = self.wrong_count(alloc, b"info")?;
-            return Ok(pace);
+            return self.wrong_count(alloc, b"info");
         };
         let pace = self.exists(alloc, name.as_slice())?;
         Ok(pace)
@@ -334,8 +326,7 @@ impl Machine {
         let was_set = self.state.unassign(name);
         if complains && !was_set {
             let message = cannot_unset(alloc, name)?;
-            let pace = self.fail(alloc, message)?;
-            return Ok(pace);
+            return self.fail(alloc, message);
         }
         self.stack.push(Frame::Unsetting { complains, names })?;
         Ok(Pace::Moved)
@@ -384,13 +375,13 @@ impl Machine {
     {
         let _count = args.len();
         match which {
-            VariableCommand::Set => Ok(self.set(alloc, args)?),
-            VariableCommand::Append => Ok(self.append(alloc, args)?),
-            VariableCommand::ListAppend => Ok(self.lappend(alloc, args)?),
-            VariableCommand::Increase => Ok(self.incr(alloc, args)?),
-            VariableCommand::Unset => Ok(self.unset(alloc, args)?),
-            VariableCommand::Info => Ok(self.info(alloc, args)?),
-            VariableCommand::Global => Ok(self.global(alloc, args)?),
+            VariableCommand::Set => self.set(alloc, args),
+            VariableCommand::Append => self.append(alloc, args),
+            VariableCommand::ListAppend => self.lappend(alloc, args),
+            VariableCommand::Increase => self.incr(alloc, args),
+            VariableCommand::Unset => self.unset(alloc, args),
+            VariableCommand::Info => self.info(alloc, args),
+            VariableCommand::Global => self.global(alloc, args),
         }
     }
 
@@ -405,9 +396,9 @@ impl Machine {
         ensures { IfOk result (RunsAs (do_variable which args.now) self.old self.new) }
     {
         match which {
-            VariableCommand::Set => Ok(self.set(alloc, args)?),
-            VariableCommand::Increase => Ok(self.incr(alloc, args)?),
-            which => Ok(self.variable_any(alloc, which, args)?),
+            VariableCommand::Set => self.set(alloc, args),
+            VariableCommand::Increase => self.incr(alloc, args),
+            which => self.variable_any(alloc, which, args),
         }
     }
 }
