@@ -58,10 +58,10 @@ among-stays places place p h = step (list_any (nat_eq place) places)
 abbrev pub Sets : Type 0 → Type 0
 Sets S = List (Topic × IndexSet ℕ S)
 
--- what holds where a call went well, where it did
-pub went_well : {A B : Type 0} (r : Result A B) (P : Type 0) → OnOk r P → is_err r ≡ false → P
-went_well (Ok a) P h e = h
-went_well (Err b) P h e = cc
+-- what holds anyway holds where a call goes well
+pub if_well : {A B : Type 0} (r : Result A B) (P : Type 0) → P → OnOk r P
+if_well (Ok a) P h = h
+if_well (Err b) P h = tt
 
 module _ {S : Type 0} where
   -- the places of each topic

@@ -1,5 +1,5 @@
 //! The index: the places of the records that read a topic.
-ghost use Rattle.std.specs.Prelude.{◌≡◌, [], IfOk, IsTrue, OnOk, Some};
+ghost use Rattle.std.specs.Prelude.{◌≡◌, [], true, false, IfOk, IsTrue, OnOk, Some};
 ghost use Rattle.dg_index.specs.Index.{is_among, readers_of, Finds, IsNamed, NamesMore, NamesReads};
 ghost use Rattle.dg_index.specs.Topic.{topic_of, touched};
 
@@ -44,6 +44,22 @@ fn is_on(topic: &Option<Topic>, question: &Question) -> bool
     }
 }
 
+/// A topic with the one place that is named for it.
+fn first_reader(
+    alloc: Global,
+    topic: &Topic,
+    place: usize,
+) -> Result<(Topic, IndexSet<usize>), AllocError>
+    ensures topic { IfOk result (λ r. r.0 ≡ topic.now) }
+    ensures place { IfOk result (λ r. IsTrue (is_among r.1.keys place)) }
+{
+    let mut readers = IndexSet::new(alloc);
+    match readers.insert(place) {
+        Ok(_) => Ok((topic.copy(alloc)?, readers)),
+        Err(_) => Err(AllocError),
+    }
+}
+
 impl Index {
     /// An index that names nothing.
     pub fn new(alloc: Global) -> Index
@@ -59,19 +75,38 @@ impl Index {
         ensures named { OnOk result (IsTrue (is_among (readers_of self.new topic.now) place)) }
         ensures stays { NamesMore self.old self.new }
     {
+        if self.name_again(topic, place)? {
+            return Ok(());
+        }
+        self.name_first(alloc, topic, place)
+    }
+
+    /// Names a place for a topic that has some, and tells whether it has.
+    fn name_again(&mut self, topic: &Topic, place: usize) -> Result<bool, AllocError>
+        ensures named { IfOk result (λ found. found ≡ true → IsTrue (is_among (readers_of self.new topic.now) place)) }
+        ensures none { IfOk result (λ found. found ≡ false → readers_of self.new topic.now ≡ []) }
+        ensures stays { NamesMore self.old self.new }
+    {
         match self.readers.get_mut(topic) {
             Some(readers) => {
                 readers.insert(place)?;
+                return Ok(true);
             }
-            None => {
-                let mut readers = IndexSet::new(alloc);
-                readers.insert(place)?;
-                if self.readers.insert(topic.copy(alloc)?, readers).is_err() {
-                    return Err(AllocError);
-                }
-            }
+            None => return Ok(false),
         }
-        Ok(())
+    }
+
+    /// Names a place as the first for a topic.
+    fn name_first(&mut self, alloc: Global, topic: &Topic, place: usize) -> Result<(), AllocError>
+        requires { readers_of self.old topic.now ≡ [] }
+        ensures named { OnOk result (IsTrue (is_among (readers_of self.new topic.now) place)) }
+        ensures stays { NamesMore self.old self.new }
+    {
+        let (topic, readers) = first_reader(alloc, topic, place)?;
+        match self.readers.insert(topic, readers) {
+            Ok(_) => Ok(()),
+            Err(_) => Err(AllocError),
+        }
     }
 
     /// The places that are named for a topic, if any is.

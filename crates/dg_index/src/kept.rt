@@ -1,18 +1,18 @@
 //! A world with its kept records, of which an edit compares only the reads that it touches.
-ghost use Rattle.std.specs.Prelude.{◌≡◌, ◌⊎◌, Ok, Err, IfOk, IfErr, IfSome, OnOk, OnErr, IsTrue, length, option_map, slice_get};
+ghost use Rattle.std.specs.Prelude.{◌≡◌, ◌⊎◌, Ok, Err, None, IfOk, IfErr, IfSome, OnOk, OnErr, IsTrue, length, option_map, slice_get};
 ghost use Rattle.dg_index.specs.Index.{is_among};
 ghost use Rattle.dg_index.specs.Kept.{committed, committed_live, edited_kept, holds_if_kept, new_kept, place_of, IsAskedOf};
 ghost use Rattle.dg_index.specs.Marks.{judged_of};
 ghost use Rattle.dg_index.specs.Topic.{touched};
 ghost use Rattle.dg_index.specs.Touching.{OnlyTheseRead};
 ghost use Rattle.dg_records.specs.Truth.{IsTrueRecord};
-ghost use Rattle.dg_world.specs.World.{takes_memory};
+ghost use Rattle.dg_world.specs.World.{look, takes_memory};
 
 use crate::index::Index;
-use crate::looking::look_again;
+use crate::looking::{look_again, look_at_readers};
 use crate::marked::Marked;
-use crate::numbers::{Now, release_all};
-use crate::placing::{make_room, place};
+use crate::numbers::Now;
+use crate::placing::{give_back, make_room, place};
 use crate::topic::Topic;
 use crate::touching::places_touched;
 use dg_bytes::TryCopy;
@@ -165,21 +165,26 @@ impl Kept {
         ensures ok { IfOk result (IsAskedOf self.old self.new question.now) }
         ensures err { OnErr result (self.new ≡ self.old) }
     {
-        if let Some(answer) = self.world.answer(alloc, question)? {
-            return Ok(answer);
+        match self.world.answer(alloc, question)? {
+            Some(answer) => Ok(answer),
+            None => self.ask_first(alloc, question),
         }
+    }
+
+    /// The answer to the first question for a pattern.
+    fn ask_first(&mut self, alloc: Global, question: &Question) -> Result<Answer, AllocError>
+        requires { look self.old.world question.now ≡ None }
+        ensures ok { IfOk result (IsAskedOf self.old self.new question.now) }
+        ensures err { OnErr result (self.new ≡ self.old) }
+    {
         let topic = Topic::of(alloc, question)?;
         let answer = self.world.ask(alloc, question)?;
-        let Some((topic, places)) = self.index.find(&topic) else {
-            return Ok(answer);
-        };
-        self.compared = look_again(
+        self.compared = look_at_readers(
             &mut self.records,
-            places,
-            topic,
+            &self.index,
+            &topic,
             &self.world,
             &self.contents,
-            &Now::Elsewhere,
             self.compared,
         );
         Ok(answer)
@@ -224,10 +229,7 @@ impl Kept {
         ensures err { OnErr result (self.new ≡ self.old) }
         ensures back { IfErr result (λ r. (r.1 ≡ newest) × (r.2 ≡ transcript)) }
     {
-        let Ok(topic) = Topic::of_test(alloc, newest.test()) else {
-            return Err((Refusal::Memory, newest, transcript));
-        };
-        let Ok(copy) = transcript.copy(alloc) else {
+        let Ok((topic, copy)) = copies(alloc, &newest, &transcript) else {
             return Err((Refusal::Memory, newest, transcript));
         };
         let (test, marked) = match make_room(
@@ -241,21 +243,17 @@ impl Kept {
             Err(newest) => return Err((Refusal::Memory, newest, transcript)),
         };
         if let Err(refusal) = self.world.put_transcript(alloc, &test, copy) {
-            let newest = marked.into_kept();
-            release_all(&mut self.contents, newest.reads());
+            let newest = give_back(&mut self.contents, marked);
             return Err((refusal, newest, transcript));
         }
-        if let Some((topic, places)) = self.index.find(&topic) {
-            self.compared = look_again(
-                &mut self.records,
-                places,
-                topic,
-                &self.world,
-                &self.contents,
-                &Now::Elsewhere,
-                self.compared,
-            );
-        }
+        self.compared = look_at_readers(
+            &mut self.records,
+            &self.index,
+            &topic,
+            &self.world,
+            &self.contents,
+            self.compared,
+        );
         self.compared = place(
             &mut self.records,
             &mut self.contents,
@@ -266,4 +264,17 @@ impl Kept {
         );
         Ok(())
     }
+}
+
+/// The topic of a live run's transcript, and a copy of it.
+fn copies(
+    alloc: Global,
+    newest: &Record,
+    transcript: &Transcript,
+) -> Result<(Topic, Transcript), AllocError>
+    ensures topic { IfOk result (λ r. r.0 ≡ Topic.Transcript newest.now.test.board newest.now.test.script) }
+    ensures copy { IfOk result (λ r. r.1 ≡ transcript.now) }
+{
+    let topic = Topic::of_test(alloc, newest.test())?;
+    Ok((topic, transcript.copy(alloc)?))
 }

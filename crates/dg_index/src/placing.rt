@@ -4,7 +4,7 @@ ghost use Rattle.indexmap.specs.IndexMap.{index_of_by, insert_entry, spare};
 ghost use Rattle.dg_contents.specs.Contents.{holders_of, KeepsHeldNumbers};
 ghost use Rattle.dg_index.specs.Index.{NamesMore, NamesReads};
 ghost use Rattle.dg_index.specs.Marks.{counted, marks_in, MarkedView};
-ghost use Rattle.dg_index.specs.Numbers.{given_at, numbers_in, HoldsMore, IsNumbered};
+ghost use Rattle.dg_index.specs.Numbers.{given_at, given_by, numbers_in, HoldsMore, IsNumbered};
 ghost use Rattle.dg_world.specs.Test.{same_test};
 ghost use Rattle.dg_world.specs.declared.test_id.TestId.{TestId};
 
@@ -15,7 +15,7 @@ use dg_contents::Contents;
 use dg_records::Record;
 use dg_world::{TestId, World};
 use indexmap::IndexMap;
-use std::alloc::Global;
+use std::alloc::{AllocError, Global};
 
 /// Makes all the room that a record will take: its marks, an entry for its test, its reads named in the index, and the
 /// contents that it was given held. Where memory is refused the record comes back.
@@ -36,18 +36,35 @@ pub fn make_room(
     ensures held { OnOk result (IsNumbered contents.old records.old.entries → HoldsMore contents.new records.old.entries newest.reads) }
     ensures back { IfErr result (λ r. r ≡ newest) }
 {
+    let Ok(test) = name(alloc, records, index, &newest) else {
+        return Err(newest);
+    };
+    match number(alloc, contents, newest) {
+        Ok(marked) => Ok((test, marked)),
+        Err(newest) => Err(newest),
+    }
+}
+
+/// Names the place that a record will have for its reads, makes room for it, and copies its test.
+fn name(
+    alloc: Global,
+    records: &mut IndexMap<TestId, Marked>,
+    index: &mut Index,
+    newest: &Record,
+) -> Result<TestId, AllocError>
+    ensures entries { records.new.entries ≡ records.old.entries }
+    ensures room { OnOk result (0 < spare records.new) }
+    ensures named { OnOk result (NamesReads index.new (unwrap_or (index_of_by (same_test newest.now.test) records.old) (length records.old.entries)) newest.now.reads) }
+    ensures stays { NamesMore index.old index.new }
+    ensures test { IfOk result (λ t. t ≡ newest.now.test) }
+{
     let at = match records.get_index_of(newest.test()) {
         Some(at) => at,
         None => records.len(),
     };
-    if index.name_reads(alloc, newest.reads(), at).is_err() || records.reserve(1).is_err() {
-        return Err(newest);
-    }
-    let Ok(test) = newest.test().copy(alloc) else {
-        return Err(newest);
-    };
-    let marked = number(alloc, contents, newest)?;
-    Ok((test, marked))
+    index.name_reads(alloc, newest.reads(), at)?;
+    records.reserve(1)?;
+    newest.test().copy(alloc)
 }
 
 /// Holds the contents that a record was given, and puts their numbers beside it, or gives it back.
@@ -66,6 +83,17 @@ fn number(alloc: Global, contents: &mut Contents, newest: Record) -> Result<Mark
     };
     release_all(contents, newest.reads());
     Err(newest)
+}
+
+/// Lets go the contents that a record was given, and gives it back.
+pub fn give_back(contents: &mut Contents, marked: Marked) -> Record
+    ensures back { result ≡ marked.record_of }
+    ensures fewer { (text : List ℕ) → holders_of contents.new text ≡ holders_of contents.old text - given_by text marked.record_of.reads }
+    ensures stays { KeepsHeldNumbers contents.old contents.new }
+{
+    let newest = marked.into_kept();
+    release_all(contents, newest.reads());
+    newest
 }
 
 /// Compares a record with the world and keeps it, where there is room for it and what it was given is held. What the record
