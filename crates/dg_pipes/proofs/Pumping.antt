@@ -20,6 +20,10 @@ keeps_nothing None c k = tt
 keeps_nothing (Some bs) None k = k
 keeps_nothing (Some bs) (Some cs) k = sym k
 
+pub consumes_none : (b : Option (List ℕ)) → Consumes b b []
+consumes_none None = tt
+consumes_none (Some bs) = refl
+
 pub bytes_next : (items : List Item) (v : List ℕ) → bytes_of (items ++ Chunk v ∷ []) ≡ bytes_of items ++ v
 bytes_next [] v = append-nil v
 bytes_next (Chunk u ∷ xs) v = ap (λ bs. u ++ bs) (bytes_next xs v) ∙ sym (append_assoc u (bytes_of xs) v)

@@ -23,19 +23,48 @@ fn text_of(word: &Bytes) -> Result<&str, GateFault> {
     }
 }
 
-// The command of these words.
-fn command_of(alloc: Global, words: &[Bytes]) -> Result<Command<Global>, GateFault> {
-    let Some((program, arguments)) = words.split_first() else {
-        return Err(GateFault::Device(Code::Other));
-    };
-    let mut command = Command::new(alloc, text_of(program)?).map_err(|_| GateFault::Memory)?;
-    for word in arguments {
-        command.arg(text_of(word)?).map_err(|_| GateFault::Memory)?;
+// Adds a word to a command.
+fn add_word(command: &mut Command<Global>, word: &Bytes) -> Result<(), GateFault> {
+    let word = text_of(word)?;
+    match command.arg(word) {
+        Ok(_) => Ok(()),
+        Err(_) => Err(GateFault::Memory),
     }
+}
+
+// Adds words to a command, in order.
+fn add_words(command: &mut Command<Global>, words: &[Bytes]) -> Result<(), GateFault> {
+    for word in words {
+        add_word(command, word)?;
+    }
+    Ok(())
+}
+
+// The command that runs a program with these arguments, with pipes for its input and output, and no error stream.
+fn command_for(
+    alloc: Global,
+    program: &Bytes,
+    arguments: &[Bytes],
+) -> Result<Command<Global>, GateFault> {
+    let program = text_of(program)?;
+    let Ok(mut command) = Command::new(alloc, program) else {
+        return Err(GateFault::Memory);
+    };
     command.stdin(Stdio::piped());
     command.stdout(Stdio::piped());
     command.stderr(Stdio::null());
-    Ok(command)
+    match add_words(&mut command, arguments) {
+        Ok(()) => Ok(command),
+        Err(fault) => Err(fault),
+    }
+}
+
+// The command of these words.
+fn command_of(alloc: Global, words: &[Bytes]) -> Result<Command<Global>, GateFault> {
+    match words.split_first() {
+        Some((program, arguments)) => command_for(alloc, program, arguments),
+        None => Err(GateFault::Device(Code::Other)),
+    }
 }
 
 /// Starts a child by these words, with pipes for its input and output; its error stream is let go.

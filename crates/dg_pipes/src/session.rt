@@ -92,13 +92,8 @@ impl Session {
     ) -> Result<Session, GateFault>
         ensures { IfOk result (λ s. received s.ring ≡ []) }
     {
+        let (bells, theirs) = Bells::shared(alloc)?;
         let Ok((producer, ring)) = RingBuffer::with_protocol::<Global, Rule>(alloc, SLOTS) else {
-            return Err(GateFault::Memory);
-        };
-        let Ok(bells) = Arc::new(alloc, Bells::new()) else {
-            return Err(GateFault::Memory);
-        };
-        let Ok(theirs) = Arc::try_clone(&bells) else {
             return Err(GateFault::Memory);
         };
         let promise = OfRing(Snapshot::of(&ring));

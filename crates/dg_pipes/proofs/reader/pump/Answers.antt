@@ -4,7 +4,7 @@ use Rattle.rtrb.specs.Ring.{sent}
 use Rattle.dg_transcript.specs.declared.code.Code.TheVariants.{Other}
 use Rattle.std.specs.Io.KnownBytes.{Consumes}
 use Rattle.dg_pipes.specs.declared.item.Item.TheVariants.{End, Fault}
-use Rattle.dg_pipes.proofs.Pumping.{stopped, ended, went_on, keeps_nothing, fault_not_end}
+use Rattle.dg_pipes.proofs.Pumping.{stopped, ended, went_on, keeps_nothing, consumes_none, fault_not_end}
 use Rattle.dg_pipes.proofs.reader.pump.Goals as goal
 
 pub returns-in-Ok-eq0-clause-some : goal.returns-in-Ok-eq0-clause-some
@@ -36,3 +36,13 @@ pub returns-in-Err-clause-all : goal.returns-in-Err-clause-all
 returns-in-Err-clause-all g c so =
     let put = subst (λ b. MatchBool b (sent c.put-in-Err.new.ring ≡ sent c.loop.ring ++ Fault Other ∷ []) (sent c.put-in-Err.new.ring ≡ sent c.loop.ring)) so c.put-in-Err.ensures.sent in
     ended _ _ _ _ _ _ (Fault Other) c.loop.invariant.0 (keeps_nothing _ _ c.in-Err.ensures.bytes) put refl (λ is. absurd (fault_not_end Other is))
+
+pub returns-in_default-clause-some : goal.returns-in_default-clause-some
+returns-in_default-clause-some g c not =
+    let put = subst (λ b. MatchBool b (sent c.put.new.ring ≡ sent c.loop.ring ++ Fault Other ∷ []) (sent c.put.new.ring ≡ sent c.loop.ring)) not c.put.ensures.sent in
+    stopped _ _ _ _ _ _ [] c.loop.invariant.0 (consumes_none (g.R.Read.remaining c.loop.reader)) put
+
+pub returns-in_default-clause-all : goal.returns-in_default-clause-all
+returns-in_default-clause-all g c so =
+    let put = subst (λ b. MatchBool b (sent c.put.new.ring ≡ sent c.loop.ring ++ Fault Other ∷ []) (sent c.put.new.ring ≡ sent c.loop.ring)) so c.put.ensures.sent in
+    ended _ _ _ _ _ _ (Fault Other) c.loop.invariant.0 (consumes_none (g.R.Read.remaining c.loop.reader)) put refl (λ is. absurd (fault_not_end Other is))
