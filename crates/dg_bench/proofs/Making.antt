@@ -1,6 +1,7 @@
 -- What a call of a bench comes to.
 use Rattle.std.proofs.Common.{ℕ, ◌≡◌, ◌⊎◌, inl, inr, ◌+◌, ◌<◌, ◌≤◌, Bool, true, false, List, [], ◌∷◌, ◌++◌, length, true≢false, refl, sym, ap, ◌∙◌, subst, arith}
-use Rattle.std.specs.Prelude.{Option, None, Some, MatchOption, option_map}
+use Rattle.std.specs.Prelude.{Option, None, Some, MatchOption, option_map, Result, Ok, Err, IfOk, IfErr, OnOk}
+use Rattle.std.proofs.lemmas.List.{append-nil}
 use Rattle.once_cell.specs.declared.race.note.Note.{Note}
 use Rattle.dg_core.specs.Core.{CoreView, new_core}
 use Rattle.dg_world.specs.World.{WorldView, look}
@@ -17,7 +18,7 @@ use Rattle.dg_bench.specs.declared.refusal.BenchRefusal.{BenchRefusal}
 use Rattle.dg_bench.specs.declared.refusal.BenchRefusal.TheVariants.{Shorter, HistoryFull, Edit, Memory}
 use Rattle.dg_bench.specs.History.{IsLegal, Makes, Steps}
 use Rattle.dg_bench.specs.Seen.{Seen, Told, Kept, kept_of, seen_all, called, KnowsAll, IsKept}
-use Rattle.dg_bench.specs.Refusals.{SeesAll, SeesMore, Refuses, IsRefused, never}
+use Rattle.dg_bench.specs.Refusals.{SeesAll, SeesMore, Refuses, RefusesBegun, IsRefused, never}
 use Rattle.dg_bench.specs.Made.{Enters, Looks, IsMade, IsLook}
 use Rattle.dg_bench.proofs.Steps.{makes_next}
 
@@ -94,17 +95,17 @@ pub next_legal : (old : Kept) (core next : CoreView) (calls : List Call) (stoppe
 next_legal old core next calls stopped entered call view run same step =
     subst (λ (x : Call). IsLegal (calls ++ x ∷ [])) (sym same) (next, next_made old core next calls stopped call view run step)
 
--- a call that was made
-pub enters : (limit : ℕ) (old : Kept) (core next : CoreView) (calls now : List Call) (stopped after : Bool) (pass p back : Seen) (receipt : Told) (entered call : Call)
-    → kept_of core calls stopped ≡ old → SeesAll old pass p → (old.stopped ≡ false) × Makes new_core old.calls old.core → length old.calls < limit
+-- a call that was made, by a pass that had seen all calls
+pub enters : (limit : ℕ) (old : Kept) (core next : CoreView) (calls now : List Call) (stopped after : Bool) (back : Seen) (receipt : Told) (entered call : Call)
+    → kept_of core calls stopped ≡ old → (old.stopped ≡ false) × Makes new_core old.calls old.core → length old.calls < limit
     → entered ≡ call → Steps core call next → now ≡ calls ++ entered ∷ [] → back ≡ seen_all (calls ++ entered ∷ []) → receipt ≡ called (length calls) entered → after ≡ stopped
-    → Enters limit old (kept_of next now after) pass back receipt call
-enters limit old core next calls now stopped after pass p back receipt entered call view sees run room same step now_is back_is receipt_is after_is =
+    → Enters limit old (kept_of next now after) (seen_all old.calls) back receipt call
+enters limit old core next calls now stopped after back receipt entered call view run room same step now_is back_is receipt_is after_is =
     let made = next_made old core next calls stopped call view run step in
     let all : now ≡ calls ++ call ∷ [] = now_is ∙ ap (λ (x : Call). calls ++ x ∷ []) same in
     record {
-      within = sees.0;
-      begins = sees.3;
+      within = omega arith;
+      begins = λ ours. ([], append-nil old.calls);
       room = room;
       running = run.0;
       goes_on = after_is ∙ ap (λ (k : Kept). k.stopped) view ∙ run.0;
@@ -114,6 +115,37 @@ enters limit old core next calls now stopped after pass p back receipt entered c
       back = back_is ∙ ap seen_all (sym now_is);
       receipt = receipt_is ∙ ap (called (length calls)) same ∙ ap (λ (k : Kept). called (length k.calls) call) view;
     }
+
+-- and what it is to a pass that was shown them
+pub entered_later : (limit : ℕ) (old mid new : Kept) (pass p later : Seen) (told : Told) (call : Call)
+    → mid ≡ old → SeesAll old pass p → Enters limit mid new (seen_all mid.calls) later told call → Enters limit old new pass later told call
+entered_later limit old mid new pass p later told call same sees e =
+    let f : Enters limit old new (seen_all old.calls) later told call = subst (λ (k : Kept). Enters limit k new (seen_all k.calls) later told call) same e in
+    record {
+      within = sees.0;
+      begins = sees.3;
+      room = f.room;
+      running = f.running;
+      goes_on = f.goes_on;
+      step = f.step;
+      calls = f.calls;
+      legal = f.legal;
+      back = f.back;
+      receipt = f.receipt;
+    }
+
+-- a call that was begun and is refused
+pub refused_begun : (cause : CoreView → Refusal → Type 0) (limit : ℕ) (old mid new : Kept) (pass p : Seen) (why : BenchRefusal)
+    → mid ≡ old → SeesAll old pass p → (old.stopped ≡ false) × Makes new_core old.calls old.core → length old.calls < limit
+    → RefusesBegun cause mid new why → Refuses cause limit old new pass p why
+refused_begun cause limit old mid new pass p why same sees run room r =
+    told why (subst (λ (k : Kept). RefusesBegun cause k new why) same r)
+  where
+    told : (w : BenchRefusal) → RefusesBegun cause old new w → Refuses cause limit old new pass p w
+    told (Shorter seen found) h = absurd h
+    told HistoryFull h = (sees, h.0, inr h.1)
+    told (Edit cause_of) h = (sees, run.1, h.0, h.1, h.2, room)
+    told Memory h = (sees, h)
 
 -- what the locked value keeps then
 pub kept_next : (names : List ℕ) (old : Kept) (core next : CoreView) (calls now : List Call) (notes : List (Note Place)) (stopped after : Bool) (entered call : Call)
@@ -131,9 +163,35 @@ kept_stopped names next calls now notes after legal now_is after_is all =
     (all, subst IsLegal (sym now_is) legal, λ running. absurd (true≢false (sym after_is ∙ running)))
 
 -- the refusal of a bench that stops
-pub stops : (cause : CoreView → Refusal → Type 0) (limit : ℕ) (old : Kept) (core next : CoreView) (calls now : List Call) (stopped after : Bool) (pass p : Seen)
-    → kept_of core calls stopped ≡ old → SeesAll old pass p → now ≡ calls → after ≡ true → Refuses cause limit old (kept_of next now after) pass p HistoryFull
-stops cause limit old core next calls now stopped after pass p view sees now_is after_is = (sees, now_is ∙ ap (λ (k : Kept). k.calls) view, inr after_is)
+pub stops : (cause : CoreView → Refusal → Type 0) (old : Kept) (core next : CoreView) (calls now : List Call) (stopped after : Bool)
+    → kept_of core calls stopped ≡ old → now ≡ calls → after ≡ true → RefusesBegun cause old (kept_of next now after) HistoryFull
+stops cause old core next calls now stopped after view now_is after_is = (now_is ∙ ap (λ (k : Kept). k.calls) view, after_is)
+
+-- what the locked value keeps once a call was ended, in either case
+pub kept_finished : {A : Type 0} (names : List ℕ) (old : Kept) (core next : CoreView) (calls mid now : List Call) (notes : List (Note Place)) (stopped after : Bool) (entered call : Call) (r : Result A BenchRefusal)
+    → kept_of core calls stopped ≡ old → (old.stopped ≡ false) × Makes new_core old.calls old.core → IsLegal calls → mid ≡ calls → entered ≡ call → Steps core call next
+    → OnOk r (now ≡ mid ++ entered ∷ []) → IfErr r (λ why. (now ≡ mid) × (after ≡ true) × (why ≡ HistoryFull)) → KnowsAll names notes now → IsKept names next now notes after
+kept_finished names old core next calls mid now notes stopped after entered call (Ok made) view run legal mid_is same step ok err all =
+    kept_next names old core next calls now notes stopped after entered call view run same step (ok ∙ ap (λ xs. xs ++ entered ∷ []) mid_is) all
+kept_finished names old core next calls mid now notes stopped after entered call (Err why) view run legal mid_is same step ok err all =
+    kept_stopped names next calls now notes after legal (err.0 ∙ mid_is) err.1 all
+
+-- what the call is that was ended
+pub enters_finished : (limit : ℕ) (old : Kept) (core next : CoreView) (calls mid now : List Call) (stopped after : Bool) (entered call : Call) (r : Result (Seen × Told) BenchRefusal)
+    → kept_of core calls stopped ≡ old → (old.stopped ≡ false) × Makes new_core old.calls old.core → length old.calls < limit → mid ≡ calls → entered ≡ call → Steps core call next
+    → OnOk r (now ≡ mid ++ entered ∷ []) → IfOk r (λ m. m.0 ≡ seen_all (mid ++ entered ∷ [])) → IfOk r (λ m. m.1 ≡ called (length mid) entered) → OnOk r (after ≡ stopped)
+    → IfOk r (λ m. Enters limit old (kept_of next now after) (seen_all old.calls) m.0 m.1 call)
+enters_finished limit old core next calls mid now stopped after entered call (Ok made) view run room mid_is same step now_is back_is receipt_is after_is =
+    enters limit old core next calls now stopped after made.0 made.1 entered call view run room same step
+    (now_is ∙ ap (λ xs. xs ++ entered ∷ []) mid_is) (back_is ∙ ap (λ xs. seen_all (xs ++ entered ∷ [])) mid_is) (receipt_is ∙ ap (λ xs. called (length xs) entered) mid_is) after_is
+enters_finished limit old core next calls mid now stopped after entered call (Err why) view run room mid_is same step now_is back_is receipt_is after_is = tt
+
+-- or its refusal
+pub refuses_finished : {A : Type 0} (cause : CoreView → Refusal → Type 0) (old : Kept) (core next : CoreView) (calls mid now : List Call) (stopped after : Bool) (r : Result A BenchRefusal)
+    → kept_of core calls stopped ≡ old → mid ≡ calls → IfErr r (λ why. (now ≡ mid) × (after ≡ true) × (why ≡ HistoryFull)) → IfErr r (RefusesBegun cause old (kept_of next now after))
+refuses_finished cause old core next calls mid now stopped after (Ok made) view mid_is err = tt
+refuses_finished cause old core next calls mid now stopped after (Err why) view mid_is err =
+    subst (RefusesBegun cause old (kept_of next now after)) (sym err.2) (stops cause old core next calls now stopped after view (err.0 ∙ mid_is) err.1)
 
 -- a bench that runs isn't full for a look
 pub never_full : (old new : Kept) (pass back : Seen) (why : BenchRefusal) → ((limit : ℕ) → Refuses never limit old new pass back why) → new ≡ old → old.stopped ≡ false → why ≡ HistoryFull → ⊥

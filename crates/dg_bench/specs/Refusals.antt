@@ -24,6 +24,13 @@ Refuses cause limit old new pass back (Edit why) =
     SeesAll old pass back × Makes new_core old.calls old.core × cause old.core why × (why ≢ WantsMemory) × (new ≡ old) × (length old.calls < limit)
 Refuses cause limit old new pass back Memory = SeesAll old pass back × (new ≡ old)
 
+-- What a refusal tells of a call for which the bench had shown the pass all calls, and what it leaves.
+abbrev pub RefusesBegun : (CoreView → Refusal → Type 0) → Kept → Kept → BenchRefusal → Type 0
+RefusesBegun cause old new (Shorter seen found) = ⊥
+RefusesBegun cause old new HistoryFull = (new.calls ≡ old.calls) × (new.stopped ≡ true)
+RefusesBegun cause old new (Edit why) = cause old.core why × (why ≢ WantsMemory) × (new ≡ old)
+RefusesBegun cause old new Memory = new ≡ old
+
 -- a pass that has since seen a legal list of calls, which begins with what it had seen
 abbrev pub SeesMore : Seen → Seen → Type 0
 SeesMore pass back = (back.ours ≡ true) × (back.count ≡ length back.calls) × (pass.count ≤ back.count) × IsLegal back.calls × Begins pass back.calls

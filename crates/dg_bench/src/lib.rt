@@ -13,6 +13,7 @@ mod notes;
 mod opened;
 mod pass;
 mod place;
+mod prepared;
 mod receipt;
 mod refusal;
 mod room;

@@ -1,26 +1,28 @@
 //! What is under the lock.
-ghost use Rattle.std.specs.Prelude.{ℕ, ◌≡◌, ◌≢◌, ◌<◌, ◌≤◌, [], length, map, false, Ok, Err, Some, None, IfOk, IfErr, OnOk, IsSome, MatchOption};
+ghost use Rattle.std.specs.Prelude.{ℕ, ◌≡◌, ◌≢◌, ◌<◌, ◌≤◌, [], length, map, false, Ok, Err, Some, None, IfOk, IfErr, OnOk, OnErr, IsSome, MatchOption};
 ghost use Rattle.once_cell.specs.Once.{cell_name};
-ghost use Rattle.dg_core.specs.Core.{new_core, edited_core, committed_live};
+ghost use Rattle.dg_core.specs.Core.{new_core, edited_core, committed_live, IsAskedOf};
+ghost use Rattle.dg_core.specs.Reply.{Replies};
 ghost use Rattle.dg_world.specs.World.{look};
+ghost use Rattle.dg_world.specs.declared.question.Answer.TheVariants.{Reading as read_as};
 ghost use Rattle.dg_bench.specs.declared.refusal.BenchRefusal.TheVariants.{HistoryFull};
-ghost use Rattle.dg_bench.specs.History.{IsLegal, Makes};
+ghost use Rattle.dg_bench.specs.History.{IsLegal, Makes, Steps};
 ghost use Rattle.dg_bench.specs.Made.{Enters, Looks};
 ghost use Rattle.dg_bench.specs.Seen.{Begins, seen_all};
-ghost use Rattle.dg_bench.specs.Refusals.{Refuses, SeesAll, never};
+ghost use Rattle.dg_bench.specs.Refusals.{Refuses, RefusesBegun, SeesAll, never};
 ghost use Rattle.dg_bench.specs.Work.{Lists, tests_of};
 ghost use Rattle.dg_bench.specs.declared.call.Call.TheVariants.{Edit as edited, Ask as asked, Commit as committed, Live as lived, Report as reported};
 
 use crate::call::Call;
 use crate::history::History;
-use crate::notes::{agree, conclude, prepare, whole};
+use crate::notes::{agree, conclude, finish, prepare, whole};
 use crate::pass::Pass;
 use crate::place::Place;
 use crate::receipt::Receipt;
 use crate::refusal::BenchRefusal;
 use crate::room::Room;
 use crate::work::Work;
-use dg_bytes::{Seq, TryCopy};
+use dg_bytes::Seq;
 use dg_core::{Core, Reply};
 use dg_match::Reading;
 use dg_records::Record;
@@ -32,13 +34,25 @@ use std::marker::{Model, PhantomData};
 
 /// A core, its calls so far, and what is known of their places. The calls are legal, and make just this core unless the
 /// bench has stopped.
-#[derive(Drop)]
 pub struct Locked<B: Room> {
     core: Core,
     calls: Vec<Call>,
     notes: Vec<Note<Place>>,
     stopped: bool,
     of: PhantomData<B>,
+}
+
+/// Written by hand, and so one call for whoever lets it go.
+impl<B: Room> Drop for Locked<B> {
+    fn drop(self) {
+        let Locked {
+            core: _,
+            calls: _,
+            notes: _,
+            stopped: _,
+            of: _,
+        } = self;
+    }
 }
 
 impl<B: Room> Model for Locked<B> {
@@ -140,6 +154,28 @@ impl<B: Room> Locked<B> {
             Ok(pass) => pass,
             Err(refused) => return Err(refused),
         };
+        match self.make_edit(alloc, cells, edit) {
+            Ok(made) => Ok(made),
+            Err(refusal) => Err((pass, refusal)),
+        }
+    }
+
+    /// Makes an edit, where the bench has begun a call.
+    fn make_edit(
+        &mut self,
+        alloc: Global,
+        cells: &[OnceBox<Place>],
+        edit: Edit,
+    ) -> Result<(Pass<B>, Receipt<B>), BenchRefusal>
+        requires cells { map cell_name cells.now ≡ B.names }
+        requires running { (self.old.stopped ≡ false) × Makes new_core self.old.calls self.old.core }
+        requires room { length self.old.calls < length cells.now }
+        ensures ok { IfOk result (λ r. Enters (length cells.now) self.old self.new (seen_all self.old.calls) r.0 r.1 (edited edit)) }
+        ensures refused { IfErr result (RefusesBegun (λ core why. edited_core core edit ≡ Err why) self.old self.new) }
+    {
+        let Ok(call) = Call::of_edit(alloc, &edit) else {
+            return Err(BenchRefusal::Memory);
+        };
         let Locked {
             core,
             calls,
@@ -147,21 +183,14 @@ impl<B: Room> Locked<B> {
             stopped,
             of: _,
         } = self;
-        let Ok(copy) = edit.copy(alloc) else {
-            return Err((pass, BenchRefusal::Memory));
-        };
-        let Ok((call, place)) = prepare(alloc, calls, notes, Call::Edit(copy)) else {
-            return Err((pass, BenchRefusal::Memory));
+        let Ok(prepared) = prepare(alloc, calls, notes, call) else {
+            return Err(BenchRefusal::Memory);
         };
         match core.edit(alloc, edit) {
-            Ok(()) => {}
-            Err(Refusal::Memory) => return Err((pass, BenchRefusal::Memory)),
-            Err(refusal) => return Err((pass, BenchRefusal::Edit(refusal))),
+            Ok(()) => finish(calls, notes, stopped, cells, prepared),
+            Err(Refusal::Memory) => Err(BenchRefusal::Memory),
+            Err(refusal) => Err(BenchRefusal::Edit(refusal)),
         }
-        let Ok(made) = conclude(calls, notes, stopped, cells, call, place) else {
-            return Err((pass, BenchRefusal::HistoryFull));
-        };
-        Ok(made)
     }
 
     /// Makes a report, as a call of its own.
@@ -179,26 +208,69 @@ impl<B: Room> Locked<B> {
             Ok(pass) => pass,
             Err(refused) => return Err(refused),
         };
+        match self.make_report(alloc, cells) {
+            Ok(made) => Ok(made),
+            Err(refusal) => Err((pass, refusal)),
+        }
+    }
+
+    /// Makes a report, where the bench has begun a call.
+    fn make_report(
+        &mut self,
+        alloc: Global,
+        cells: &[OnceBox<Place>],
+    ) -> Result<(Pass<B>, Receipt<B>, Reply), BenchRefusal>
+        requires cells { map cell_name cells.now ≡ B.names }
+        requires running { (self.old.stopped ≡ false) × Makes new_core self.old.calls self.old.core }
+        requires room { length self.old.calls < length cells.now }
+        ensures ok { IfOk result (λ r. Enters (length cells.now) self.old self.new (seen_all self.old.calls) r.0 r.1 (reported r.2)) }
+        ensures refused { IfErr result (RefusesBegun never self.old self.new) }
+    {
+        let Ok((call, reply)) = self.reply(alloc) else {
+            return Err(BenchRefusal::Memory);
+        };
+        match self.enter(alloc, cells, call) {
+            Ok((pass, receipt)) => Ok((pass, receipt, reply)),
+            Err(refusal) => Err(refusal),
+        }
+    }
+
+    /// What a report answers, and the call of it.
+    fn reply(&self, alloc: Global) -> Result<(Call, Reply), AllocError>
+        ensures { IfOk result (λ r. (r.0 ≡ reported r.1) × Replies self.now.core r.1) }
+    {
+        let reply = self.core.report(alloc)?;
+        match Call::of_report(alloc, &reply) {
+            Ok(call) => Ok((call, reply)),
+            Err(_) => Err(AllocError),
+        }
+    }
+
+    /// Enters a call that changes nothing of the core, where the bench has begun it.
+    fn enter(
+        &mut self,
+        alloc: Global,
+        cells: &[OnceBox<Place>],
+        call: Call,
+    ) -> Result<(Pass<B>, Receipt<B>), BenchRefusal>
+        requires cells { map cell_name cells.now ≡ B.names }
+        requires running { (self.old.stopped ≡ false) × Makes new_core self.old.calls self.old.core }
+        requires room { length self.old.calls < length cells.now }
+        requires step { Steps self.old.core call self.old.core }
+        ensures ok { IfOk result (λ r. Enters (length cells.now) self.old self.new (seen_all self.old.calls) r.0 r.1 call) }
+        ensures refused { IfErr result (RefusesBegun never self.old self.new) }
+    {
         let Locked {
-            core,
+            core: _,
             calls,
             notes,
             stopped,
             of: _,
         } = self;
-        let Ok(reply) = core.report(alloc) else {
-            return Err((pass, BenchRefusal::Memory));
+        let Ok(prepared) = prepare(alloc, calls, notes, call) else {
+            return Err(BenchRefusal::Memory);
         };
-        let Ok(copy) = reply.copy(alloc) else {
-            return Err((pass, BenchRefusal::Memory));
-        };
-        let Ok((call, place)) = prepare(alloc, calls, notes, Call::Report(copy)) else {
-            return Err((pass, BenchRefusal::Memory));
-        };
-        let Ok((seen, receipt)) = conclude(calls, notes, stopped, cells, call, place) else {
-            return Err((pass, BenchRefusal::HistoryFull));
-        };
-        Ok((seen, receipt, reply))
+        finish(calls, notes, stopped, cells, prepared)
     }
 
     /// Keeps a record, as a call of its own. A record that isn't kept comes back.
@@ -214,10 +286,33 @@ impl<B: Room> Locked<B> {
         ensures refused { IfErr result (λ r. Refuses never (length cells.now) self.old self.new pass r.0 r.2) }
         ensures back { IfErr result (λ r. r.1 ≡ newest) }
     {
-        let _lines = newest.verdict();
         let pass = match self.begin(cells.len(), pass) {
             Ok(pass) => pass,
             Err((pass, refusal)) => return Err((pass, newest, refusal)),
+        };
+        match self.make_commit(alloc, cells, newest) {
+            Ok(made) => Ok(made),
+            Err((newest, refusal)) => Err((pass, newest, refusal)),
+        }
+    }
+
+    /// Keeps a record, where the bench has begun a call.
+    fn make_commit(
+        &mut self,
+        alloc: Global,
+        cells: &[OnceBox<Place>],
+        newest: Record,
+    ) -> Result<(Pass<B>, Receipt<B>), (Record, BenchRefusal)>
+        requires cells { map cell_name cells.now ≡ B.names }
+        requires running { (self.old.stopped ≡ false) × Makes new_core self.old.calls self.old.core }
+        requires room { length self.old.calls < length cells.now }
+        ensures ok { IfOk result (λ r. Enters (length cells.now) self.old self.new (seen_all self.old.calls) r.0 r.1 (committed newest)) }
+        ensures refused { IfErr result (λ r. RefusesBegun never self.old self.new r.1) }
+        ensures back { IfErr result (λ r. r.0 ≡ newest) }
+    {
+        let _lines = newest.verdict();
+        let Ok(call) = Call::of_commit(alloc, &newest) else {
+            return Err((newest, BenchRefusal::Memory));
         };
         let Locked {
             core,
@@ -226,20 +321,16 @@ impl<B: Room> Locked<B> {
             stopped,
             of: _,
         } = self;
-        let Ok(copy) = newest.copy(alloc) else {
-            return Err((pass, newest, BenchRefusal::Memory));
-        };
-        let Ok((call, place)) = prepare(alloc, calls, notes, Call::Commit(copy)) else {
-            return Err((pass, newest, BenchRefusal::Memory));
+        let Ok(prepared) = prepare(alloc, calls, notes, call) else {
+            return Err((newest, BenchRefusal::Memory));
         };
         match core.commit(alloc, newest) {
             Ok(()) => {}
-            Err(newest) => return Err((pass, newest, BenchRefusal::Memory)),
+            Err(newest) => return Err((newest, BenchRefusal::Memory)),
         }
-        match conclude(calls, notes, stopped, cells, call, place) {
+        match conclude(calls, notes, stopped, cells, prepared) {
             Ok(made) => return Ok(made),
-            Err(Call::Commit(newest)) => return Err((pass, newest, BenchRefusal::HistoryFull)),
-            Err(_) => unreachable!(),
+            Err(call) => return Err((call.into_commit(), BenchRefusal::HistoryFull)),
         }
     }
 
@@ -258,10 +349,34 @@ impl<B: Room> Locked<B> {
         ensures refused { IfErr result (λ r. Refuses (λ core why. committed_live core newest transcript ≡ Err why) (length cells.now) self.old self.new pass r.0 r.3) }
         ensures back { IfErr result (λ r. (r.1 ≡ newest) × (r.2 ≡ transcript)) }
     {
-        let _lines = newest.verdict();
         let pass = match self.begin(cells.len(), pass) {
             Ok(pass) => pass,
             Err((pass, refusal)) => return Err((pass, newest, transcript, refusal)),
+        };
+        match self.make_live(alloc, cells, newest, transcript) {
+            Ok(made) => Ok(made),
+            Err((newest, transcript, refusal)) => Err((pass, newest, transcript, refusal)),
+        }
+    }
+
+    /// Keeps a live run, where the bench has begun a call.
+    fn make_live(
+        &mut self,
+        alloc: Global,
+        cells: &[OnceBox<Place>],
+        newest: Record,
+        transcript: Transcript,
+    ) -> Result<(Pass<B>, Receipt<B>), (Record, Transcript, BenchRefusal)>
+        requires cells { map cell_name cells.now ≡ B.names }
+        requires running { (self.old.stopped ≡ false) × Makes new_core self.old.calls self.old.core }
+        requires room { length self.old.calls < length cells.now }
+        ensures ok { IfOk result (λ r. Enters (length cells.now) self.old self.new (seen_all self.old.calls) r.0 r.1 (lived newest transcript)) }
+        ensures refused { IfErr result (λ r. RefusesBegun (λ core why. committed_live core newest transcript ≡ Err why) self.old self.new r.2) }
+        ensures back { IfErr result (λ r. (r.0 ≡ newest) × (r.1 ≡ transcript)) }
+    {
+        let _lines = newest.verdict();
+        let Ok(call) = Call::of_live(alloc, &newest, &transcript) else {
+            return Err((newest, transcript, BenchRefusal::Memory));
         };
         let Locked {
             core,
@@ -270,40 +385,26 @@ impl<B: Room> Locked<B> {
             stopped,
             of: _,
         } = self;
-        let Ok((copy, sessions)) = copies(alloc, &newest, &transcript) else {
-            return Err((pass, newest, transcript, BenchRefusal::Memory));
-        };
-        let Ok((call, place)) = prepare(alloc, calls, notes, Call::Live(copy, sessions)) else {
-            return Err((pass, newest, transcript, BenchRefusal::Memory));
+        let Ok(prepared) = prepare(alloc, calls, notes, call) else {
+            return Err((newest, transcript, BenchRefusal::Memory));
         };
         match core.commit_live(alloc, newest, transcript) {
             Ok(()) => {}
             Err((Refusal::Memory, newest, transcript)) => {
-                return Err((pass, newest, transcript, BenchRefusal::Memory));
+                return Err((newest, transcript, BenchRefusal::Memory));
             }
             Err((refusal, newest, transcript)) => {
-                return Err((pass, newest, transcript, BenchRefusal::Edit(refusal)));
+                return Err((newest, transcript, BenchRefusal::Edit(refusal)));
             }
         }
-        match conclude(calls, notes, stopped, cells, call, place) {
+        match conclude(calls, notes, stopped, cells, prepared) {
             Ok(made) => return Ok(made),
-            Err(Call::Live(newest, transcript)) => {
-                return Err((pass, newest, transcript, BenchRefusal::HistoryFull));
+            Err(call) => {
+                let (newest, transcript) = call.into_live();
+                return Err((newest, transcript, BenchRefusal::HistoryFull));
             }
-            Err(_) => unreachable!(),
         }
     }
-}
-
-/// Copies of a record and a transcript.
-fn copies(
-    alloc: Global,
-    newest: &Record,
-    transcript: &Transcript,
-) -> Result<(Record, Transcript), AllocError>
-    ensures { IfOk result (λ r. (r.0 ≡ newest.now) × (r.1 ≡ transcript.now)) }
-{
-    Ok((newest.copy(alloc)?, transcript.copy(alloc)?))
 }
 
 impl<B: Room> Locked<B> {
@@ -390,6 +491,29 @@ impl<B: Room> Locked<B> {
             Ok(pass) => pass,
             Err(refused) => return Err(refused),
         };
+        match self.make_ask(alloc, cells, question) {
+            Ok((seen, receipt, reading)) => Ok((seen, receipt, Answer::Reading(reading))),
+            Err(refusal) => Err((pass, refusal)),
+        }
+    }
+
+    /// Asks the first question for a pattern, where the bench has begun a call: how the pattern is read.
+    fn make_ask(
+        &mut self,
+        alloc: Global,
+        cells: &[OnceBox<Place>],
+        question: &Question,
+    ) -> Result<(Pass<B>, Receipt<B>, Reading), BenchRefusal>
+        requires cells { map cell_name cells.now ≡ B.names }
+        requires running { (self.old.stopped ≡ false) × Makes new_core self.old.calls self.old.core }
+        requires room { length self.old.calls < length cells.now }
+        requires first { look self.old.core.world question.now ≡ None }
+        ensures ok { IfOk result (λ r. Enters (length cells.now) self.old self.new (seen_all self.old.calls) r.0 r.1 (asked question.now (read_as r.2))) }
+        ensures refused { IfErr result (RefusesBegun never self.old self.new) }
+    {
+        let Ok(call) = Call::of_ask(alloc, question, &Answer::Absent) else {
+            return Err(BenchRefusal::Memory);
+        };
         let Locked {
             core,
             calls,
@@ -397,28 +521,17 @@ impl<B: Room> Locked<B> {
             stopped,
             of: _,
         } = self;
-        let Ok(copy) = question.copy(alloc) else {
-            return Err((pass, BenchRefusal::Memory));
+        let Ok(mut prepared) = prepare(alloc, calls, notes, call) else {
+            return Err(BenchRefusal::Memory);
         };
-        let Ok((mut call, mut place)) = prepare(
-            alloc,
-            calls,
-            notes,
-            Call::Ask(copy, Answer::Absent),
-        ) else {
-            return Err((pass, BenchRefusal::Memory));
+        let Ok(reading) = read_first(core, alloc, question) else {
+            return Err(BenchRefusal::Memory);
         };
-        let reading = match core.ask(alloc, question) {
-            Ok(Answer::Reading(reading)) => reading,
-            Ok(_) => unreachable!(),
-            Err(_) => return Err((pass, BenchRefusal::Memory)),
-        };
-        call.tell(reading);
-        place.call.tell(reading);
-        let Ok((seen, receipt)) = conclude(calls, notes, stopped, cells, call, place) else {
-            return Err((pass, BenchRefusal::HistoryFull));
-        };
-        Ok((seen, receipt, Answer::Reading(reading)))
+        prepared.tell(reading);
+        match finish(calls, notes, stopped, cells, prepared) {
+            Ok((pass, receipt)) => return Ok((pass, receipt, reading)),
+            Err(refusal) => return Err(refusal),
+        }
     }
 
     /// The calls, which begin with what a pass has seen; or the locked value again, where the pass has seen more calls.
@@ -432,7 +545,26 @@ impl<B: Room> Locked<B> {
             return Err(self);
         }
         let _seen = self.show(pass.twin());
-        let Locked { calls, .. } = self;
+        let Locked {
+            core: _,
+            calls,
+            notes: _,
+            stopped: _,
+            of: _,
+        } = self;
         Ok(History { calls })
+    }
+}
+
+/// How a pattern is read that is asked for the first time, and whose answer then stays in the book.
+fn read_first(core: &mut Core, alloc: Global, question: &Question) -> Result<Reading, AllocError>
+    requires { look core.old.world question.now ≡ None }
+    ensures ok { IfOk result (λ r. IsAskedOf core.old core.new question.now (read_as r)) }
+    ensures err { OnErr result (core.new ≡ core.old) }
+{
+    match core.ask(alloc, question) {
+        Ok(Answer::Reading(reading)) => Ok(reading),
+        Ok(_) => unreachable!(),
+        Err(_) => Err(AllocError),
     }
 }

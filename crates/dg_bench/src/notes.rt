@@ -10,7 +10,9 @@ ghost use Rattle.dg_bench.specs.Seen.{KnowsAll, Begins, seen_all, called};
 use crate::call::Call;
 use crate::pass::Pass;
 use crate::place::Place;
+use crate::prepared::Prepared;
 use crate::receipt::Receipt;
+use crate::refusal::BenchRefusal;
 use crate::room::Room;
 use once_cell::race::{Note, OnceBox};
 use std::alloc::{AllocError, Global};
@@ -79,20 +81,17 @@ pub(crate) fn prepare(
     calls: &mut Vec<Call>,
     notes: &mut Vec<Note<Place>>,
     call: Call,
-) -> Result<(Call, Box<Place>), AllocError>
+) -> Result<Prepared, AllocError>
     ensures calls { calls.new.items ≡ calls.old.items }
     ensures notes { notes.new.items ≡ notes.old.items }
     ensures room { OnOk result ((vec_len calls.new < vec_capacity calls.new) × (vec_len notes.new < vec_capacity notes.new)) }
-    ensures call { IfOk result (λ r. (r.0 ≡ call) × (r.1.value.call ≡ call)) }
-    ensures before { IfOk result (λ r. r.1.value.before.value.items ≡ calls.old.items) }
+    ensures call { IfOk result (λ p. (p.call ≡ call) × (p.place.value.call ≡ call)) }
+    ensures before { IfOk result (λ p. p.place.value.before.value.items ≡ calls.old.items) }
 {
+    let prepared = Prepared::of(alloc, call, Snapshot::of(calls))?;
     calls.reserve(1)?;
     notes.reserve(1)?;
-    let place = Place {
-        call: call.copy(alloc)?,
-        before: Snapshot::of(calls),
-    };
-    Ok((call, Box::new(alloc, place)?))
+    Ok(prepared)
 }
 
 /// Puts a call into the next place, or gives it back where that place's cell has a value already.
@@ -131,23 +130,23 @@ pub(crate) fn conclude<B: Room>(
     notes: &mut Vec<Note<Place>>,
     stopped: &mut bool,
     cells: &[OnceBox<Place>],
-    call: Call,
-    place: Box<Place>,
+    prepared: Prepared,
 ) -> Result<(Pass<B>, Receipt<B>), Call>
     requires all { KnowsAll B.names notes.old.items calls.old.items }
     requires cells { map cell_name cells.now ≡ B.names }
     requires within { vec_len calls.old < length cells.now }
     requires room { (vec_len calls.old < vec_capacity calls.old) × (vec_len notes.old < vec_capacity notes.old) }
-    requires call { place.value.call ≡ call }
-    requires before { place.value.before.value.items ≡ calls.old.items }
-    requires legal { IsLegal (calls.old.items ++ call ∷ []) }
-    ensures calls { OnOk result (calls.new.items ≡ calls.old.items ++ call ∷ []) }
-    ensures pass { IfOk result (λ r. r.0 ≡ seen_all (calls.old.items ++ call ∷ [])) }
-    ensures receipt { IfOk result (λ r. r.1 ≡ called (length calls.old.items) call) }
+    requires call { prepared.place.value.call ≡ prepared.call }
+    requires before { prepared.place.value.before.value.items ≡ calls.old.items }
+    requires legal { IsLegal (calls.old.items ++ prepared.call ∷ []) }
+    ensures calls { OnOk result (calls.new.items ≡ calls.old.items ++ prepared.call ∷ []) }
+    ensures pass { IfOk result (λ r. r.0 ≡ seen_all (calls.old.items ++ prepared.call ∷ [])) }
+    ensures receipt { IfOk result (λ r. r.1 ≡ called (length calls.old.items) prepared.call) }
     ensures running { OnOk result (stopped.new ≡ stopped.old) }
     ensures all { KnowsAll B.names notes.new.items calls.new.items }
-    ensures refused { IfErr result (λ back. (calls.new.items ≡ calls.old.items) × (stopped.new ≡ true) × (back ≡ call)) }
+    ensures refused { IfErr result (λ back. (calls.new.items ≡ calls.old.items) × (stopped.new ≡ true) × (back ≡ prepared.call)) }
 {
+    let (call, place) = prepared.into_parts();
     match enter(calls, notes, cells, call, place) {
         Ok(receipt) => {
             let pass = whole(notes, calls);
@@ -157,5 +156,33 @@ pub(crate) fn conclude<B: Room>(
             *stopped = true;
             Err(call)
         }
+    }
+}
+
+/// Ends a call that nobody takes back: where the bench stops it is let go.
+pub(crate) fn finish<B: Room>(
+    calls: &mut Vec<Call>,
+    notes: &mut Vec<Note<Place>>,
+    stopped: &mut bool,
+    cells: &[OnceBox<Place>],
+    prepared: Prepared,
+) -> Result<(Pass<B>, Receipt<B>), BenchRefusal>
+    requires all { KnowsAll B.names notes.old.items calls.old.items }
+    requires cells { map cell_name cells.now ≡ B.names }
+    requires within { vec_len calls.old < length cells.now }
+    requires room { (vec_len calls.old < vec_capacity calls.old) × (vec_len notes.old < vec_capacity notes.old) }
+    requires call { prepared.place.value.call ≡ prepared.call }
+    requires before { prepared.place.value.before.value.items ≡ calls.old.items }
+    requires legal { IsLegal (calls.old.items ++ prepared.call ∷ []) }
+    ensures calls { OnOk result (calls.new.items ≡ calls.old.items ++ prepared.call ∷ []) }
+    ensures pass { IfOk result (λ r. r.0 ≡ seen_all (calls.old.items ++ prepared.call ∷ [])) }
+    ensures receipt { IfOk result (λ r. r.1 ≡ called (length calls.old.items) prepared.call) }
+    ensures running { OnOk result (stopped.new ≡ stopped.old) }
+    ensures all { KnowsAll B.names notes.new.items calls.new.items }
+    ensures refused { IfErr result (λ why. (calls.new.items ≡ calls.old.items) × (stopped.new ≡ true) × (why ≡ BenchRefusal.HistoryFull)) }
+{
+    match conclude(calls, notes, stopped, cells, prepared) {
+        Ok(made) => Ok(made),
+        Err(_) => Err(BenchRefusal::HistoryFull),
     }
 }

@@ -10,6 +10,7 @@ use crate::room::Room;
 use crate::work::{Work, WorkFault};
 use dg_bytes::{Seq, TryCopy};
 use dg_core::Reply;
+use dg_live::LiveFault;
 use dg_world::TestId;
 use std::alloc::Global;
 use std::sync::Wait;
@@ -39,22 +40,48 @@ impl<'a, B: Room, M: RunTests, R: Wait> Crew<'a, B, M, R> {
         requires ready { M.is_ready self.now.maker.now }
     {
         self.maker.begin(test);
-        let own = test.copy(self.alloc)?;
         match self.work {
-            Work::Live => match self.maker.run_test(self.alloc, worker, own, client) {
-                Ok((record, transcript)) => {
-                    self.maker.end(&record);
-                    client.commit_live(record, transcript)
-                }
-                Err(why) => Err(client.fault(test.copy(self.alloc)?, why)),
-            },
-            Work::Rejudge => match client.rejudge(own) {
-                Ok(record) => {
-                    self.maker.end(&record);
-                    client.commit(record)
-                }
-                Err(why) => Err(client.fault(test.copy(self.alloc)?, why)),
-            },
+            Work::Live => self.judge_live(client, worker, test),
+            Work::Rejudge => self.rejudge(client, test),
+        }
+    }
+
+    /// Judges a test with children of its own.
+    fn judge_live(
+        &self,
+        client: &mut Client<'a, B, R>,
+        worker: usize,
+        test: &TestId,
+    ) -> Result<(), WorkFault>
+        requires ready { M.is_ready self.now.maker.now }
+    {
+        let own = test.copy(self.alloc)?;
+        match self.maker.run_test(self.alloc, worker, own, client) {
+            Ok((record, transcript)) => {
+                self.maker.end(&record);
+                client.commit_live(record, transcript)
+            }
+            Err(why) => Err(self.fault(client, test, why)),
+        }
+    }
+
+    /// Judges a test, whose children answer from their transcripts.
+    fn rejudge(&self, client: &mut Client<'a, B, R>, test: &TestId) -> Result<(), WorkFault> {
+        let own = test.copy(self.alloc)?;
+        match client.rejudge(own) {
+            Ok(record) => {
+                self.maker.end(&record);
+                client.commit(record)
+            }
+            Err(why) => Err(self.fault(client, test, why)),
+        }
+    }
+
+    /// The fault of a judging that gave no record.
+    fn fault(&self, client: &mut Client<'a, B, R>, test: &TestId, why: LiveFault) -> WorkFault {
+        match test.copy(self.alloc) {
+            Ok(own) => client.fault(own, why),
+            Err(_) => WorkFault::Memory,
         }
     }
 

@@ -1,22 +1,22 @@
-use Rattle.std.proofs.Common.{◌≡◌, ◌∷◌, ◌++◌, [], ap, ◌∙◌}
+use Rattle.std.proofs.Common.{◌≡◌, false, length, sym, subst}
+use Rattle.std.specs.Prelude.{Err}
+use Rattle.dg_core.specs.Core.{new_core, committed_live}
 use Rattle.dg_bench.specs.declared.call.Call.TheVariants.{Live as lived}
-use Rattle.dg_bench.specs.Seen.{kept_of}
-use Rattle.dg_bench.proofs.Making.{next_legal, kept_next}
+use Rattle.dg_bench.specs.History.{Makes}
+use Rattle.dg_bench.specs.Seen.{Kept}
+use Rattle.dg_bench.proofs.Making.{entered_later, refused_begun}
 use Rattle.dg_bench.proofs.locked.Locked.commit_live.Goals as goal
 
-pub conclude-requires-clause-legal : goal.conclude-requires-clause-legal
-conclude-requires-clause-legal g c =
-    let view : kept_of c.self.inside.core c.self.inside.calls.items c.self.inside.stopped ≡ c.args.self.now = c.self.view_is ∙ c.begin.ensures.same in
-    let same : c.in-Ok-prepare.call ≡ lived c.args.newest c.args.transcript =
-    c.in-Ok-prepare.ensures.call.0 ∙ ap (λ r. lived r c.in-Ok-copies.sessions) c.in-Ok-copies.ensures.0 ∙ ap (lived c.args.newest) c.in-Ok-copies.ensures.1 in
-    rw c.in-Ok-prepare.ensures.calls
-    (next_legal c.args.self.now c.self.inside.core c.commit_live.new.self c.self.inside.calls.items c.self.inside.stopped c.in-Ok-prepare.call (lived c.args.newest c.args.transcript) view c.in-Ok.ensures.running same (c.verdict-lines.ensures.is_true, c.in-Ok-commit_live.ensures.ok))
+pub make_live-requires-clause-running : goal.make_live-requires-clause-running
+make_live-requires-clause-running g c =
+    subst (λ (k : Kept). (k.stopped ≡ false) × Makes new_core k.calls k.core) (sym c.begin.ensures.same) c.in-Ok.ensures.running
 
-pub invariant_of-self-in-Ok-conclude : goal.invariant_of-self-in-Ok-conclude
-invariant_of-self-in-Ok-conclude g c =
-    let view : kept_of c.self.inside.core c.self.inside.calls.items c.self.inside.stopped ≡ c.args.self.now = c.self.view_is ∙ c.begin.ensures.same in
-    let same : c.in-Ok-prepare.call ≡ lived c.args.newest c.args.transcript =
-    c.in-Ok-prepare.ensures.call.0 ∙ ap (λ r. lived r c.in-Ok-copies.sessions) c.in-Ok-copies.ensures.0 ∙ ap (lived c.args.newest) c.in-Ok-copies.ensures.1 in
-    let now : c.conclude.new.calls.items ≡ c.self.inside.calls.items ++ c.in-Ok-prepare.call ∷ [] =
-    c.in-Ok-conclude.ensures.calls ∙ ap (λ xs. xs ++ c.in-Ok-prepare.call ∷ []) c.in-Ok-prepare.ensures.calls in
-    kept_next g.B.Room.names c.args.self.now c.self.inside.core c.commit_live.new.self c.self.inside.calls.items c.conclude.new.calls.items c.conclude.new.notes.items c.self.inside.stopped c.conclude.new.stopped c.in-Ok-prepare.call (lived c.args.newest c.args.transcript) view c.in-Ok.ensures.running same (c.verdict-lines.ensures.is_true, c.in-Ok-commit_live.ensures.ok) now c.in-Ok-conclude.ensures.all
+pub returns-in-Ok-make_live-clause-ok : goal.returns-in-Ok-make_live-clause-ok
+returns-in-Ok-make_live-clause-ok g c =
+    entered_later (length c.args.cells.now) c.args.self.now c.begin.new.self c.make_live.new.self c.args.pass c.in-Ok.pass c.in-Ok-make_live.made.0 c.in-Ok-make_live.made.1 (lived c.args.newest c.args.transcript) c.begin.ensures.same
+    c.in-Ok.ensures.seen c.in-Ok-make_live.ensures.ok
+
+pub returns-in-Err-make_live-clause-refused : goal.returns-in-Err-make_live-clause-refused
+returns-in-Err-make_live-clause-refused g c =
+    refused_begun (λ core why. committed_live core c.args.newest c.args.transcript ≡ Err why) (length c.args.cells.now) c.args.self.now c.begin.new.self c.make_live.new.self c.args.pass c.in-Ok.pass c.in-Err-make_live.refusal
+    c.begin.ensures.same c.in-Ok.ensures.seen c.in-Ok.ensures.running c.in-Ok.ensures.room c.in-Err-make_live.ensures.refused

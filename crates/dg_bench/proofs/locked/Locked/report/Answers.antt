@@ -1,20 +1,22 @@
-use Rattle.std.proofs.Common.{◌≡◌, ◌∷◌, ◌++◌, [], refl, ap, ◌∙◌}
+use Rattle.std.proofs.Common.{◌≡◌, false, length, sym, subst}
+use Rattle.dg_core.specs.Core.{new_core}
 use Rattle.dg_bench.specs.declared.call.Call.TheVariants.{Report as reported}
-use Rattle.dg_bench.specs.Seen.{kept_of}
-use Rattle.dg_bench.proofs.Making.{next_legal, kept_next}
+use Rattle.dg_bench.specs.History.{Makes}
+use Rattle.dg_bench.specs.Seen.{Kept}
+use Rattle.dg_bench.specs.Refusals.{never}
+use Rattle.dg_bench.proofs.Making.{entered_later, refused_begun}
 use Rattle.dg_bench.proofs.locked.Locked.report.Goals as goal
 
-pub conclude-requires-clause-legal : goal.conclude-requires-clause-legal
-conclude-requires-clause-legal g c =
-    let view : kept_of c.self.inside.core c.self.inside.calls.items c.self.inside.stopped ≡ c.args.self.now = c.self.view_is ∙ c.begin.ensures.same in
-    let same : c.in-Ok-prepare.call ≡ reported c.in-Ok-report.reply = c.in-Ok-prepare.ensures.call.0 ∙ ap reported c.in-Ok-copy.ensures in
-    rw c.in-Ok-prepare.ensures.calls
-    (next_legal c.args.self.now c.self.inside.core c.self.inside.core c.self.inside.calls.items c.self.inside.stopped c.in-Ok-prepare.call (reported c.in-Ok-report.reply) view c.in-Ok.ensures.running same (refl, c.in-Ok-report.ensures))
+pub make_report-requires-clause-running : goal.make_report-requires-clause-running
+make_report-requires-clause-running g c =
+    subst (λ (k : Kept). (k.stopped ≡ false) × Makes new_core k.calls k.core) (sym c.begin.ensures.same) c.in-Ok.ensures.running
 
-pub invariant_of-self-2 : goal.invariant_of-self-2
-invariant_of-self-2 g c =
-    let view : kept_of c.self.inside.core c.self.inside.calls.items c.self.inside.stopped ≡ c.args.self.now = c.self.view_is ∙ c.begin.ensures.same in
-    let same : c.in-Ok-prepare.call ≡ reported c.in-Ok-report.reply = c.in-Ok-prepare.ensures.call.0 ∙ ap reported c.in-Ok-copy.ensures in
-    let now : c.conclude.new.calls.items ≡ c.self.inside.calls.items ++ c.in-Ok-prepare.call ∷ [] =
-    c.in-Ok-conclude.ensures.calls ∙ ap (λ xs. xs ++ c.in-Ok-prepare.call ∷ []) c.in-Ok-prepare.ensures.calls in
-    kept_next g.B.Room.names c.args.self.now c.self.inside.core c.self.inside.core c.self.inside.calls.items c.conclude.new.calls.items c.conclude.new.notes.items c.self.inside.stopped c.conclude.new.stopped c.in-Ok-prepare.call (reported c.in-Ok-report.reply) view c.in-Ok.ensures.running same (refl, c.in-Ok-report.ensures) now c.in-Ok-conclude.ensures.all
+pub returns-in-Ok-make_report-clause-ok : goal.returns-in-Ok-make_report-clause-ok
+returns-in-Ok-make_report-clause-ok g c =
+    entered_later (length c.args.cells.now) c.args.self.now c.begin.new.self c.make_report.new.self c.args.pass c.in-Ok.pass c.in-Ok-make_report.made.0 c.in-Ok-make_report.made.1 (reported c.in-Ok-make_report.made.2) c.begin.ensures.same
+    c.in-Ok.ensures.seen c.in-Ok-make_report.ensures.ok
+
+pub returns-in-Err-make_report-clause-refused : goal.returns-in-Err-make_report-clause-refused
+returns-in-Err-make_report-clause-refused g c =
+    refused_begun never (length c.args.cells.now) c.args.self.now c.begin.new.self c.make_report.new.self c.args.pass c.in-Ok.pass c.in-Err-make_report.refusal
+    c.begin.ensures.same c.in-Ok.ensures.seen c.in-Ok.ensures.running c.in-Ok.ensures.room c.in-Err-make_report.ensures.refused
