@@ -6,7 +6,7 @@
 
 A check writes a file for each part of a function's proof as soon as it is done with it, so with one job the time between two files
 is what the later one took. The parts: `Lts` is the borrow checker's, `Proof` the contract's, `Tie`, `Kinds` and `Layout` those of types
-and of what lets their values go. The borrow checker's part grows faster than a function: with each `?`, and with each value that is
+and of what lets their values go. The borrow checker's part grows with each `?`, and with each value that is
 let go on several paths.
 """
 import sys
