@@ -16,7 +16,7 @@ use std::thread::Threads;
 use std::time::Clock;
 
 /// A gate whose children are processes of the system, with pipes for their input and output. Their
-/// error streams are let go. One thread reads each output into a ring of 64 items; `close` lets the
+/// error streams are let go. One thread reads each output into a ring of 2,048 items; `close` lets the
 /// child's input and its ring go; `stop` kills and reaps what is left.
 ///
 /// A session's number is one more than that of the session before it. A call that doesn't fit its

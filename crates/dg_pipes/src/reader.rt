@@ -14,11 +14,19 @@ use std::io::Read;
 use std::sync::Wait;
 use std::time::Duration;
 
-/// The most bytes of a chunk.
-const MOST: usize = 4096;
+/// The most bytes of a chunk: half of the bytes that a buffer keeps by itself, so that of what comes at once nothing is
+/// forgotten before the patterns were tried on it.
+const MOST: usize = 1000;
 
 /// The longest sleep of the reader thread in milliseconds, where the ring is full.
 const NAP: u64 = 50;
+
+/// With fewer free places in the ring than this the reader thread sleeps for a moment behind each item, so that what comes
+/// meanwhile is one longer piece: the ring then holds more of an output that nobody takes yet, as while a long text is sent.
+const SCARCE: usize = 1024;
+
+/// How long that moment is in milliseconds.
+const MOMENT: u64 = 1;
 
 // Waits until the item is pushed, and wakes the judging thread. False where the other end is gone.
 fn put(rt: &impl Wait, ring: &mut Producer<Item, Global, Rule>, bells: &Bells, item: Item) -> bool
@@ -34,6 +42,9 @@ fn put(rt: &impl Wait, ring: &mut Producer<Item, Global, Rule>, bells: &Bells, i
         match ring.push(item) {
             Ok(()) => {
                 bells.came.unpark();
+                if ring.cached_slots() < SCARCE && ring.slots() < SCARCE {
+                    bells.room.park_timeout(rt, Duration::from_millis(MOMENT));
+                }
                 return true;
             }
             Err(PushError::Full(back)) => item = back,

@@ -21,11 +21,11 @@ use std::thread::{Promise, PromisedHandle, Threads};
 use std::time::Clock;
 
 /// How many items a ring holds.
-const SLOTS: usize = 64;
+const SLOTS: usize = 2048;
 /// How long a stop waits for what is left of an output, in milliseconds.
 const PATIENCE: u32 = 250;
 /// The most items that a stop takes: more than a ring and a pipe hold.
-const MOST_LEFT: usize = 1024;
+const MOST_LEFT: usize = 4096;
 
 /// The ring that the thread was given.
 #[derive(Drop)]
