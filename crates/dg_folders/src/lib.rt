@@ -10,4 +10,4 @@ mod writing;
 pub use crate::fault::RunFault;
 pub use crate::paths::{sum_path, transcript_path};
 pub use crate::suite::{Intake, read_suite, read_transcript};
-pub use crate::writing::{write_in_place, write_transcript};
+pub use crate::writing::{write_in_place, write_transcript, write_with_folders};

@@ -81,6 +81,18 @@ fn replace_in_folder<R: Files + AllocGlobal>(rt: &R, path: &str, bytes: &[u8]) -
     replace(rt, path, bytes)
 }
 
+/// Writes a file as `write_in_place` does, and makes the folders that it stands in.
+pub fn write_with_folders<R: Files + AllocGlobal>(
+    rt: &R,
+    path: &str,
+    bytes: &[u8],
+) -> Result<(), RunFault> {
+    match replace_in_folder(rt, path, bytes) {
+        Ok(()) => Ok(()),
+        Err(error) => Err(RunFault::of_write(rt.alloc(), path, &error)),
+    }
+}
+
 /// Writes a transcript, and makes the folders that it stands in. A file that has this text already is left as it is.
 pub fn write_transcript<R: Files + AllocGlobal>(
     rt: &R,
@@ -90,8 +102,5 @@ pub fn write_transcript<R: Files + AllocGlobal>(
     if has_bytes(rt, path, text) {
         return Ok(());
     }
-    match replace_in_folder(rt, path, text) {
-        Ok(()) => Ok(()),
-        Err(error) => Err(RunFault::of_write(rt.alloc(), path, &error)),
-    }
+    write_with_folders(rt, path, text)
 }

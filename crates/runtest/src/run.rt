@@ -9,7 +9,9 @@ use crate::transcripts::{path_of, write_transcripts};
 use dg_bench::{Bench, Call, Opened, Pass, Room, Work, WorkFault, run_workers};
 use dg_bytes::{Bytes, Seq};
 use dg_core::Reply;
-use dg_folders::{Intake, RunFault, read_suite, read_transcript, sum_path, write_in_place};
+use dg_folders::{
+    Intake, RunFault, read_suite, read_transcript, sum_path, write_in_place, write_with_folders,
+};
 use dg_line::{Mode, Plan};
 use dg_pipes::Fresh;
 use dg_session::cause_number;
@@ -234,7 +236,10 @@ where
     let outdir = course.outdir.as_str();
     write_transcripts(rt, outdir, tests.as_slice(), history.calls())?;
     let path = sum_path(alloc, outdir, course.tool.as_str())?;
-    write_in_place(rt, path.as_str(), report.as_slice())?;
+    match course.mode {
+        Mode::Run => write_with_folders(rt, path.as_str(), report.as_slice())?,
+        Mode::Rejudge | Mode::Session => write_in_place(rt, path.as_str(), report.as_slice())?,
+    }
     Ok(Outcome {
         report,
         status,
@@ -243,7 +248,7 @@ where
 }
 
 /// Reads the suite of a plan, judges what is selected, live or by the transcripts that an earlier run wrote, and writes the
-/// transcripts of what was run, and the report to `OUTDIR/TOOL.sum`.
+/// transcripts of what was run, and the report to `OUTDIR/TOOL.sum`. A run makes OUTDIR where it isn't there.
 pub(crate) fn run_plan<R>(rt: &R, plan: Plan, progress: &Progress<R>) -> Result<Outcome, RunFault>
 where
     R: Files
