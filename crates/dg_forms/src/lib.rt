@@ -5,6 +5,7 @@ mod arguments;
 mod boards;
 mod clause;
 mod completing;
+mod elements;
 mod expect;
 mod expression;
 mod immediate;
@@ -25,6 +26,7 @@ pub use crate::boards::{
     tool_library, tool_of, triplet_of,
 };
 pub use crate::clause::clauses_of;
+pub use crate::elements::Elements;
 pub use crate::expect::{
     action_at, end_action, expect_words, limit_of, listed, regexes_in, timeout_action,
 };

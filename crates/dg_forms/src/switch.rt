@@ -3,10 +3,12 @@ ghost use Rattle.std.specs.Prelude.{◌≡◌, ◌∷◌, IfOk, MatchOption, Som
 ghost use Rattle.dg_language.specs.Switching.{among, behind_kind, body_for, first_body, flag_in, is, is_flag, last_fault, matching_of, pairs_fault, switched, taken, takes};
 
 use crate::arguments::split;
-use crate::values::{elements_in, with_quoted, wrong_count};
+use crate::elements::Elements;
+use crate::values::{with_quoted, wrong_count};
 use dg_bytes::{Bytes, TryCopy};
 use dg_cmds::glob_matches;
 use dg_language::Matching;
+use dg_shelf::Shelf;
 use std::alloc::{AllocError, Global};
 
 /// Whether a word is this one.
@@ -116,6 +118,7 @@ fn among(
 /// The body that is taken for a text, with the pairs as one list or as words behind it.
 fn taken(
     alloc: Global,
+    lists: &mut Shelf<Elements>,
     matching: Matching,
     args: &[Bytes],
 ) -> Result<Result<Option<Bytes>, Bytes>, AllocError>
@@ -130,9 +133,10 @@ fn taken(
     if !others.is_empty() {
         return among(alloc, matching, text, pairs);
     }
-    match elements_in(alloc, first.as_slice())? {
-        Ok(pairs) => among(alloc, matching, text, pairs.as_slice()),
-        Err(message) => Ok(Err(message)),
+    let elements = lists.reading(alloc, first)?;
+    match elements.get() {
+        Ok(pairs) => among(alloc, matching, text, pairs),
+        Err(message) => Ok(Err(message.copy(alloc)?)),
     }
 }
 
@@ -173,32 +177,37 @@ fn matching_of(flag: &Bytes) -> Option<Matching>
 /// The body that is taken, once the kind of matching is known: only `--` may come before the text.
 fn behind_kind(
     alloc: Global,
+    lists: &mut Shelf<Elements>,
     matching: Matching,
     args: &[Bytes],
 ) -> Result<Result<Option<Bytes>, Bytes>, AllocError>
     ensures { IfOk result (λ r. r ≡ behind_kind matching args.now (flag_in args.now)) }
 {
     let Some((flag, others)) = flag_in(args) else {
-        return taken(alloc, matching, args);
+        return taken(alloc, lists, matching, args);
     };
     if is(flag, b"--") {
-        return taken(alloc, matching, others);
+        return taken(alloc, lists, matching, others);
     }
     let message = with_quoted(alloc, b"bad flag ", flag.as_slice())?;
     Ok(Err(message))
 }
 
 /// The body that `switch` takes of these words, if it takes one, or the message of their fault: by switch(n), a wrong count of
-/// words, a bad flag, a list that can't be read, a pattern without a body.
+/// words, a bad flag, a list that can't be read, a pattern without a body. A list that is kept isn't read again.
 #[tactic(auto, unfolding(dg_language::specs::Switching::switched))]
-pub fn switched(alloc: Global, args: &[Bytes]) -> Result<Result<Option<Bytes>, Bytes>, AllocError>
+pub fn switched(
+    alloc: Global,
+    lists: &mut Shelf<Elements>,
+    args: &[Bytes],
+) -> Result<Result<Option<Bytes>, Bytes>, AllocError>
     ensures { IfOk result (λ r. r ≡ switched args.now) }
 {
     let Some((flag, others)) = flag_in(args) else {
-        return taken(alloc, Matching::Exact, args);
+        return taken(alloc, lists, Matching::Exact, args);
     };
     match matching_of(flag) {
-        Some(matching) => behind_kind(alloc, matching, others),
-        None => behind_kind(alloc, Matching::Exact, args),
+        Some(matching) => behind_kind(alloc, lists, matching, others),
+        None => behind_kind(alloc, lists, Matching::Exact, args),
     }
 }

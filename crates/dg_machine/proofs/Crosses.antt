@@ -4,6 +4,7 @@ use denote.Param.Send.{EachSend, IsSend, IsSync, enum_send, recorded_send, senda
 use Rattle.std.proofs.Crossing.{Arc-send}
 use Rattle.dg_bytes.proofs.bytes.Bytes.TheSendSync as bytes
 use Rattle.dg_bytes.proofs.seq.Seq.TheSendSync as seq
+use Rattle.dg_forms.specs.contracts.elements.Elements as Elements
 use Rattle.dg_language.proofs.Crosses.{Commands-send, Commands-sync, Instruction-send, Instruction-sync}
 use Rattle.dg_bytes.specs.contracts.seq.Seq as Seq
 use Rattle.dg_language.specs.contracts.substitution.Substitution as Substitution
@@ -38,6 +39,7 @@ use Rattle.dg_machine.specs.contracts.frame.Rounds as Rounds
 use Rattle.dg_machine.specs.contracts.machine.Machine as Machine
 use Rattle.dg_machine.specs.contracts.patterns.Prepared as Prepared
 use Rattle.dg_machine.specs.contracts.instructions.Formula as Formula
+use Rattle.dg_machine.specs.contracts.lists.Listing as Listing
 use Rattle.dg_machine.specs.contracts.instructions.Instructions as Instructions
 use Rattle.dg_machine.specs.contracts.instructions.Condition as Condition
 use Rattle.dg_machine.specs.contracts.script.Body as Body
@@ -68,6 +70,18 @@ Formula-send = let code = seq.the_send Instruction.the_row Instruction-send in s
 
 Formula-sync : IsSync Formula.the_row
 Formula-sync = let code = seq.the_sync Instruction.the_row Instruction-sync in search (sendable, Steps-sync) depth 20
+
+Elements-send : IsSend Elements.the_row
+Elements-send = search (sendable, bytes.the_send, seq.the_send) depth 20
+
+Elements-sync : IsSync Elements.the_row
+Elements-sync = search (sendable, bytes.the_sync, seq.the_sync) depth 20
+
+Listing-send : IsSend Listing.the_row
+Listing-send = search (sendable, bytes.the_send) depth 20
+
+Listing-sync : IsSync Listing.the_row
+Listing-sync = search (sendable, bytes.the_sync) depth 20
 
 Instructions-send : IsSend Instructions.the_row
 Instructions-send = let kept = Arc-send Formula.the_row Formula-send Formula-sync in search sendable depth 20
@@ -175,7 +189,7 @@ Frame-send = let each = enum_send (shape Frame.the_type) Frames-send in search (
 Machine-send : IsSend Machine.the_field.row
 Machine-send =
     let frames = stack.the_send Frame.the_row Frame-send in
-    search (sendable, state.the_send, control.the_field_send, Programs-send, shelf.the_send, Read-send, Read-sync, Formula-send, Formula-sync) depth 20
+    search (sendable, state.the_send, control.the_field_send, Programs-send, shelf.the_send, Read-send, Read-sync, Formula-send, Formula-sync, Elements-send, Elements-sync, Listing-send, Listing-sync) depth 20
 
 Kept-machine-send : IsSend (Boxed.the_row Machine.the_row)
 Kept-machine-send = let machine : IsSend Machine.the_row = search (recorded_send, Machine-send) depth 20 in boxed.the_send Machine.the_row machine

@@ -21,7 +21,7 @@ use Rattle.dg_machine.specs.Meaning.{rest, go, all_back, told, ComesTo}
 use Rattle.dg_machine.specs.Evaluating.{IsOnce, IsLeft, IsAsking, NeedsNext, HasEnded}
 
 -- an evaluation begins as the judging of its test
-pub starts : (test : TestId) (m : Machine) → m ≡ record { state = fresh test; stack = Opening Board ∷ []; control = Go; programs = []; scripts = tt; formulas = tt } → IsLeft test m
+pub starts : (test : TestId) (m : Machine) → m ≡ record { state = fresh test; stack = Opening Board ∷ []; control = Go; programs = []; scripts = tt; formulas = tt; pairs = tt; lists = tt } → IsLeft test m
 unfolding rest go all_back judge fresh
 starts test m e = rw e (record { once = tt; leads = refl })
 

@@ -147,7 +147,7 @@ impl Machine {
         requires { self.old.control ≡ Control.Go }
         ensures { IfOk result (GoesAs (do_switch (evaluate depth) args.now) 4 self.old self.new) }
     {
-        match switched(alloc, args)? {
+        match switched(alloc, &mut self.pairs, args)? {
             Ok(body) => Ok(self.otherwise(alloc, body, depth)?),
             Err(message) => Ok(self.fail(alloc, message)?),
         }

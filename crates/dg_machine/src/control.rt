@@ -8,6 +8,7 @@ ghost use Rattle.dg_machine.specs.declared.frame.Control.{Control};
 ghost use Rattle.dg_machine.specs.Meaning.{all_back, weight_of, Comes, Goes, GoesAs};
 
 use crate::frame::{Frame, Pace, Rounds};
+use crate::lists::with_elements;
 use crate::machine::Machine;
 use crate::script::Body;
 use dg_bytes::{Bytes, Seq, TryCopy};
@@ -120,7 +121,8 @@ impl Machine {
             let message = Bytes::from_slice(alloc, b"foreach varlist is empty")?;
             return Ok(self.fail(alloc, message)?);
         }
-        let values = match elements_held(alloc, values)? {
+        let values = with_elements(alloc, &mut self.lists, values.copy(alloc)?)?;
+        let values = match elements_held(alloc, &values)? {
             Ok(values) => Queue::new(values.into_vec()),
             Err(message) => return Ok(self.fail(alloc, message)?),
         };

@@ -9,6 +9,7 @@ ghost use Rattle.dg_machine.specs.declared.frame.Control.{Control};
 ghost use Rattle.dg_machine.specs.Meaning.{all_back, weight_of, budget, Comes, RunsAs, GoesAs};
 
 use crate::frame::{Frame, Making, Pace};
+use crate::lists::with_lists;
 use crate::machine::Machine;
 use dg_bytes::{Bytes, Seq, TryCopy};
 use dg_cmds::{CmdFault, run_pure};
@@ -145,6 +146,7 @@ impl Machine {
         requires { self.old.control ≡ Control.Go }
         ensures { IfOk result (λ p. Comes (command (evaluate depth) words self.old.state (all_back self.old.stack)) self.old.state.known (weight_of self.old + 2 ^ 250) self.new p) }
     {
+        let words = with_lists(alloc, &mut self.lists, words)?;
         let pace = self.command(alloc, words.as_slice(), depth)?;
         if let Pace::Stands(_) = &pace {
             self.stack.push(Frame::Running { words, depth })?;

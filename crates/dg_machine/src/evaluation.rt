@@ -4,6 +4,7 @@ ghost use Rattle.dg_world.specs.Question.{fits};
 
 use crate::boxed::Boxed;
 use crate::frame::{Closing, Control, Frame, Opening, Stack, Stop};
+use crate::lists::LONGEST_LIST;
 use crate::machine::Machine;
 use crate::script::KEPT;
 use dg_bytes::Seq;
@@ -15,8 +16,10 @@ use dg_world::{Answer, Read, TestId};
 use std::alloc::{AllocError, Global};
 use std::marker::Model;
 
-/// How many scripts, and how many expressions, are kept at most.
+/// How many scripts, expressions and pairs of `switch` are kept at most, of each.
 const PLACES: usize = 64;
+/// How many long lists a machine keeps beside their texts.
+const LIST_PLACES: usize = 4;
 
 /// The judging of a test, between two questions. A contract sees its test, the answers so far and
 /// the steps that were taken.
@@ -120,6 +123,8 @@ impl Evaluation {
             programs: Programs::new(alloc),
             scripts: Shelf::new(alloc, PLACES, KEPT),
             formulas: Shelf::new(alloc, PLACES, KEPT),
+            pairs: Shelf::new(alloc, PLACES, KEPT),
+            lists: Shelf::new(alloc, LIST_PLACES, LONGEST_LIST),
         };
         let machine = Boxed::new(alloc, machine)?;
         Ok(Evaluation { test, machine })

@@ -14,6 +14,7 @@ mod frame;
 mod gather;
 mod instructions;
 mod libraries;
+mod lists;
 mod machine;
 mod matches;
 mod opening;

@@ -12,9 +12,10 @@ ghost use Rattle.dg_machine.specs.Meaning.{all_back, budget, making_on, weight, 
 use crate::boxed::Boxed;
 use crate::frame::{Closing, Control, Frame, Making, Pace, Stack, plain_ask};
 use crate::instructions::Formula;
+use crate::lists::Listing;
 use crate::script::{Begun, Commands, KEPT, Script};
 use dg_bytes::{Bytes, TryCopy};
-use dg_forms::wrong_count;
+use dg_forms::{Elements, wrong_count};
 use dg_language::{Close, Code, State, Touch};
 use dg_match::Programs;
 use dg_scope::LONGEST_VALUE;
@@ -29,9 +30,11 @@ pub(crate) struct Machine {
     pub control: Control,
     /// The `-re` patterns that were built.
     pub programs: Programs,
-    /// The scripts and the expressions that were read lately.
+    /// The scripts, the expressions, the pairs of `switch` and the long lists that were read lately.
     pub scripts: Shelf<Commands>,
     pub formulas: Shelf<Formula>,
+    pub pairs: Shelf<Elements>,
+    pub lists: Shelf<Listing>,
 }
 
 /// Written by hand, and so one call for whoever lets a machine go.
@@ -44,6 +47,8 @@ impl Drop for Machine {
             programs: _,
             scripts: _,
             formulas: _,
+            pairs: _,
+            lists: _,
         } = self;
     }
 }
@@ -60,6 +65,8 @@ impl Machine {
             programs: _,
             scripts: _,
             formulas: _,
+            pairs: _,
+            lists: _,
         } = self;
         state
     }

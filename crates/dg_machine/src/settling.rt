@@ -93,13 +93,16 @@ fn value_set(
     ensures sets { IfOk result (λ o. IfSome o (λ v. Sets steps.now state.now name.now v)) }
     ensures short { IfOk result (λ o. IfSome o (λ v. length v ≤ value_limit)) }
 {
-    if steps.len() != 6 || is_hidden(state, b"set") {
+    if steps.len() != 6 {
+        return Ok(None);
+    }
+    let Some(value) = text_word(state, steps, 4) else {
+        return Ok(None);
+    };
+    if is_hidden(state, b"set") {
         return Ok(None);
     }
     let Some(_old) = state.value_in_use(name.as_slice()) else {
-        return Ok(None);
-    };
-    let Some(value) = text_word(state, steps, 4) else {
         return Ok(None);
     };
     Ok(Some(value.copy(alloc)?))
@@ -223,6 +226,11 @@ fn script_word(steps: &[Substitution], at: usize) -> Option<&Bytes>
     }
 }
 
+/// Whether a script begins as an `expr` does.
+fn begins_expr(script: &Bytes) -> bool {
+    script.as_slice().starts_with(b"expr")
+}
+
 impl Machine {
     /// The value of the command of a script that has one only, where that is an expression that comes to its value by itself. Its
     /// step is taken then; else nothing has changed.
@@ -264,7 +272,7 @@ impl Machine {
         ensures after { IfOk result (λ o. IsAfter o self.old.state self.new.state) }
         ensures same { OnOk result (self.new ≡ record self.old { state = self.new.state }) }
     {
-        if depth == 0 || script.len() > KEPT || !script.as_slice().starts_with(b"expr") {
+        if depth == 0 || script.len() > KEPT || !begins_expr(script) {
             return Ok(None);
         }
         let commands = self.scripts.reading(alloc, script)?;
@@ -288,16 +296,19 @@ impl Machine {
         let Some(command) = literal_word(steps, 0) else {
             return Ok(None);
         };
-        if steps.len() != 6 || !command.is(b"set") || is_hidden(&self.state, b"set") {
+        if steps.len() != 6 || !command.is(b"set") {
+            return Ok(None);
+        }
+        let Some(script) = script_word(steps, 4) else {
+            return Ok(None);
+        };
+        if !begins_expr(script) || is_hidden(&self.state, b"set") {
             return Ok(None);
         }
         let Some(name) = literal_word(steps, 2) else {
             return Ok(None);
         };
         let Some(_old) = self.state.value_in_use(name.as_slice()) else {
-            return Ok(None);
-        };
-        let Some(script) = script_word(steps, 4) else {
             return Ok(None);
         };
         let Some(value) = self.value_of_script(alloc, script, depth)? else {
