@@ -21,11 +21,9 @@ const MOST: usize = 1000;
 /// The longest sleep of the reader thread in milliseconds, where the ring is full.
 const NAP: u64 = 50;
 
-/// With fewer free places in the ring than this the reader thread sleeps for a moment behind each item, so that what comes
-/// meanwhile is one longer piece: the ring then holds more of an output that nobody takes yet, as while a long text is sent.
-const SCARCE: usize = 1024;
-
-/// How long that moment is in milliseconds.
+/// How long the reader thread sleeps behind each item in milliseconds, where less than half of the ring is free, so that what
+/// comes meanwhile is one longer piece: the ring then holds more of an output that nobody takes yet, as while a long text is
+/// sent.
 const MOMENT: u64 = 1;
 
 // Waits until the item is pushed, and wakes the judging thread. False where the other end is gone.
@@ -42,7 +40,8 @@ fn put(rt: &impl Wait, ring: &mut Producer<Item, Global, Rule>, bells: &Bells, i
         match ring.push(item) {
             Ok(()) => {
                 bells.came.unpark();
-                if ring.cached_slots() < SCARCE && ring.slots() < SCARCE {
+                let half = ring.capacity() / 2;
+                if ring.cached_slots() < half && ring.slots() < half {
                     bells.room.park_timeout(rt, Duration::from_millis(MOMENT));
                 }
                 return true;

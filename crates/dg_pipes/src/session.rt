@@ -22,8 +22,10 @@ use std::time::Clock;
 
 /// How many items a ring holds.
 const SLOTS: usize = 2048;
-/// How long a stop waits for what is left of an output, in milliseconds.
+/// How long a stop waits for the next item of what is left of an output, in milliseconds.
 const PATIENCE: u32 = 250;
+/// How long it waits for all of it, in milliseconds.
+const LONGEST: u32 = 2000;
 /// The most items that a stop takes: more than a ring and a pipe hold.
 const MOST_LEFT: usize = 4096;
 
@@ -146,10 +148,16 @@ impl Session {
         ensures more { IsPrefix (received self.old.ring) (received self.new.ring) }
         ensures done { result ≡ has_ended (received self.new.ring) }
     {
+        let mut left = LONGEST;
         for _ in 0..MOST_LEFT {
-            if self.is_done || self.read(rt, PATIENCE).1.is_none() {
+            if self.is_done {
+                return true;
+            }
+            let (waited, item) = self.read(rt, PATIENCE.min(left));
+            if item.is_none() {
                 return self.is_done;
             }
+            left = left.saturating_sub(waited);
         }
         self.is_done
     }
