@@ -1,16 +1,11 @@
 -- An evaluation, running or asking, may go to another thread.
 use denote.Enum.Declared.{shape, variants}
 use denote.Param.Send.{EachSend, IsSend, IsSync, enum_send, recorded_send, sendable}
-use Rattle.std.proofs.Crossing.{Arc-send}
 use Rattle.dg_bytes.proofs.bytes.Bytes.TheSendSync as bytes
 use Rattle.dg_bytes.proofs.seq.Seq.TheSendSync as seq
 use Rattle.dg_forms.specs.contracts.elements.Elements as Elements
-use Rattle.dg_language.proofs.Crosses.{Commands-send, Commands-sync, Instruction-send, Instruction-sync}
-use Rattle.dg_bytes.specs.contracts.seq.Seq as Seq
-use Rattle.dg_language.specs.contracts.substitution.Substitution as Substitution
 use Rattle.dg_language.proofs.queue.Queue.TheSendSync as queue
 use Rattle.dg_language.proofs.state.State.TheSendSync as state
-use Rattle.dg_expr.specs.contracts.code.Instruction as Instruction
 use Rattle.dg_shelf.proofs.shelf.Shelf.TheSendSync as shelf
 use Rattle.dg_language.proofs.ask.Ask.TheSendSync as ask
 use Rattle.dg_language.specs.contracts.ask.Ask as Ask
@@ -23,53 +18,21 @@ use Rattle.dg_machine.proofs.frame.Choice.TheSendSync as choice
 use Rattle.dg_machine.proofs.frame.Compiling.TheSendSync as compiling
 use Rattle.dg_machine.proofs.frame.Control.TheSendSync as control
 use Rattle.dg_machine.proofs.frame.Limiting.TheSendSync as limiting
-use Rattle.dg_machine.proofs.frame.Making.TheSendSync as making
+use Rattle.dg_compiled.proofs.making.Making.TheSendSync as making
 use Rattle.dg_machine.proofs.frame.Opening.TheSendSync as opening
 use Rattle.dg_machine.proofs.frame.Reach.TheSendSync as reach
-use Rattle.dg_machine.proofs.frame.Stack.TheSendSync as stack
+use Rattle.dg_compiled.proofs.stack.Stack.TheSendSync as stack
 use Rattle.dg_machine.proofs.frame.Stage.TheSendSync as stage
 use Rattle.dg_machine.specs.contracts.frame.Wait as Wait
 use Rattle.dg_machine.specs.contracts.boxed.Boxed as Boxed
 use Rattle.dg_machine.specs.contracts.evaluation.Asking as Asking
 use Rattle.dg_machine.specs.contracts.evaluation.Evaluation as Evaluation
-use Rattle.dg_machine.specs.contracts.frame.Calculation as Calculation
 use Rattle.dg_machine.specs.contracts.frame.Frame as Frame
 use Rattle.dg_machine.specs.contracts.frame.Repetition as Repetition
 use Rattle.dg_machine.specs.contracts.frame.Rounds as Rounds
 use Rattle.dg_machine.specs.contracts.machine.Machine as Machine
 use Rattle.dg_machine.specs.contracts.patterns.Prepared as Prepared
-use Rattle.dg_machine.specs.contracts.instructions.Formula as Formula
-use Rattle.dg_machine.specs.contracts.lists.Listing as Listing
-use Rattle.dg_machine.specs.contracts.instructions.Instructions as Instructions
-use Rattle.dg_machine.specs.contracts.instructions.Condition as Condition
-use Rattle.dg_machine.specs.contracts.script.Body as Body
-use Rattle.dg_machine.specs.contracts.script.Commands as Commands
-use Rattle.dg_machine.specs.contracts.script.Script as Script
-use Rattle.dg_machine.specs.contracts.script.Source as Source
-
-Substitution-send : IsSend Substitution.the_row
-Substitution-send = search (sendable, bytes.the_send) depth 20
-
-Substitution-sync : IsSync Substitution.the_row
-Substitution-sync = search (sendable, bytes.the_sync) depth 20
-
-Steps-send : IsSend (Seq.the_row (Seq.the_row Substitution.the_row))
-Steps-send = seq.the_send (Seq.the_row Substitution.the_row) (seq.the_send Substitution.the_row Substitution-send)
-
-Steps-sync : IsSync (Seq.the_row (Seq.the_row Substitution.the_row))
-Steps-sync = seq.the_sync (Seq.the_row Substitution.the_row) (seq.the_sync Substitution.the_row Substitution-sync)
-
-Read-send : IsSend Commands.the_row
-Read-send = search (sendable, Commands-send, Steps-send) depth 20
-
-Read-sync : IsSync Commands.the_row
-Read-sync = search (sendable, Commands-sync, Steps-sync) depth 20
-
-Formula-send : IsSend Formula.the_row
-Formula-send = let code = seq.the_send Instruction.the_row Instruction-send in search (sendable, Steps-send) depth 20
-
-Formula-sync : IsSync Formula.the_row
-Formula-sync = let code = seq.the_sync Instruction.the_row Instruction-sync in search (sendable, Steps-sync) depth 20
+use Rattle.dg_compiled.proofs.Crosses.{Read-send, Read-sync, Formula-send, Formula-sync, Listing-send, Listing-sync, Script-send, Body-send, Calculation-send, Condition-send}
 
 Elements-send : IsSend Elements.the_row
 Elements-send = search (sendable, bytes.the_send, seq.the_send) depth 20
@@ -77,32 +40,8 @@ Elements-send = search (sendable, bytes.the_send, seq.the_send) depth 20
 Elements-sync : IsSync Elements.the_row
 Elements-sync = search (sendable, bytes.the_sync, seq.the_sync) depth 20
 
-Listing-send : IsSend Listing.the_row
-Listing-send = search (sendable, bytes.the_send) depth 20
-
-Listing-sync : IsSync Listing.the_row
-Listing-sync = search (sendable, bytes.the_sync) depth 20
-
-Instructions-send : IsSend Instructions.the_row
-Instructions-send = let kept = Arc-send Formula.the_row Formula-send Formula-sync in search sendable depth 20
-
-Source-send : IsSend Source.the_field.row
-Source-send = let kept = Arc-send Commands.the_row Read-send Read-sync in search (sendable, bytes.the_send) depth 20
-
-Script-send : IsSend Script.the_row
-Script-send = search (sendable, Source-send) depth 20
-
-Body-send : IsSend Body.the_row
-Body-send = let kept = Arc-send Commands.the_row Read-send Read-sync in search (sendable, bytes.the_send) depth 20
-
 Rounds-send : IsSend Rounds.the_field.row
 Rounds-send = search (sendable, bytes.the_send, seq.the_send, queue.the_send, Body-send) depth 20
-
-Calculation-send : IsSend Calculation.the_field.row
-Calculation-send = search (sendable, bytes.the_send, stack.the_send, Instructions-send) depth 20
-
-Condition-send : IsSend Condition.the_row
-Condition-send = let kept = Arc-send Formula.the_row Formula-send Formula-sync in search (sendable, bytes.the_send) depth 20
 
 Repetition-send : IsSend Repetition.the_field.row
 Repetition-send = search (sendable, bytes.the_send, stage.the_field_send, Body-send, Condition-send) depth 20

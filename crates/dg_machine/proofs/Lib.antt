@@ -1,7 +1,5 @@
-pub mod ScriptLemmas
 pub mod MachineLemmas
 pub mod GatherLemmas
-pub mod TextLemmas
 pub mod ProcedureLemmas
 pub mod LoopLemmas
 pub mod ReadyLemmas
@@ -9,7 +7,6 @@ pub mod StepLemmas
 pub mod VariableLemmas
 pub mod ExpressionLemmas
 pub mod SettlingLemmas
-pub mod ComputingLemmas
 pub mod ChoiceLemmas
 pub mod OpeningLemmas
 pub mod BoardLemmas

@@ -25,7 +25,7 @@ use Rattle.dg_machine.specs.declared.frame.Frame.{Frame}
 use Rattle.dg_machine.specs.declared.frame.Frame.TheVariants.{Gathering}
 use Rattle.dg_machine.specs.declared.frame.Control.TheVariants.{Go}
 use Rattle.dg_machine.specs.declared.frame.Limiting.{Limiting}
-use Rattle.dg_machine.specs.declared.frame.Making.{Making}
+use Rattle.dg_compiled.specs.declared.making.Making.{Making}
 use Rattle.dg_machine.specs.declared.frame.Closing.{Closing}
 use Rattle.dg_machine.specs.declared.frame.Fit.TheVariants.{Open}
 use Rattle.dg_machine.specs.declared.frame.Pace.{Pace}

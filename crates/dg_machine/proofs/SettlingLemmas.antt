@@ -23,22 +23,24 @@ use Rattle.dg_expr.specs.declared.code.Instruction.{Instruction}
 use Rattle.dg_language.specs.Language.{builtin_of, command, commands_at, evaluate, known_command, sequence, usable}
 use Rattle.dg_language.specs.Words.{Act, gather, longer, substitutions}
 use Rattle.dg_language.proofs.TouchLemmas.{in-use, within-short}
-use Rattle.dg_machine.specs.Settling.{AsksNothing, ComesBy, GoesOnAs, HasSteps, HasText, HasWord, IsOnly, Sets, Settles}
-use Rattle.dg_machine.specs.Steps.{steps_in}
-use Rattle.dg_machine.specs.Texts.{IsText}
+use Rattle.dg_machine.specs.Settling.{AsksNothing, ComesBy, GoesOnAs, HasText, HasWord, IsOnly, Sets, Settles}
+use Rattle.dg_compiled.specs.Script.{HasSteps}
+use Rattle.dg_compiled.specs.Steps.{steps_in}
+use Rattle.dg_compiled.specs.Texts.{IsText}
 use Rattle.dg_machine.specs.declared.frame.Control.{Control}
 use Rattle.dg_machine.specs.declared.frame.Frame.{Frame}
 use Rattle.dg_machine.specs.declared.frame.Frame.TheVariants.{Repeating}
 use Rattle.dg_machine.specs.declared.frame.Repetition.{Repetition}
 use Rattle.dg_machine.specs.declared.frame.Stage.TheVariants.{Body}
-use Rattle.dg_machine.specs.Choosing.{calculating, repeating}
-use Rattle.dg_machine.specs.declared.frame.Calculation.{Calculation}
+use Rattle.dg_machine.specs.Choosing.{repeating}
+use Rattle.dg_compiled.specs.Calculating.{calculating}
+use Rattle.dg_compiled.specs.declared.calculation.Calculation.{Calculation}
 use Rattle.dg_machine.specs.Meaning.{all_back, back, weight}
-use Rattle.dg_machine.proofs.GatherLemmas.{gather-none, gather-script, gather-word}
-use Rattle.dg_machine.proofs.ExpressionLemmas.{begun-calculates, expr-short}
+use Rattle.dg_compiled.proofs.GatherLemmas.{gather-none, gather-script, gather-word}
+use Rattle.dg_compiled.proofs.ExpressionLemmas.{begun-calculates, expr-short}
 use Rattle.dg_machine.proofs.MachineLemmas.{evaluate-inside, sequence-done, tick-step}
 use Rattle.dg_machine.proofs.StepLemmas.{command-known}
-use Rattle.dg_machine.proofs.TextLemmas.{word-taken}
+use Rattle.dg_compiled.proofs.TextLemmas.{word-taken}
 
 -- a step that was given back
 abbrev less_a_step : State → State

@@ -1,9 +1,4 @@
-pub mod Script
-pub mod Source
-pub mod Steps
-pub mod Texts
 pub mod Settling
-pub mod Instructions
 pub mod Choosing
 pub mod Opening
 pub mod Lost
@@ -11,7 +6,6 @@ pub mod Patterns
 pub mod Giving
 pub mod Acting
 pub mod Meaning
-pub mod Computing
 pub mod Performing
 pub mod Seeking
 pub mod Evaluating

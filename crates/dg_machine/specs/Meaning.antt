@@ -20,15 +20,17 @@ use Rattle.dg_language.specs.declared.substitution.Purpose.TheVariants.{Run, Loa
 use Rattle.dg_language.specs.Boards.{after_library}
 use Rattle.dg_language.specs.Judge.{after_file, finish}
 use Rattle.dg_language.specs.Expressions.{written}
+use Rattle.dg_compiled.specs.Making.{making_on}
 use Rattle.dg_machine.specs.Opening.{open_next, opening_weight}
-use Rattle.dg_machine.specs.Choosing.{calculating, calculating_with, choosing, repeating, stage_weight}
+use Rattle.dg_machine.specs.Choosing.{choosing, repeating, stage_weight}
+use Rattle.dg_compiled.specs.Calculating.{calculating, calculating_with}
 use Rattle.dg_language.specs.Expecting.{after_action, expect_with}
 use Rattle.dg_machine.specs.Acting.{acting, after_weight, naming, limiting, compiling_on, awaiting, again, reach_weight}
 use Rattle.dg_machine.specs.Giving.{giving}
 use Rattle.dg_machine.specs.Lost.{HasReadPattern}
 use Rattle.dg_machine.specs.declared.frame.Frame.{Frame}
 use Rattle.dg_machine.specs.declared.frame.Frame.TheVariants.{Opening, Preceding, Sequence, Gathering, Running, Catching, Calling, Loading, Looping, Unsetting, Calculating, Writing, Choosing, Repeating, Acting, Naming, Expecting, Limiting, Compiling, Awaiting, Giving}
-use Rattle.dg_machine.specs.declared.frame.Making.{Making}
+use Rattle.dg_compiled.specs.declared.making.Making.{Making}
 use Rattle.dg_machine.specs.declared.frame.Rounds.{Rounds}
 use Rattle.dg_machine.specs.declared.frame.Control.{Control}
 use Rattle.dg_machine.specs.declared.frame.Control.TheVariants.{Go, Ended}
@@ -38,10 +40,6 @@ use Rattle.dg_machine.specs.declared.frame.Pace.TheVariants.{Moved, Stands, Over
 use Rattle.dg_machine.specs.declared.frame.Stop.{Stop}
 use Rattle.dg_machine.specs.declared.frame.Stop.TheVariants.{AtQuestion, AtEnd, Lost as LostStop}
 use Rattle.dg_machine.specs.declared.machine.Machine.{Machine}
-
--- the words of a command go on being made
-abbrev pub making_on : Making → ℕ → State → Then → Play Ending
-making_on m depth s k = gather (evaluate depth) (used (evaluate depth) m.purpose) m.made m.outer m.text m.left s k
 
 -- a value is added to what is made of a word, and the words go on being made
 abbrev pub making_with : Making → ℕ → List ℕ → State → Then → Play Ending

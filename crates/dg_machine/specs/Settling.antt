@@ -1,17 +1,14 @@
 -- Commands that run where they stand: nothing is asked or evaluated for them.
 use Rattle.std.specs.Prelude.{◌≡◌, ℕ, ◌+◌, ◌≤◌, List, [], ◌∷◌, drop, Option, Some, None}
-use Rattle.dg_words.specs.declared.word.Word.{Word}
 use Rattle.dg_language.specs.declared.code.Code.TheVariants.{Done}
 use Rattle.dg_language.specs.declared.command.Command.{Command}
-use Rattle.dg_language.specs.declared.command.Command.TheVariants.{Words}
 use Rattle.dg_language.specs.declared.substitution.Substitution.{Substitution}
 use Rattle.dg_language.specs.declared.substitution.Substitution.TheVariants.{WordEnds}
 use Rattle.dg_language.specs.State.{State, assigned, stepped}
 use Rattle.dg_language.specs.Evaluation.{Then}
 use Rattle.dg_language.specs.Language.{evaluate, sequence}
-use Rattle.dg_language.specs.Words.{substitutions}
-use Rattle.dg_machine.specs.Script.{begins}
-use Rattle.dg_machine.specs.Texts.{IsText}
+use Rattle.dg_compiled.specs.Script.{begins}
+use Rattle.dg_compiled.specs.Texts.{IsText}
 
 -- a word begins at a place, whose steps are this one alone
 abbrev pub HasWord : List Substitution → ℕ → Substitution → Type 0
@@ -28,10 +25,6 @@ Settles depth steps s v t = (k : Then) → begins steps depth s k ≡ k Done v t
 -- it only gives this variable this value, which is its own too
 abbrev pub Sets : List Substitution → State → List ℕ → List ℕ → Type 0
 Sets steps s n v = (depth : ℕ) → Settles depth steps s v (assigned n v s)
-
--- the command at a place has the steps of its words
-abbrev pub HasSteps : List Command → ℕ → List Substitution → Type 0
-HasSteps commands at steps = (ws : List Word) × ((drop at commands ≡ Words ws ∷ drop (at + 1) commands) × (steps ≡ substitutions ws))
 
 -- what is left of commands, behind a value and in a state, is what was left of those
 abbrev pub GoesOnAs : ℕ → List Command → List ℕ → State → List Command → List ℕ → State → Type 0

@@ -1,5 +1,5 @@
 //! Actions on sessions, from entry to entry of a test's transcript.
-ghost use Rattle.std.specs.Prelude.{◌≡◌, ◌+◌, ◌*◌, ◌^◌, ◌<◌, ◌∷◌, [], IfOk, codes};
+ghost use Rattle.std.specs.Prelude.{◌≡◌, ◌+◌, ◌<◌, [], IfOk, codes};
 ghost use Rattle.dg_sessions.specs.Views.{id_of, most_entries};
 ghost use Rattle.dg_language.specs.Sessions.{depart, entry_for, program_of, spawned, unless_failed, wait_for, wait_value};
 ghost use Rattle.dg_language.specs.State.{assigned};

@@ -1,5 +1,5 @@
 //! The commands `if`, `switch` and `eval`, and the way to all that compute, choose or repeat.
-ghost use Rattle.std.specs.Prelude.{◌≡◌, ◌+◌, ◌*◌, ◌^◌, ◌<◌, ◌∷◌, [], IfOk, length};
+ghost use Rattle.std.specs.Prelude.{◌≡◌, ◌+◌, ◌*◌, ◌^◌, ◌<◌, IfOk, length};
 ghost use Rattle.dg_language.specs.Choosing.{choose, do_if, do_otherwise};
 ghost use Rattle.dg_language.specs.Switching.{do_choice, do_eval, do_switch, evaluated};
 ghost use Rattle.dg_language.specs.Language.{evaluate};
@@ -7,10 +7,10 @@ ghost use Rattle.dg_machine.specs.declared.frame.Control.{Control};
 ghost use Rattle.dg_machine.specs.Choosing.{choosing};
 ghost use Rattle.dg_machine.specs.Meaning.{all_back, weight_of, Goes, GoesAs};
 
-use crate::computing::{Computed, compute_on};
-use crate::frame::{Calculation, Choice, Frame, Pace};
+use crate::frame::{Choice, Frame, Pace};
 use crate::machine::Machine;
 use dg_bytes::Bytes;
+use dg_compiled::{Calculation, Computed, compute_on};
 use dg_forms::{clauses_of, concatenated, split, switched, truth_in};
 use dg_language::{ChoiceCommand, Clause, Clauses, Code, Queue};
 use std::alloc::{AllocError, Global};

@@ -2,16 +2,15 @@
 ghost use Rattle.std.specs.Prelude.{◌≡◌, ◌+◌, ◌<◌, IfOk, length};
 ghost use Rattle.dg_language.specs.State.{assigned};
 ghost use Rattle.dg_language.specs.Evaluation.{within};
-ghost use Rattle.dg_language.specs.Control.{digit_of, caught, do_catch, do_foreach, do_control, each};
+ghost use Rattle.dg_language.specs.Control.{digit_of, caught, do_catch, do_foreach, do_control};
 ghost use Rattle.dg_language.specs.Language.{evaluate};
 ghost use Rattle.dg_machine.specs.declared.frame.Control.{Control};
 ghost use Rattle.dg_machine.specs.Meaning.{all_back, weight_of, Comes, Goes, GoesAs};
 
 use crate::frame::{Frame, Pace, Rounds};
-use crate::lists::with_elements;
 use crate::machine::Machine;
-use crate::script::Body;
 use dg_bytes::{Bytes, Seq, TryCopy};
+use dg_compiled::{Body, with_elements};
 use dg_forms::{elements_held, elements_in, three};
 use dg_language::{Code, ControlCommand, Queue, STEPS};
 use dg_scope::LONGEST_VALUE;

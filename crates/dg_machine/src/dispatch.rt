@@ -1,31 +1,20 @@
 //! The command that words name.
-ghost use Rattle.std.specs.Prelude.{◌≡◌, ◌+◌, ◌^◌, ◌<◌, [], IfOk};
+ghost use Rattle.std.specs.Prelude.{◌≡◌, ◌+◌, ◌^◌, ◌<◌, IfOk};
 ghost use Rattle.dg_cmds.specs.Commands.{pure_of};
 ghost use Rattle.dg_language.specs.Completing.{completed};
-ghost use Rattle.dg_language.specs.Control.{head_or_empty};
 ghost use Rattle.dg_language.specs.Immediate.{immediate};
 ghost use Rattle.dg_language.specs.Language.{builtin, builtin_of, usable, pure_value, known_command, command, used, evaluate};
 ghost use Rattle.dg_machine.specs.declared.frame.Control.{Control};
 ghost use Rattle.dg_machine.specs.Meaning.{all_back, weight_of, budget, Comes, RunsAs, GoesAs};
 
-use crate::frame::{Frame, Making, Pace};
-use crate::lists::with_lists;
+use crate::frame::{Frame, Pace};
 use crate::machine::Machine;
 use dg_bytes::{Bytes, Seq, TryCopy};
 use dg_cmds::{CmdFault, run_pure};
+use dg_compiled::{Making, first_or_empty, with_lists};
 use dg_forms::{bindings, find_builtin, invalid_command, run_immediate, split};
 use dg_language::{Builtin, Code, ImmediateCommand, Purpose};
 use std::alloc::{AllocError, Global};
-
-/// The first value, or the empty text where there is none.
-pub(crate) fn first_or_empty(alloc: Global, values: &[Bytes]) -> Result<Bytes, AllocError>
-    ensures { IfOk result (λ b. b ≡ head_or_empty values.now) }
-{
-    match values {
-        [] => Ok(Bytes::new(alloc)),
-        [first, ..] => Ok(first.copy(alloc)?),
-    }
-}
 
 impl Machine {
     /// A command that evaluates nothing inside and asks nothing: the change that it makes, and its code and value.

@@ -3,11 +3,10 @@ ghost use Rattle.std.specs.Prelude.{◌≡◌, true, IfOk};
 ghost use Rattle.dg_world.specs.Question.{fits};
 
 use crate::boxed::Boxed;
-use crate::frame::{Closing, Control, Frame, Opening, Stack, Stop};
-use crate::lists::LONGEST_LIST;
+use crate::frame::{Closing, Control, Frame, Opening, Stop};
 use crate::machine::Machine;
-use crate::script::KEPT;
 use dg_bytes::Seq;
+use dg_compiled::{KEPT, LONGEST_LIST, Stack};
 use dg_language::{Ask, Close, State};
 use dg_match::Programs;
 use dg_results::Verdict;

@@ -1,5 +1,5 @@
 //! `expect`.
-ghost use Rattle.std.specs.Prelude.{◌≡◌, ◌+◌, ◌*◌, ◌^◌, ◌<◌, ◌≤◌, ◌∷◌, [], IfOk};
+ghost use Rattle.std.specs.Prelude.{◌≡◌, ◌+◌, ◌*◌, ◌^◌, ◌<◌, IfOk};
 ghost use Rattle.std.specs.Option.{option_copied};
 ghost use Rattle.dg_language.specs.ExpectWords.{is_for_end};
 ghost use Rattle.dg_language.specs.Expecting.{act, after_action, bytes_of, do_expect, expect_with, first_action, or_ten, tries, with_end, with_number};
@@ -13,9 +13,7 @@ ghost use Rattle.dg_machine.specs.Patterns.{AreRead};
 ghost use Rattle.dg_machine.specs.Acting.{again, awaiting, limit_in, limiting, reach_weight, waiting_of};
 ghost use Rattle.dg_machine.specs.Meaning.{all_back, weight_of, Comes, Goes, GoesAs};
 
-use crate::frame::{
-    Came, Compiling, Fit, Frame, Limiting, Making, Pace, Reach, Sought, Stack, Wait, plain_ask,
-};
+use crate::frame::{Came, Compiling, Fit, Frame, Limiting, Pace, Reach, Sought, Wait, plain_ask};
 use crate::machine::Machine;
 use crate::matches::{find_match, keep_end, keep_match};
 use crate::patterns::{Known, Prepared, readings_of};
@@ -23,6 +21,7 @@ use crate::regexp::CANNOT_COMPILE;
 use crate::sessions::sought;
 use crate::variables::push_all;
 use dg_bytes::{Bytes, Seq, TryCopy};
+use dg_compiled::{Making, Stack};
 use dg_forms::{
     action_at, end_action, expect_words, expected_integer, limit_of, listed, not_open, regexes_in,
     steps_of, timeout_action,

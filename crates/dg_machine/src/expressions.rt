@@ -1,18 +1,18 @@
 //! How an expression is computed.
-ghost use Rattle.std.specs.Prelude.{◌≡◌, ◌+◌, ◌*◌, ◌^◌, ◌<◌, ◌∷◌, [], IfOk, length};
+ghost use Rattle.std.specs.Prelude.{◌≡◌, ◌+◌, ◌*◌, ◌^◌, ◌<◌, [], IfOk, length};
 ghost use Rattle.dg_expr.specs.declared.fault.ExprFault.TheVariants.{Syntax};
 ghost use Rattle.dg_language.specs.Evaluation.{fail, if_done};
-ghost use Rattle.dg_language.specs.Expressions.{calculate, do_expr, fault_message, written};
+ghost use Rattle.dg_language.specs.Expressions.{do_expr, fault_message, written};
 ghost use Rattle.dg_language.specs.Language.{evaluate};
 ghost use Rattle.dg_machine.specs.declared.frame.Control.{Control};
-ghost use Rattle.dg_machine.specs.Choosing.{calculating, calculating_with};
-ghost use Rattle.dg_machine.specs.Computing.{Computes};
+ghost use Rattle.dg_compiled.specs.Calculating.{calculating, calculating_with};
+ghost use Rattle.dg_compiled.specs.Computing.{Computes};
 ghost use Rattle.dg_machine.specs.Meaning.{all_back, weight_of, Goes, GoesAs};
 
-use crate::computing::{Computed, compute_on};
-use crate::frame::{Calculation, Frame, Pace};
+use crate::frame::{Frame, Pace};
 use crate::machine::Machine;
 use dg_bytes::Bytes;
+use dg_compiled::{Calculation, Computed, compute_on};
 use dg_forms::{in_decimal, split, syntax_error, with_spaces};
 use dg_language::Code;
 use dg_scope::LONGEST_VALUE;

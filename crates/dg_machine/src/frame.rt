@@ -1,52 +1,16 @@
 //! What stands round an evaluation.
-ghost use Rattle.std.specs.Prelude.{◌≡◌, ◌<◌, ◌^◌, [], ◌∷◌, length, IfOk, OnOk, IfSome, MatchOption, Some, None};
-ghost use Rattle.std.specs.Arc.{arc_value};
+ghost use Rattle.std.specs.Prelude.{◌≡◌, IfOk};
 ghost use Rattle.dg_language.specs.Play.{plain};
 
 use crate::boxed::Boxed;
-use crate::instructions::{Condition, Formula, Instructions};
 use crate::patterns::Prepared;
-use crate::script::{Body, Script};
 use dg_bytes::{Bytes, Seq};
-use dg_language::{Ask, Clause, Close, Code, Pair, Purpose, Queue, Substitution};
+use dg_compiled::{Body, Calculation, Condition, Making, Script};
+use dg_language::{Ask, Clause, Close, Code, Pair, Queue};
 use dg_results::Verdict;
 use dg_transcript::{Action, Entry};
 use dg_world::Question;
 use std::alloc::{AllocError, Global};
-use std::marker::Model;
-use std::sync::Arc;
-
-/// Words in the making.
-#[derive(Drop)]
-pub(crate) struct Making {
-    /// What the words are for.
-    pub purpose: Purpose,
-    /// The words that are made.
-    pub made: Seq<Bytes>,
-    /// The name of each element whose index is being made, and what was made before it; the inmost on top.
-    pub outer: Stack<(Bytes, Bytes)>,
-    /// What is made of the next word, or of the inmost index.
-    pub text: Bytes,
-    /// The steps that are left.
-    pub left: Queue<Substitution>,
-}
-
-impl Making {
-    /// No word is made. That the steps are counted by a `usize` bounds what they weigh.
-    pub fn begun(alloc: Global, purpose: Purpose, left: Queue<Substitution>) -> Making
-        ensures begun { result ≡ record { purpose = purpose; made = []; outer = []; text = []; left = left } }
-        ensures counted { length left < 2 ^ 64 }
-    {
-        let _count = left.len();
-        Making {
-            purpose,
-            made: Seq::new(alloc),
-            outer: Stack::new(alloc),
-            text: Bytes::new(alloc),
-            left,
-        }
-    }
-}
 
 /// The rounds of a loop over values.
 #[derive(Drop)]
@@ -61,34 +25,6 @@ pub(crate) struct Rounds {
     /// The most rounds that are left.
     pub left: u32,
     pub depth: u32,
-}
-
-/// The code of an expression, on a stack of values.
-#[derive(Drop)]
-pub(crate) struct Calculation {
-    pub values: Stack<Bytes>,
-    /// How many of the instructions that are left are passed over.
-    pub passed: usize,
-    /// The instructions that are left.
-    pub left: Instructions,
-    pub depth: u32,
-}
-
-impl Calculation {
-    /// An expression of which nothing is computed yet, if its text spells one.
-    pub fn of(alloc: Global, formula: Arc<Formula>, depth: u32) -> Option<Calculation>
-        ensures begun { MatchOption result (arc_value formula ≡ None) (λ c. (arc_value formula ≡ Some c.left) × (c ≡ record { values = []; passed = 0; left = c.left; depth = depth })) }
-        ensures counted { IfSome result (λ c. length c.left < 2 ^ 64) }
-    {
-        let left = Instructions::of(formula)?;
-        let _count = left.len();
-        Some(Calculation {
-            values: Stack::new(alloc),
-            passed: 0,
-            left,
-            depth,
-        })
-    }
 }
 
 /// An `if` whose condition is computed.
@@ -383,44 +319,4 @@ pub(crate) enum Stop {
     AtEnd(Boxed<Closing>),
     /// A pattern that was answered as read can't be built.
     Lost,
-}
-
-/// Values of which the last that was put is on top. A contract sees the top first.
-#[derive(Drop)]
-pub(crate) struct Stack<T> {
-    items: Vec<T>,
-}
-
-impl<T> Model for Stack<T> {
-    ghost use Rattle.std.specs.Prelude.{List, reverse};
-
-    ghost Value = { List T };
-
-    ghost view = { λ s. reverse s.items.items };
-}
-
-impl<T: Drop> Stack<T> {
-    /// Nothing.
-    pub fn new(alloc: Global) -> Stack<T>
-        ensures { result ≡ [] }
-    {
-        Stack {
-            items: Vec::new(alloc),
-        }
-    }
-
-    /// Puts a value on top.
-    pub fn push(&mut self, item: T) -> Result<(), AllocError>
-        ensures { OnOk result (self.new ≡ item ∷ self.old) }
-    {
-        self.items.push(item)?;
-        Ok(())
-    }
-
-    /// Takes the value on top.
-    pub fn pop(&mut self) -> Option<T>
-        ensures { MatchOption result ((self.old ≡ []) × (self.new ≡ [])) (λ x. self.old ≡ x ∷ self.new) }
-    {
-        self.items.pop()
-    }
 }

@@ -5,13 +5,14 @@ ghost use Rattle.dg_language.specs.Variables.{touch};
 ghost use Rattle.dg_language.specs.Language.{used, evaluate};
 ghost use Rattle.dg_language.specs.Words.{gather, element, with_elements};
 ghost use Rattle.dg_machine.specs.declared.frame.Control.{Control};
-ghost use Rattle.dg_machine.specs.Meaning.{all_back, weight_of, making_on, making_with, budget, reading, outside_index, Comes, Goes};
+ghost use Rattle.dg_machine.specs.Meaning.{all_back, weight_of, making_with, budget, reading, outside_index, Comes, Goes};
+ghost use Rattle.dg_compiled.specs.Making.{making_on};
 
-use crate::frame::{Frame, Making, Pace};
+use crate::frame::{Frame, Pace};
 use crate::machine::Machine;
-use crate::texts::{add_text, has_room, make_texts};
 use crate::variables::push_all;
 use dg_bytes::{Bytes, TryCopy};
+use dg_compiled::{Making, add_text, has_room, make_texts};
 use dg_forms::{cannot_read, elements_in};
 use dg_language::Substitution;
 use dg_scope::LONGEST_VALUE;

@@ -1,20 +1,18 @@
 //! A stopped evaluation, and how its commands begin and end.
 ghost use Rattle.std.specs.Prelude.{◌≡◌, ◌+◌, ◌*◌, ◌^◌, ◌<◌, ◌∷◌, length, IfOk, OnOk, ℕ, List};
-ghost use Rattle.std.specs.Option.{option_copied};
 ghost use Rattle.dg_language.specs.Evaluation.{cut, out_of_steps, fail, wrong_count};
 ghost use Rattle.dg_language.specs.Play.{Ends};
 ghost use Rattle.dg_language.specs.Variables.{store};
 ghost use Rattle.dg_language.specs.Language.{commands_at, sequence, evaluate};
 ghost use Rattle.dg_machine.specs.declared.frame.Control.{Control};
 ghost use Rattle.dg_machine.specs.declared.frame.Frame.{Frame};
-ghost use Rattle.dg_machine.specs.Meaning.{all_back, budget, making_on, weight, weight_of, ends_with, Comes, Goes, Readies, GoesAs};
+ghost use Rattle.dg_machine.specs.Meaning.{all_back, budget, weight, weight_of, ends_with, Comes, Goes, Readies, GoesAs};
+ghost use Rattle.dg_compiled.specs.Making.{making_on};
 
 use crate::boxed::Boxed;
-use crate::frame::{Closing, Control, Frame, Making, Pace, Stack, plain_ask};
-use crate::instructions::Formula;
-use crate::lists::Listing;
-use crate::script::{Begun, Commands, KEPT, Script};
+use crate::frame::{Closing, Control, Frame, Pace, plain_ask};
 use dg_bytes::{Bytes, TryCopy};
+use dg_compiled::{Begun, Commands, Formula, KEPT, Listing, Making, Script, Stack};
 use dg_forms::{Elements, wrong_count};
 use dg_language::{Close, Code, State, Touch};
 use dg_match::Programs;
@@ -234,15 +232,15 @@ impl Machine {
     pub(crate) fn sequence(
         &mut self,
         alloc: Global,
-        mut commands: Script,
+        commands: Script,
         mut value: Bytes,
         depth: u32,
     ) -> Result<Pace, AllocError>
         requires { self.old.control ≡ Control.Go }
         ensures { IfOk result (λ p. Comes (sequence (evaluate depth) commands value self.old.state (all_back self.old.stack)) self.old.state.known (weight_of self.old + 3) self.new p) }
     {
-        commands.settle(alloc, self, &mut value, depth)?;
-        Ok(self.next_command(alloc, commands, value, depth)?)
+        let left = self.settle(alloc, commands, &mut value, depth)?;
+        Ok(self.next_command(alloc, left, value, depth)?)
     }
 
     /// The evaluation of a text begins, whose commands these are, inside as many others as this leaves.

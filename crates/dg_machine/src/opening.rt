@@ -1,7 +1,7 @@
 //! The files that are opened for a test: the board's, the tool's library, the script.
-ghost use Rattle.std.specs.Prelude.{◌≡◌, ◌+◌, ◌*◌, ◌^◌, ◌<◌, ◌∷◌, [], IfOk};
-ghost use Rattle.dg_language.specs.Evaluation.{if_done, outside};
-ghost use Rattle.dg_language.specs.Judge.{after_file, close, first_file, leave_board, open_script, open_tool};
+ghost use Rattle.std.specs.Prelude.{◌≡◌, ◌+◌, ◌<◌, IfOk};
+ghost use Rattle.dg_language.specs.Evaluation.{outside};
+ghost use Rattle.dg_language.specs.Judge.{after_file, first_file, leave_board, open_script, open_tool};
 ghost use Rattle.dg_machine.specs.declared.frame.Control.{Control};
 ghost use Rattle.dg_machine.specs.Meaning.{all_back, weight_of, Comes, Goes, Opens};
 ghost use Rattle.dg_machine.specs.Opening.{open_next, opening_weight, Holds};

@@ -1,13 +1,13 @@
 //! `regexp`.
-ghost use Rattle.std.specs.Prelude.{◌≡◌, ◌+◌, ◌*◌, ◌^◌, ◌<◌, ◌∷◌, [], Some, codes, length, IfOk};
+ghost use Rattle.std.specs.Prelude.{◌≡◌, ◌+◌, ◌*◌, ◌<◌, ◌∷◌, [], Some, length, IfOk};
 ghost use Rattle.dg_match.specs.Groups.{regex_match};
 ghost use Rattle.dg_language.specs.State.{assigned};
 ghost use Rattle.dg_language.specs.Evaluation.{within};
 ghost use Rattle.dg_language.specs.Control.{behind_first, head_or_empty};
-ghost use Rattle.dg_language.specs.Matching.{do_regexp, match_text, write_found};
+ghost use Rattle.dg_language.specs.Matching.{do_regexp, write_found};
 ghost use Rattle.dg_machine.specs.declared.frame.Control.{Control};
 ghost use Rattle.dg_machine.specs.Giving.{giving};
-ghost use Rattle.dg_machine.specs.Meaning.{all_back, weight_of, Comes, Goes, Opens, RunsAs};
+ghost use Rattle.dg_machine.specs.Meaning.{all_back, weight_of, Comes, Goes, RunsAs};
 ghost use Rattle.dg_machine.specs.Patterns.{AreRead};
 
 use crate::frame::{Frame, Pace, plain_ask};

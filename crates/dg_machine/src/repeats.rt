@@ -1,5 +1,5 @@
 //! The loops over a condition: `while` and `for`.
-ghost use Rattle.std.specs.Prelude.{ℕ, List, ◌≡◌, ◌+◌, ◌*◌, ◌^◌, ◌<◌, ◌∷◌, [], IfOk, MatchOption, None, length};
+ghost use Rattle.std.specs.Prelude.{ℕ, List, ◌≡◌, ◌+◌, ◌^◌, ◌<◌, IfOk, None};
 ghost use Rattle.dg_language.specs.Choosing.{do_for, do_while};
 ghost use Rattle.dg_language.specs.Expressions.{calculate};
 ghost use Rattle.dg_language.specs.declared.code.Code.{Code};
@@ -9,12 +9,10 @@ ghost use Rattle.dg_machine.specs.declared.frame.Stage.{Stage};
 ghost use Rattle.dg_machine.specs.Choosing.{next_script, next_test, repeat_if, repeating, stage_weight};
 ghost use Rattle.dg_machine.specs.Meaning.{all_back, weight_of, Comes, GoesAs};
 
-use crate::computing::{Computed, compute_on};
-use crate::frame::{Calculation, Frame, Pace, Repetition, Stage};
-use crate::instructions::Condition;
+use crate::frame::{Frame, Pace, Repetition, Stage};
 use crate::machine::Machine;
-use crate::script::{Body, Script};
 use dg_bytes::{Bytes, TryCopy};
+use dg_compiled::{Body, Calculation, Computed, Condition, Script, compute_on};
 use dg_forms::{four, truth_in, two};
 use dg_language::{Code, STEPS};
 use std::alloc::{AllocError, Global};
@@ -89,14 +87,14 @@ impl Machine {
             let closing = self.cut(alloc, b"too many nested evaluations")?;
             return Ok(Pace::Over(closing));
         }
-        let mut commands = repetition.body.script(alloc)?;
+        let commands = repetition.body.script(alloc)?;
         let mut value = Bytes::new(alloc);
-        commands.settle(alloc, self, &mut value, depth - 1)?;
-        if commands.is_over() {
+        let left = self.settle(alloc, commands, &mut value, depth - 1)?;
+        if left.is_over() {
             return Ok(self.end_body(alloc, repetition, value)?);
         }
         self.stack.push(Frame::Repeating { repetition })?;
-        Ok(self.next_command(alloc, commands, value, depth - 1)?)
+        Ok(self.next_command(alloc, left, value, depth - 1)?)
     }
 
     /// The body of a loop has run where it stands: the third script of `for` begins, or the loop goes on at its next move.

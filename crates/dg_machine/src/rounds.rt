@@ -1,8 +1,8 @@
 //! The rounds of a loop over values.
-ghost use Rattle.std.specs.Prelude.{◌≡◌, ◌+◌, ◌-◌, ◌*◌, ◌^◌, ◌<◌, ◌≤◌, ◌∷◌, [], IfOk, Some, None, drop, length, get_or};
+ghost use Rattle.std.specs.Prelude.{◌≡◌, ◌+◌, ◌-◌, ◌*◌, ◌<◌, [], IfOk, Some, None, drop, length, get_or};
 ghost use Rattle.dg_language.specs.State.{assigned};
 ghost use Rattle.dg_language.specs.Evaluation.{within};
-ghost use Rattle.dg_language.specs.Control.{each, give_each, head_or_empty, behind_first};
+ghost use Rattle.dg_language.specs.Control.{give_each, head_or_empty, behind_first};
 ghost use Rattle.dg_machine.specs.declared.frame.Control.{Control};
 ghost use Rattle.dg_machine.specs.Meaning.{all_back, weight_of, looping, next_round, round_body, Comes};
 

@@ -1,5 +1,5 @@
 //! The commands on sessions: spawn, send, close, wait and match_max.
-ghost use Rattle.std.specs.Prelude.{◌≡◌, ◌+◌, ◌*◌, ◌^◌, ◌<◌, ◌∷◌, [], IfOk, is_some, decimal, None};
+ghost use Rattle.std.specs.Prelude.{◌≡◌, ◌+◌, ◌<◌, IfOk, is_some, decimal, None};
 ghost use Rattle.dg_sessions.specs.Views.{session_at};
 ghost use Rattle.dg_language.specs.Sessions.{close_and_wait, do_close, do_match_max, do_send, do_session, do_spawn, do_wait, if_fit, later_limit, send_to, session_limit, sought, start};
 ghost use Rattle.dg_machine.specs.declared.frame.Control.{Control};

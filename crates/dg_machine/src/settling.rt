@@ -9,13 +9,11 @@ ghost use Rattle.dg_language.specs.declared.substitution.Substitution.{Substitut
 ghost use Rattle.dg_language.specs.Variables.{increased};
 ghost use Rattle.dg_machine.specs.Settling.{AsksNothing, ComesBy, GoesOnAs, HasText, HasWord, IsAfter, IsOnly, Passes, Sets, Settles};
 
-use crate::computing::{Computed, compute_on};
-use crate::frame::Calculation;
-use crate::instructions::Formula;
 use crate::machine::Machine;
-use crate::script::{Commands, KEPT};
-use crate::texts::{ends_word, short_text};
 use dg_bytes::{Bytes, TryCopy};
+use dg_compiled::{
+    Calculation, Commands, Computed, Formula, KEPT, Script, compute_on, ends_word, short_text,
+};
 use dg_forms::{in_decimal, increased};
 use dg_language::{State, Substitution};
 use dg_scope::LONGEST_VALUE;
@@ -377,7 +375,7 @@ impl Machine {
 
     /// Runs the commands from a place on that run where they stand, one after another, up to any other or to the last step. The
     /// place of the command that is next, and in `value` the value of the last.
-    pub(crate) fn settle(
+    fn settle_from(
         &mut self,
         alloc: Global,
         commands: &Commands,
@@ -399,5 +397,27 @@ impl Machine {
             at += 1;
         }
         Ok(at)
+    }
+
+    /// Runs the commands that are next as far as they are kept and run where they stand. What is left of them, and in `value` the
+    /// value of the last.
+    pub(crate) fn settle(
+        &mut self,
+        alloc: Global,
+        commands: Script,
+        value: &mut Bytes,
+        depth: u32,
+    ) -> Result<Script, AllocError>
+        ensures goes_on { IfOk result (λ left. GoesOnAs depth commands value.old self.old.state left value.new self.new.state) }
+        ensures asks { OnOk result (AsksNothing self.old.state self.new.state) }
+        ensures same { OnOk result (self.new ≡ record self.old { state = self.new.state }) }
+    {
+        match commands.into_kept() {
+            Ok((all, first)) => {
+                let at = self.settle_from(alloc, &all, first, value, depth)?;
+                Ok(Script::kept_from(all, at))
+            }
+            Err(script) => Ok(script),
+        }
     }
 }

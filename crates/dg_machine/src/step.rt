@@ -1,6 +1,5 @@
 //! The moves of a machine, one frame at a time.
-ghost use Rattle.std.specs.Prelude.{◌≡◌, ◌+◌, ◌*◌, ◌^◌, ◌<◌, ◌∷◌, [], IfOk, length, Some};
-ghost use Rattle.dg_language.specs.Control.{each};
+ghost use Rattle.std.specs.Prelude.{◌≡◌, ◌+◌, ◌*◌, ◌<◌, IfOk, length, Some};
 ghost use Rattle.dg_language.specs.Evaluation.{outside, if_done, loop_after};
 ghost use Rattle.dg_language.specs.Language.{sequence, evaluate};
 ghost use Rattle.dg_language.specs.Judge.{finish, close};
@@ -9,10 +8,10 @@ ghost use Rattle.dg_machine.specs.declared.frame.Control.{Control};
 ghost use Rattle.dg_machine.specs.Meaning.{all_back, back, go, rest, weight_of, budget, frame_weight, ends_with, looping, next_round, making_with, outside_code, outside_value, Comes, ComesTo, Goes};
 
 use crate::boxed::Boxed;
-use crate::frame::{Closing, Control, Frame, Making, Pace, Rounds, Stop};
+use crate::frame::{Closing, Control, Frame, Pace, Rounds, Stop};
 use crate::machine::Machine;
-use crate::script::Script;
 use dg_bytes::Bytes;
+use dg_compiled::{Making, Script};
 use dg_forms::outside_of_a_loop;
 use dg_language::{Close, Code};
 use std::alloc::{AllocError, Global};

@@ -1,5 +1,5 @@
 //! The commands on the machines' triplets, and on the flags that they decide.
-ghost use Rattle.std.specs.Prelude.{◌≡◌, ◌+◌, ◌*◌, ◌^◌, ◌<◌, ◌∷◌, [], IfOk};
+ghost use Rattle.std.specs.Prelude.{◌≡◌, ◌<◌, IfOk};
 ghost use Rattle.std.specs.Option.{option_copied};
 ghost use Rattle.dg_language.specs.Play.{lookup};
 ghost use Rattle.dg_language.specs.Boards.{do_flag, do_is, do_is_native, do_target};

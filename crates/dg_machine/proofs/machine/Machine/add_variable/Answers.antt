@@ -3,7 +3,7 @@ use Rattle.std.specs.Prelude.{Some, None}
 use Rattle.dg_scope.specs.Scopes.{value_of}
 use Rattle.dg_machine.specs.Meaning.{all_back, making_with}
 use Rattle.dg_machine.proofs.MachineLemmas.{Goes-along}
-use Rattle.dg_machine.proofs.GatherLemmas.{given-none, given-some}
+use Rattle.dg_compiled.proofs.GatherLemmas.{given-none, given-some}
 use Rattle.dg_machine.proofs.machine.Machine.add_variable.Goals as goal
 
 pub returns-in_default : goal.returns-in_default

@@ -1,6 +1,6 @@
 use Rattle.std.proofs.Common.{ap, arith}
 use Rattle.dg_language.specs.Evaluation.{Then}
-use Rattle.dg_machine.specs.Meaning.{making_on}
+use Rattle.dg_compiled.specs.Making.{making_on}
 use Rattle.dg_machine.proofs.MachineLemmas.{all_back-over, weight-cons}
 use Rattle.dg_machine.proofs.GatherLemmas.{Comes-along}
 use Rattle.dg_machine.proofs.machine.Machine.begin_command.Goals as goal

@@ -2,7 +2,7 @@ use Rattle.std.proofs.Common.{◌∙◌, sym, arith}
 use Rattle.dg_expr.specs.Truth.{truth_of}
 use Rattle.dg_machine.specs.Choosing.{repeat_if}
 use Rattle.dg_machine.specs.Meaning.{all_back}
-use Rattle.dg_machine.proofs.ExpressionLemmas.{judged-fault}
+use Rattle.dg_compiled.proofs.ExpressionLemmas.{judged-fault}
 use Rattle.dg_machine.proofs.MachineLemmas.{Goes-comes}
 use Rattle.dg_machine.proofs.machine.Machine.behind_test.Goals as goal
 

@@ -2,8 +2,8 @@ use Rattle.std.proofs.Common.{◌∙◌, length, ap, refl, sym, arith}
 use Rattle.dg_machine.specs.Meaning.{back, all_back}
 use Rattle.dg_machine.proofs.MachineLemmas.{Goes-along, weight-cons}
 use Rattle.dg_machine.proofs.ChoiceLemmas.{choose-none, choose-next}
-use Rattle.dg_machine.proofs.GatherLemmas.{fail-through}
-use Rattle.dg_machine.proofs.ExpressionLemmas.{begun-calculates, calculate-none}
+use Rattle.dg_compiled.proofs.GatherLemmas.{fail-through}
+use Rattle.dg_compiled.proofs.ExpressionLemmas.{begun-calculates, calculate-none}
 use Rattle.dg_machine.proofs.machine.Machine.choose.Goals as goal
 
 pub returns-in_default : goal.returns-in_default

@@ -1,7 +1,7 @@
 use Rattle.std.proofs.Common.{◌≡◌, ◌∙◌, length, refl, false, arith}
 use Rattle.dg_expr.specs.Truth.{truth_of}
 use Rattle.dg_machine.proofs.ChoiceLemmas.{choose-over}
-use Rattle.dg_machine.proofs.ExpressionLemmas.{judged-truth}
+use Rattle.dg_compiled.proofs.ExpressionLemmas.{judged-truth}
 use Rattle.dg_machine.proofs.MachineLemmas.{Goes-along}
 use Rattle.dg_machine.proofs.machine.Machine.decide_now.Goals as goal
 

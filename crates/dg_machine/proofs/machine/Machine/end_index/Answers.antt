@@ -1,6 +1,7 @@
 use Rattle.std.proofs.Common.{◌∙◌, refl, sym, arith}
 use Rattle.dg_machine.specs.Meaning.{go, rest, all_back}
-use Rattle.dg_machine.proofs.GatherLemmas.{index-none, index-ends, Comes-along, weight-gathering}
+use Rattle.dg_machine.proofs.GatherLemmas.{Comes-along, weight-gathering}
+use Rattle.dg_compiled.proofs.GatherLemmas.{index-none, index-ends}
 use Rattle.dg_machine.proofs.machine.Machine.end_index.Goals as goal
 
 pub returns-in_default : goal.returns-in_default

@@ -2,8 +2,8 @@ use Rattle.std.proofs.Common.{◌<◌, ◌≤◌, ◌∙◌, refl, sym, subst, a
 use Rattle.dg_language.specs.Expressions.{written}
 use Rattle.dg_machine.specs.Meaning.{back, all_back, rest, weight}
 use Rattle.dg_machine.proofs.MachineLemmas.{Goes-along, weight-cons}
-use Rattle.dg_machine.proofs.GatherLemmas.{fail-through}
-use Rattle.dg_machine.proofs.ExpressionLemmas.{begun-calculates, calculate-none, expr-long, expr-short}
+use Rattle.dg_compiled.proofs.GatherLemmas.{fail-through}
+use Rattle.dg_compiled.proofs.ExpressionLemmas.{begun-calculates, calculate-none, expr-long, expr-short}
 use Rattle.dg_machine.proofs.machine.Machine.expr.Goals as goal
 
 pub returns-then-len-gt-LONGEST_VALUE : goal.returns-then-len-gt-LONGEST_VALUE

@@ -1,5 +1,6 @@
 use Rattle.std.proofs.Common.{sym, ◌∙◌, ap, length, arith}
-use Rattle.dg_machine.proofs.GatherLemmas.{gather-none, gather-variable, gather-on, Comes-along}
+use Rattle.dg_machine.proofs.GatherLemmas.{Comes-along}
+use Rattle.dg_compiled.proofs.GatherLemmas.{gather-none, gather-variable, gather-on}
 use Rattle.dg_machine.specs.Meaning.{all_back, budget}
 use Rattle.dg_machine.proofs.machine.Machine.gather.Goals as goal
 

@@ -1,6 +1,7 @@
 use Rattle.std.proofs.Common.{refl, arith}
 use Rattle.dg_machine.proofs.MachineLemmas.{Goes-comes}
-use Rattle.dg_machine.proofs.GatherLemmas.{gather-literal, gather-variable, gather-begins, gather-script, gather-word, gather-list, Comes-along}
+use Rattle.dg_machine.proofs.GatherLemmas.{Comes-along}
+use Rattle.dg_compiled.proofs.GatherLemmas.{gather-literal, gather-variable, gather-begins, gather-script, gather-word, gather-list}
 use Rattle.dg_machine.proofs.machine.Machine.gather_step.Goals as goal
 
 pub returns-in_ok-add_value-in-Literal : goal.returns-in_ok-add_value-in-Literal

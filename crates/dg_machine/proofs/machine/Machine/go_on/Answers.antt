@@ -1,6 +1,7 @@
 use Rattle.std.proofs.Common.{arith}
-use Rattle.dg_machine.proofs.GatherLemmas.{gather-none, Comes-along}
-use Rattle.dg_machine.proofs.ComputingLemmas.{nothing}
+use Rattle.dg_machine.proofs.GatherLemmas.{Comes-along}
+use Rattle.dg_compiled.proofs.GatherLemmas.{gather-none}
+use Rattle.dg_compiled.proofs.ComputingLemmas.{nothing}
 use Rattle.dg_machine.proofs.machine.Machine.go_on.Goals as goal
 
 pub returns-then-len-eq0 : goal.returns-then-len-eq0

@@ -1,7 +1,7 @@
 use Rattle.std.proofs.Common.{◌∙◌, refl, sym, arith}
 use Rattle.dg_language.specs.Boards.{do_is_native}
 use Rattle.dg_machine.specs.Meaning.{all_back}
-use Rattle.dg_machine.proofs.ScriptLemmas.{empty-if}
+use Rattle.dg_compiled.proofs.ScriptLemmas.{empty-if}
 use Rattle.dg_machine.proofs.StepLemmas.{Goes-runs}
 use Rattle.dg_machine.proofs.BoardLemmas.{native_on, native-of, native-asks, native-known, stands-at}
 use Rattle.dg_machine.proofs.machine.Machine.is_native.Goals as goal

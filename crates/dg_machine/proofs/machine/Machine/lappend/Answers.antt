@@ -1,5 +1,5 @@
 use Rattle.std.proofs.Common.{[], ◌∷◌, ◌∙◌, ap, sym}
-use Rattle.dg_machine.proofs.ScriptLemmas.{empty-if}
+use Rattle.dg_compiled.proofs.ScriptLemmas.{empty-if}
 use Rattle.dg_scope.specs.Scopes.{value_of}
 use Rattle.dg_language.specs.Variables.{append_elements, or_empty}
 use Rattle.dg_machine.proofs.VariableLemmas.{ready-runs, runs-as, lappend-of}

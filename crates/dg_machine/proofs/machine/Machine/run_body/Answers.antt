@@ -16,11 +16,11 @@ returns-then-depth-eq0 c =
 pub returns-then-is_over : goal.returns-then-is_over
 returns-then-is_over c =
     let old = c.args.self.now in
-    let settled = c.in_ok-settle.ensures in
+    let settled = c.in_ok-left.ensures in
     let none = rw c.if-is_over.true at c.is_over.ensures in
     let stack = ap (λ (m : Machine). m.stack) settled.same in
     let control = ap (λ (m : Machine). m.control) settled.same in
-    let less = weight-settled old.control old.stack old.state c.settle.new.machine.state settled.asks in
+    let less = weight-settled old.control old.stack old.state c.settle.new.self.state settled.asks in
     let went = rw (stack, control) at c.in_ok-end_body.ensures in
     Comes-along _ _ _ _ _ _ _ (Comes-known _ _ _ _ _ _ went settled.asks.0)
     (text-settled _ _ _ _ _ _ _ _ _ c.if-depth-eq0.false c.in_ok-commands.ensures c.new-value.ensures settled.goes_on ∙ sequence-done _ _ _ _ _ none)
@@ -29,14 +29,14 @@ returns-then-is_over c =
 pub returns : goal.returns
 returns c =
     let old = c.args.self.now in
-    let settled = c.in_ok-settle.ensures in
+    let settled = c.in_ok-left.ensures in
     let stack = ap (λ (m : Machine). m.stack) settled.same in
     let control = ap (λ (m : Machine). m.control) settled.same in
-    let less = weight-settled Go old.stack old.state c.settle.new.machine.state settled.asks in
+    let less = weight-settled Go old.stack old.state c.settle.new.self.state settled.asks in
     let stage = ap stage_weight c.requires.stage in
     let went = rw (c.in_ok-push.ensures, stack, control) at c.in_ok-next_command.ensures in
     Comes-along _ _ _ _ _ _ _ (Comes-known _ _ _ _ _ _ went settled.asks.0)
     (text-settled _ _ _ _ _ _ _ _ _ c.if-depth-eq0.false c.in_ok-commands.ensures c.new-value.ensures settled.goes_on
-    ∙ ap (λ (k : Then). sequence (evaluate (c.args.repetition.depth - 1)) c.settle.new.self c.settle.new.value c.settle.new.machine.state k)
+    ∙ ap (λ (k : Then). sequence (evaluate (c.args.repetition.depth - 1)) c.in_ok-left.left c.settle.new.value c.settle.new.self.state k)
     (sym (body-back c.args.repetition old.stack c.requires.stage)))
     (rw c.requires.go (rw weight-cons (omega (arith, less, stage))))

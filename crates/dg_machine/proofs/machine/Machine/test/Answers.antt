@@ -3,8 +3,9 @@ use Rattle.dg_machine.specs.Choosing.{repeating}
 use Rattle.dg_machine.specs.declared.frame.Stage.TheVariants.{Test}
 use Rattle.dg_machine.specs.Meaning.{back, all_back}
 use Rattle.dg_machine.proofs.MachineLemmas.{Goes-comes, weight-cons}
-use Rattle.dg_machine.proofs.GatherLemmas.{Comes-along, fail-through}
-use Rattle.dg_machine.proofs.ExpressionLemmas.{begun-calculates, calculate-none}
+use Rattle.dg_machine.proofs.GatherLemmas.{Comes-along}
+use Rattle.dg_compiled.proofs.GatherLemmas.{fail-through}
+use Rattle.dg_compiled.proofs.ExpressionLemmas.{begun-calculates, calculate-none}
 use Rattle.dg_machine.proofs.machine.Machine.test.Goals as goal
 
 pub returns-in_default : goal.returns-in_default

@@ -1,0 +1,6 @@
+pub mod ScriptLemmas
+pub mod GatherLemmas
+pub mod TextLemmas
+pub mod ExpressionLemmas
+pub mod ComputingLemmas
+pub mod Crosses

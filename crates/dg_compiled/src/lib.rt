@@ -1,0 +1,22 @@
+//! What scripts, expressions and lists are read as, once, and how far they go by themselves: words that are made and
+//! expressions that are computed while nothing is asked or evaluated for them.
+#![tactic(auto)]
+
+mod calculation;
+mod computing;
+mod instructions;
+mod lists;
+mod making;
+mod script;
+mod stack;
+mod steps;
+mod texts;
+
+pub use crate::calculation::Calculation;
+pub use crate::computing::{Computed, compute_on};
+pub use crate::instructions::{Condition, Formula};
+pub use crate::lists::{LONGEST_LIST, Listing, with_elements, with_lists};
+pub use crate::making::{Making, first_or_empty};
+pub use crate::script::{Begun, Body, Commands, KEPT, Script, WordSteps};
+pub use crate::stack::Stack;
+pub use crate::texts::{add_text, ends_word, has_room, make_texts, short_text};
