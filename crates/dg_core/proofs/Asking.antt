@@ -1,8 +1,8 @@
 -- A job that is told what a world answers, whose book may grow meanwhile.
 use Rattle.std.proofs.Common.{◌≡◌, ◌<◌, ◌≤◌, Bool, true, false, List, [], ◌∷◌, ◌++◌, true≢false, refl, ap, sym, ◌∙◌, subst, arith}
-use Rattle.std.proofs.lemmas.List.{append-nil}
+use Rattle.std.proofs.lemmas.List.{append_assoc, append-nil}
 use Rattle.std.specs.Prelude.{Option, Some, None}
-use Rattle.dg_world.specs.World.{WorldView, look, IsAsked}
+use Rattle.dg_world.specs.World.{FitsQuestion, WorldView, look, IsAsked}
 use Rattle.dg_world.specs.Question.{fits, same_question}
 use Rattle.dg_world.specs.declared.question.Question.{Question}
 use Rattle.dg_world.specs.declared.question.Question.TheVariants as question
@@ -25,7 +25,8 @@ use Rattle.dg_eval.specs.declared.job.JobFault.TheVariants.{NotAsked, WrongKind,
 use Rattle.dg_index.specs.Kept.{KeptView, IsAskedOf}
 use Rattle.dg_core.specs.Core.{record_in, lines_or_none}
 use Rattle.dg_core.specs.Turns.{left_of, bound, over_answers, turns_left}
-use Rattle.dg_core.specs.Asking.{all_reads, IsTold, IsToldMore, Judges, Fails}
+use Rattle.dg_core.specs.Asking.{all_reads, IsTold, IsToldMore, Stops, Ends as EndsWith, Judges, Fails}
+use Rattle.dg_core.proofs.Turning.{asks-append}
 use Rattle.dg_core.proofs.Growing.{asked-grown, grown-gives, bound-grown}
 
 some≢none : {A : Type 0} (a : A) → Some a ≡ None → ⊥
@@ -164,7 +165,40 @@ told-more before after old mid new q a k n asked h =
       };
       same = refl;
       fewer = fewer-turns v w old.test old.reads q a n.1 e;
-      read = record { question = q.question; answer = a };
-      asked = asked;
+      more = record { question = q.question; answer = a } ∷ [];
+      asked = (after, asked, refl);
       reads = refl;
     })
+
+-- an answer that a world has changes nothing of it
+pub asked-looked : (k : KeptView) (q : Question) (a : Answer) → look k.world q ≡ Some a → FitsQuestion q a → IsAskedOf k k q a
+asked-looked k q a e f = (record { answered = e; fits = f; grown = rw e refl }, rw e refl)
+
+-- the same answers, and a question more that may be new
+pub stops-more : (before after : KeptView) (old mid new : JobView) (q : Ask) (a : Answer) → Stops before old mid (Need q) → IsAskedOf before after q.question a
+    → Tells mid new a mid.asked → IsToldMore before after old new
+stops-more before after old mid new q a s asked h =
+    let m : IsToldMore before after s.last new = told-more before after s.last mid new q a (subst (λ t. IsTold before.world t s.last) (sym s.same) s.told) s.advances asked h in
+    let less : turns_left after.world old.test new.reads < turns_left before.world old.test s.last.reads =
+    subst (λ t. turns_left after.world t new.reads < turns_left before.world t s.last.reads) s.same m.fewer in
+    let fewer = s.fewer in
+    record {
+      told = subst (λ t. IsTold after.world t new) s.same m.told;
+      same = m.same ∙ s.same;
+      fewer = omega (arith, less, fewer);
+      more = s.more ++ m.more;
+      asked = asks-append before before after s.more m.more s.asked m.asked;
+      reads = m.reads ∙ ap (λ rs. rs ++ m.more) s.reads ∙ append_assoc old.reads s.more m.more;
+    }
+
+-- the job has come to its end
+pub stops-done : (k : KeptView) (old new : JobView) (r : RecordView) → Stops k old new (Done r) → EndsWith k old r
+stops-done k old new r s =
+    let done = told-done k.world s.last new r (subst (λ t. IsTold k.world t s.last) (sym s.same) s.told) s.advances in
+    (subst (λ t. Judges k.world t r) s.same done.0, (s.more, s.asked, done.1 ∙ s.reads))
+
+-- a question that may be new was answered, and the job fails for want of memory
+pub stops-fails : (before : KeptView) (w : WorldView) (old mid new : JobView) (q : Ask) (a : Answer) (f : JobFault) → Stops before old mid (Need q)
+    → IsAsked before.world w q.question a → Refuses mid new a f → Fails w old.test f
+stops-fails before w old mid new q a f s asked h =
+    subst (λ t. Fails w t f) s.same (refuses-fails before.world w s.last mid new q a f (subst (λ t. IsTold before.world t s.last) (sym s.same) s.told) s.advances asked h)

@@ -1,5 +1,5 @@
 -- A job that is told what a world answers, whose book may grow meanwhile.
-use Rattle.std.specs.Prelude.{◌≡◌, ◌<◌, ◌++◌, ◌∷◌, [], true, false, Option, Some, None, List}
+use Rattle.std.specs.Prelude.{◌≡◌, ◌<◌, ◌≤◌, ◌++◌, true, false, Option, Some, None, List}
 use Rattle.dg_world.specs.World.{WorldView}
 use Rattle.dg_world.specs.declared.question.Read.{Read}
 use Rattle.dg_world.specs.declared.test_id.TestId.{TestId}
@@ -9,11 +9,14 @@ use Rattle.dg_language.specs.Play.{Play, Gives, Leads, reads_in}
 use Rattle.dg_language.specs.Judge.{judge, verdict_in}
 use Rattle.dg_records.specs.Truth.{RecordView, answers_of}
 use Rattle.dg_eval.specs.Lost.{HasReadPattern}
+use Rattle.dg_eval.specs.Advance.{Advances}
 use Rattle.dg_eval.specs.Truth.{JobView}
+use Rattle.dg_eval.specs.declared.job.Turn.{Turn}
 use Rattle.dg_eval.specs.declared.job.JobFault.{JobFault}
 use Rattle.dg_eval.specs.declared.job.JobFault.TheVariants.{NotAsked, WrongKind, PatternLost, Memory, Failed}
-use Rattle.dg_index.specs.Kept.{KeptView, IsAskedOf}
+use Rattle.dg_index.specs.Kept.{KeptView}
 use Rattle.dg_core.specs.Core.{record_in}
+use Rattle.dg_core.specs.Turning.{AsksInTurn}
 use Rattle.dg_core.specs.Turns.{turns_left}
 
 -- all that the judging of a test reads in a world
@@ -34,24 +37,44 @@ pub record IsTold (w : WorldView) (t : TestId) (j : JobView) : Type 0 where
   pub rest : Play Ending
   pub leads : Leads (judge t) j.reads rest
 
--- one question more was asked, and its answer told; fewer turns are left
+-- questions more were asked in turn, at least one, and their answers told; fewer turns are left
 pub record IsToldMore (before after : KeptView) (old new : JobView) : Type 0 where
   pub told : IsTold after.world old.test new
   pub same : new.test ≡ old.test
   pub fewer : turns_left after.world old.test new.reads < turns_left before.world old.test old.reads
-  pub read : Read
-  pub asked : IsAskedOf before after read.question read.answer
-  pub reads : new.reads ≡ old.reads ++ read ∷ []
+  pub more : List Read
+  pub asked : AsksInTurn before more after
+  pub reads : new.reads ≡ old.reads ++ more
+
+-- A job was told the answers that a world has, which changes nothing of it; then a turn came to this.
+pub record Stops (k : KeptView) (old new : JobView) (turn : Turn) : Type 0 where
+  pub last : JobView
+  pub told : IsTold k.world old.test last
+  pub same : last.test ≡ old.test
+  pub fewer : turns_left k.world old.test last.reads ≤ turns_left k.world old.test old.reads
+  pub more : List Read
+  pub asked : AsksInTurn k more k
+  pub reads : last.reads ≡ old.reads ++ more
+  pub advances : Advances last new turn
+
+-- the answer that a world has was told, or a turn came to this
+abbrev pub LooksUp : KeptView → JobView → JobView → Option Turn → Type 0
+LooksUp k old new None = IsToldMore k k old new
+LooksUp k old new (Some turn) = Advances old new turn
 
 -- the record of a test in a world, where its judging comes to its end
 pub record Judges (w : WorldView) (t : TestId) (r : RecordView) : Type 0 where
   pub made : r ≡ record_in w t
   pub ends : HasVerdict w t
 
--- what a turn comes to: one answer more, or the record of the test in this world, which read just what the job was told
+-- the record of a test in a world, which read what the job was told, and what was asked in turn after that
+abbrev pub Ends : KeptView → JobView → RecordView → Type 0
+Ends k old r = Judges k.world old.test r × ((more : List Read) × AsksInTurn k more k × (r.reads ≡ old.reads ++ more))
+
+-- what turns come to: answers more, or the record of the test
 abbrev pub Takes : KeptView → KeptView → JobView → JobView → Option RecordView → Type 0
 Takes before after old new None = IsToldMore before after old new
-Takes before after old new (Some r) = Judges after.world old.test r × (after ≡ before) × (r.reads ≡ old.reads)
+Takes before after old new (Some r) = Ends before old r × (after ≡ before)
 
 -- why a judging fails in a world: for want of memory, or where it reads a pattern that is answered as read
 abbrev pub Fails : WorldView → TestId → JobFault → Type 0
