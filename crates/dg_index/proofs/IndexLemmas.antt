@@ -1,7 +1,7 @@
 -- What an index names.
 use Rattle.std.proofs.Common.{◌≡◌, ◌∙◌, ◌||◌, ℕ, Bool, true, false, cond, List, [], ◌∷◌, ◌++◌, map, refl, ap, sym, subst, IsTrue, ◌<◌, ◌+◌, length, get_or, take}
 use Rattle.std.proofs.lemmas.List.{take_more}
-use Rattle.std.specs.Prelude.{Option, Some, None, Result, Ok, Err, OnOk, is_err, nat_eq, unwrap_or, option_map}
+use Rattle.std.specs.Prelude.{Option, Some, None, Result, Ok, Err, OnOk, nat_eq, unwrap_or, option_map}
 use Rattle.std.specs.List.{list_any}
 use Rattle.std.specs.Map.{lookup, lookup_key}
 use Rattle.std.specs.Cmp.Lexicographic.{bytes_decides}

@@ -1,5 +1,5 @@
 -- A variable whose value grows.
-use Rattle.std.proofs.Common.{◌≡◌, ℕ, ◌<◌, ◌≤◌, ◌++◌, ◌∙◌, true, false, List, [], Option, Some, None, length, ap, sym, subst, refl, arith}
+use Rattle.std.proofs.Common.{◌≡◌, ℕ, ◌<◌, ◌≤◌, ◌∙◌, true, false, List, Option, Some, None, length, ap, refl, arith}
 use Rattle.dg_scope.specs.Scopes.{Variables, value_limit, value_of, with_value, or_none}
 use Rattle.dg_scope.proofs.Exchanges.{is_set}
 use Rattle.dg_language.specs.State.{State, assigned}

@@ -1,6 +1,6 @@
 -- Worked rows of the words of the commands on sessions.
-use Rattle.std.proofs.Common.{◌≡◌, ℕ, true, false, List, [], ◌∷◌, refl}
-use Rattle.std.specs.Prelude.{pos, negsuc, Option, Some, None, Ok, Err, codes}
+use Rattle.std.proofs.Common.{◌≡◌, true, false, [], ◌∷◌, refl}
+use Rattle.std.specs.Prelude.{pos, negsuc, Some, None, Ok, Err, codes}
 use Rattle.dg_language.specs.declared.expect.Awaited.TheVariants.{Glob, Exact, End}
 use Rattle.dg_language.specs.SessionWords.{spawn_words, send_words, match_words}
 use Rattle.dg_language.specs.ExpectWords.{expect_words, pair, listed, leads_a_list, pairs_of}

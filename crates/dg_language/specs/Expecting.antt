@@ -1,5 +1,5 @@
 -- What `expect` and `exp_continue` mean, by expect(1).
-use Rattle.std.specs.Prelude.{ℕ, ℤ, pos, negsuc, zero, suc, ◌+◌, ◌-◌, ◌*◌, min, Bool, true, false, Option, Some, None, List, [], ◌∷◌, ◌++◌, length, take, drop, slice_get, slice_range, codes, decimal, Result, Ok, Err}
+use Rattle.std.specs.Prelude.{ℕ, ℤ, pos, negsuc, zero, suc, ◌+◌, ◌*◌, min, Bool, true, false, Option, Some, None, List, [], ◌∷◌, ◌++◌, take, slice_get, slice_range, codes, decimal, Result, Ok, Err}
 use Rattle.dg_words.specs.Faults.{fault_text}
 use Rattle.dg_words.specs.Reading.{words_of}
 use Rattle.dg_words.specs.declared.fault.WordFault.{WordFault}
@@ -8,21 +8,18 @@ use Rattle.dg_expr.specs.Number.{number_of}
 use Rattle.dg_glob.specs.declared.glob.Span.{Span}
 use Rattle.dg_match.specs.Hits.{hit_of}
 use Rattle.dg_match.specs.declared.hit.Hit.{Hit}
-use Rattle.dg_transcript.specs.declared.entry.Entry.{Entry}
 use Rattle.dg_transcript.specs.declared.cursor.Action.TheVariants as action
 use Rattle.dg_transcript.specs.Output.{output_of}
 use Rattle.dg_sessions.specs.Views.{SessionView, id_of, session_at}
 use Rattle.dg_sessions.specs.Phases.{is_open}
 use Rattle.dg_sessions.specs.Steps.{changed, emptied, taken}
-use Rattle.dg_language.specs.declared.code.Code.{Code}
 use Rattle.dg_language.specs.declared.code.Code.TheVariants.{Done, Failed, Returned, Broken, Continued, ExpContinued}
 use Rattle.dg_language.specs.declared.expect.Pair.{Pair}
 use Rattle.dg_language.specs.declared.expect.Awaited.{Awaited}
-use Rattle.dg_language.specs.declared.expect.Expectation.{Expectation}
 use Rattle.dg_language.specs.declared.state.TheConstants.{STEPS}
 use Rattle.dg_language.specs.Play.{Play, Ends}
 use Rattle.dg_language.specs.State.{State, assigned, with_sessions, in_action, out_of_action, stands_in_action}
-use Rattle.dg_language.specs.Evaluation.{Ending, Then, Nested, out_of_steps, fail, on, wrong_count, outside_of_expect}
+use Rattle.dg_language.specs.Evaluation.{Ending, Then, Nested, out_of_steps, fail, wrong_count, outside_of_expect}
 use Rattle.dg_language.specs.Completing.{Immediately, completes}
 use Rattle.dg_language.specs.Variables.{expected_integer}
 use Rattle.dg_language.specs.Words.{element, gather, substitutions}

@@ -1,5 +1,5 @@
 -- What `regexp` means, by regexp(n) with the patterns of `regex` over bytes.
-use Rattle.std.specs.Prelude.{ℕ, Bool, true, false, Option, Some, None, List, [], ◌∷◌, map, slice_range, codes, Result, Ok, Err}
+use Rattle.std.specs.Prelude.{ℕ, true, false, Option, Some, None, List, [], ◌∷◌, map, slice_range, codes, Result, Ok, Err}
 use Rattle.dg_match.specs.Groups.{regex_match}
 use Rattle.dg_match.specs.declared.found.Found.{Found}
 use Rattle.dg_language.specs.declared.code.Code.TheVariants.{Done}

@@ -1,7 +1,7 @@
 -- `-re` patterns are asked for before they are used, since how one is read is no matter of the script.
 use Rattle.std.specs.Prelude.{ℕ, Bool, true, false, List, [], ◌∷◌, codes}
 use Rattle.dg_match.specs.declared.reading.Reading.{Reading}
-use Rattle.dg_match.specs.declared.reading.Reading.TheVariants.{Read, Syntax, TooLarge}
+use Rattle.dg_match.specs.declared.reading.Reading.TheVariants.{Read}
 use Rattle.dg_world.specs.declared.question.Question.TheVariants.{Pattern}
 use Rattle.dg_world.specs.declared.question.Answer.{Answer}
 use Rattle.dg_world.specs.declared.question.Answer.TheVariants as answer

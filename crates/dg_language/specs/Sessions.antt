@@ -15,7 +15,6 @@ use Rattle.dg_sessions.specs.Views.{SessionView, SessionsView, most_entries, mos
 use Rattle.dg_sessions.specs.Phases.{is_open, has_started, can_wait}
 use Rattle.dg_sessions.specs.Steps.{step_of, with_session, all_acted, changed, limited}
 use Rattle.dg_sessions.specs.declared.phase.Phase.{Phase}
-use Rattle.dg_world.specs.declared.question.Question.{Question}
 use Rattle.dg_world.specs.declared.question.Question.TheVariants as question
 use Rattle.dg_world.specs.declared.question.Answer.{Answer}
 use Rattle.dg_world.specs.declared.question.Answer.TheVariants as answer

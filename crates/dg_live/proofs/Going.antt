@@ -1,10 +1,9 @@
 -- What holds between the turns of a live run, and what its end is.
-use Rattle.std.proofs.Common.{◌≡◌, ◌≢◌, ℕ, ◌+◌, ◌-◌, ◌^◌, ◌<◌, ◌≤◌, Bool, true, false, List, [], ◌∷◌, ◌++◌, length, refl, sym, subst, ap, ◌∙◌, arith, sum_by}
+use Rattle.std.proofs.Common.{◌≡◌, ℕ, ◌+◌, ◌-◌, ◌^◌, ◌<◌, ◌≤◌, true, false, List, [], ◌∷◌, ◌++◌, length, refl, sym, subst, ap, ◌∙◌, arith, sum_by}
 use Rattle.std.specs.Prelude.{Option, Some, None}
 use Rattle.dg_transcript.specs.declared.entry.Entry.{Entry}
 use Rattle.dg_transcript.specs.declared.cursor.Action.{Action}
 use Rattle.dg_transcript.specs.Limits.{IsTranscript}
-use Rattle.dg_gate.specs.declared.reply.Reply.{Reply}
 use Rattle.dg_world.specs.declared.question.Question.{Question}
 use Rattle.dg_world.specs.declared.question.Question.TheVariants as question
 use Rattle.dg_world.specs.declared.question.Answer.{Answer}
@@ -25,7 +24,7 @@ use Rattle.dg_eval.specs.declared.job.Turn.TheVariants.{Need}
 use Rattle.dg_eval.specs.declared.job.JobFault.{JobFault}
 use Rattle.dg_eval.specs.declared.job.JobFault.TheVariants.{NotAsked, WrongKind, PatternLost, Memory, Failed}
 use Rattle.dg_live.specs.declared.fault.LiveFault.TheVariants.{Job}
-use Rattle.dg_living.specs.Living.{LivesAsked, LivesOn, is_about_entry, entries_at, with_entry}
+use Rattle.dg_living.specs.Living.{LivesAsked, LivesOn, entries_at}
 use Rattle.dg_living.specs.Replayed.{MayAnswer, LeadsLive, IsReplayed, AllStand, TellsOf, others, told_entry, transcript_of}
 use Rattle.dg_living.proofs.Agreeing.{sum-more}
 use Rattle.dg_living.proofs.Judging.{judging-lives}

@@ -20,14 +20,14 @@ use Rattle.dg_words.specs.Machine.{Draft, Go, add, level_in, perform, read, stop
 use Rattle.dg_words.specs.Turns.{in_braced, is_space}
 use Rattle.dg_words.specs.Grammar.Escapes.{each, begins_with_space}
 use Rattle.dg_words.specs.Grammar.Words as words
-use Rattle.dg_words.specs.Grammar.Words.{plain, ends_word, blanks, Named, name_byte, name_goes_on, goes_on, begins_variable, variable_by, begins_with_colon, is_colon, is_name, brace_name_byte, no_close, with_text}
+use Rattle.dg_words.specs.Grammar.Words.{ends_word, blanks}
 use Rattle.dg_words.proofs.GrammarLemmas.Numbers.{and_left, and_right}
 use Rattle.dg_words.proofs.GrammarLemmas.Bytes.{is_class}
 use Rattle.dg_words.proofs.GrammarLemmas.ListRead.{backslash_is, newline_is}
 use Rattle.dg_words.proofs.GrammarLemmas.Segments.{at, Leads, lead_same, lead_none, lead_one, step_by, read_step, read_end, moved, add_add, add_none, Seg, seg_both, seg_one, seg_then, does_in}
 use Rattle.dg_words.specs.Turns.{in_braced_join, in_braced_pair, in_comment}
 use Rattle.dg_words.specs.declared.kinds.Delimiter.{Delimiter}
-use Rattle.dg_words.specs.Grammar.Words.{Parts, Parted, Gap, Skipped, Comment, Braced, plain_braced, plain_comment, skipped, begins, Begins, is_hash, begins_with_hash}
+use Rattle.dg_words.specs.Grammar.Words.{Parted, Gap, Skipped, Comment, Braced, plain_braced, plain_comment, skipped}
 use Rattle.dg_words.proofs.GrammarLemmas.Pieces.{close_is, open_is, pair_turn, same, seg_as}
 
 -- where a reading may be outermost

@@ -22,7 +22,7 @@ use Rattle.dg_words.specs.Turns.{base_of, behind_number, counted, digits_of, doe
 use Rattle.dg_words.specs.Turns as turns
 use Rattle.dg_words.specs.Elements.{Listing, elements_of, list_deed, list_ended, list_ends, list_number_ends, list_spot_ends, list_follow, list_numbered, list_onward, list_read, list_spot, list_step, list_stop, list_stopped, list_turn, without_place}
 use Rattle.dg_words.specs.Grammar.Escapes as spec
-use Rattle.dg_words.specs.Grammar.Escapes.{each, begins_with_space, begins_number, Digits, Escaped, NumberWrites, Spaces, stands_for, value_from, Writes}
+use Rattle.dg_words.specs.Grammar.Escapes.{each, begins_with_space, begins_number, Digits, Escaped, NumberWrites, stands_for, value_from}
 use Rattle.dg_words.specs.Grammar.Lists as lists
 use Rattle.dg_words.specs.Grammar.Lists.{parts, is_blank, plain_bare, plain_quoted, plain_braced, begins, Begins, Parted, Inside, Element, ListOf}
 use Rattle.dg_words.proofs.GrammarLemmas.Numbers.{and_left, and_right, paired, one_turn, octal_turn, letter_turn, number, with_more, is_none, bytes_of, IsWriting, Written, writes, writes_byte, whole_behind, some_digits, next_value}

@@ -22,7 +22,7 @@ use Rattle.dg_words.specs.Classes.{class_of}
 use Rattle.dg_words.specs.Turns.{base_of, behind_number, digits_of, does, escaped, goes, is_space, letter_of, most_of, puts, whole, with_digit, written}
 use Rattle.dg_words.specs.Elements.{Listing, Elements, elements_of, list_ended, list_ends, list_number_ends, list_numbered, list_onward, list_read, list_spot, list_step, list_stop, list_stopped, list_turn, unread, without_place}
 use Rattle.dg_words.specs.Grammar.Escapes as spec
-use Rattle.dg_words.specs.Grammar.Escapes.{each, begins_with_space, begins_number, Digits, Escaped, NumberWrites, Spaces, stands_for, value_from, Writes}
+use Rattle.dg_words.specs.Grammar.Escapes.{Digits, Escaped, NumberWrites, Spaces, stands_for, value_from}
 use Rattle.dg_words.specs.Grammar.Lists as lists
 use Rattle.dg_words.specs.Grammar.Lists.{parts, is_blank, plain_bare, plain_quoted, plain_braced, begins, Begins, Parted, Inside, Element, ListOf}
 use Rattle.dg_words.proofs.GrammarLemmas.Numbers.{and_both, Paired, paired, no_digits, no_room, more_digits, digit_some, was_written, octal_small, some_deed, number, bytes_of, IsWriting, whole_behind, some_digits, next_value}

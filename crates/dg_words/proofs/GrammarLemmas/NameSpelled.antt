@@ -14,7 +14,7 @@ use Rattle.dg_words.specs.declared.kinds.Spot.TheVariants as spot
 use Rattle.dg_words.specs.Classes.{class_of}
 use Rattle.dg_words.specs.Turns.{behind_deed, does, goes, puts, turn}
 use Rattle.dg_words.specs.Grammar.Words as grammar
-use Rattle.dg_words.specs.Grammar.Words.{begins_variable, begins_with_colon, brace_name_byte, goes_on, is_colon, is_name, name_byte, name_goes_on, Named, no_close, plain, variable_by}
+use Rattle.dg_words.specs.Grammar.Words.{goes_on, is_colon, is_name, name_byte, Named, no_close, variable_by}
 use Rattle.dg_words.proofs.GrammarLemmas.Numbers.{and_both}
 use Rattle.dg_words.proofs.GrammarLemmas.Bytes.{is_class}
 use Rattle.dg_words.proofs.GrammarLemmas.Segments.{pend_read}

@@ -23,14 +23,14 @@ use Rattle.dg_words.specs.Machine.{Draft, Go, State, add, close, closed, command
 use Rattle.dg_words.specs.Turns.{escaped, letter_of}
 use Rattle.dg_words.specs.Machine.{close_index, has_room, leaves_index, open_index, opens}
 use Rattle.dg_words.specs.Grammar.Escapes as spec
-use Rattle.dg_words.specs.Grammar.Escapes.{each, begins_with_space, begins_number, Digits, Escaped, NumberWrites, Spaces, stands_for, value_from, Writes}
+use Rattle.dg_words.specs.Grammar.Escapes.{Escaped, stands_for}
 use Rattle.dg_words.specs.Grammar.Words as words
-use Rattle.dg_words.specs.Grammar.Words.{plain, ends_word, blanks, Named, name_byte, name_goes_on, goes_on, begins_variable, variable_by, begins_with_colon, is_colon, is_name, brace_name_byte, no_close, with_text}
+use Rattle.dg_words.specs.Grammar.Words.{plain, ends_word, Named, with_text}
 use Rattle.dg_words.proofs.GrammarLemmas.Numbers.{Paired, paired}
 use Rattle.dg_words.proofs.GrammarLemmas.Bytes.{is_class}
 use Rattle.dg_words.proofs.GrammarLemmas.ListRead.{backslash_is}
 use Rattle.dg_words.proofs.GrammarLemmas.Segments.{at, Leads, lead_one, lead_both, step_by, read_step, read_end, moved, add_add, add_none, Seg, seg_one, does_in, pend_step, pend_turn}
-use Rattle.dg_words.specs.Grammar.Words.{Parts, Plain, OneWord, Words, OneCommand, Script, Begun, WordsOf, ends_command, Parted, Gap, Skipped, Comment, Braced, plain_braced, plain_comment, skipped, begins, Begins, is_hash, begins_with_hash}
+use Rattle.dg_words.specs.Grammar.Words.{Parts, Gap, begins, Begins}
 use Rattle.dg_words.proofs.GrammarLemmas.Pieces.{same, seg_backslash}
 use Rattle.dg_words.proofs.GrammarLemmas.Pieces.{begun, behind_nothing, escaped_turn, letter_line, octal_line, dollar_is, left_bracket_is, right_bracket_is, right_paren_is, paren_is, bracket_turn, seg_dollar, seg_named, varied}
 use Rattle.dg_words.specs.declared.kinds.Outer.TheVariants as outer

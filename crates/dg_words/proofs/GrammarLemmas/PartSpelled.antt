@@ -25,9 +25,9 @@ use Rattle.dg_words.specs.Classes.{class_of}
 use Rattle.dg_words.specs.Turns.{base_of, behind_deed, behind_number, digits_of, does, ends, escaped, goes, in_spot, is_space, letter_of, most_of, number_ends, numbered, puts, turn, whole, with_digit, written}
 use Rattle.dg_words.specs.Machine.{is_none}
 use Rattle.dg_words.specs.Grammar.Escapes as spec
-use Rattle.dg_words.specs.Grammar.Escapes.{each, begins_with_space, Digits, Escaped, Spaces, stands_for, value_from}
+use Rattle.dg_words.specs.Grammar.Escapes.{Escaped, stands_for, value_from}
 use Rattle.dg_words.specs.Grammar.Words as grammar
-use Rattle.dg_words.specs.Grammar.Words.{blanks, begins_variable, begins_with_colon, brace_name_byte, ends_command, ends_word, goes_on, is_colon, is_name, name_byte, name_goes_on, Named, no_close, Parted, plain, variable_by, Comment, begins_with_colon, Named, variable_by}
+use Rattle.dg_words.specs.Grammar.Words.{blanks, begins_with_colon, ends_command, ends_word, Named, Parted, plain, variable_by, begins_with_colon, Named, variable_by}
 use Rattle.dg_words.proofs.GrammarLemmas.Numbers.{and_both, Paired, paired, no_digits, no_room, more_digits, digit_some, octal_small, number, whole_behind, some_digits, next_value}
 use Rattle.dg_words.proofs.GrammarLemmas.Bytes.{is_class}
 use Rattle.dg_words.proofs.GrammarLemmas.ListRead.{left, newline_is}

@@ -20,14 +20,14 @@ use Rattle.dg_words.specs.declared.kinds.Spot.{Spot}
 use Rattle.dg_words.specs.declared.kinds.Spot.TheVariants as spot
 use Rattle.dg_words.specs.declared.kinds.Turn.{Turn}
 use Rattle.dg_words.specs.Classes.{class_of}
-use Rattle.dg_words.specs.Turns.{behind_deed, ends, does, goes, puts, in_bare, in_spot, spot_ends, turn}
+use Rattle.dg_words.specs.Turns.{behind_deed, ends, does, goes, puts, in_spot, turn}
 use Rattle.dg_words.specs.Machine.{Draft, Go, State, add, close, closed, is_none, level_in, onward, perform, read, step}
-use Rattle.dg_words.specs.Turns.{base_of, behind_number, counted, digits_of, escaped, in_braced, in_colon, in_dollar, in_join, in_name, is_space, letter_of, most_of, number_ends, numbered, whole, with_digit, written}
+use Rattle.dg_words.specs.Turns.{base_of, behind_number, counted, digits_of, escaped, in_colon, in_dollar, in_join, in_name, is_space, letter_of, number_ends, numbered, whole, with_digit}
 use Rattle.dg_words.specs.Turns as turns
 use Rattle.dg_words.specs.Grammar.Escapes as spec
-use Rattle.dg_words.specs.Grammar.Escapes.{each, begins_with_space, begins_number, Digits, Escaped, NumberWrites, Spaces, stands_for, value_from, Writes}
+use Rattle.dg_words.specs.Grammar.Escapes.{each, begins_with_space, Digits, Escaped, Spaces, stands_for, value_from}
 use Rattle.dg_words.specs.Grammar.Words as words
-use Rattle.dg_words.specs.Grammar.Words.{plain, ends_word, blanks, Named, name_byte, name_goes_on, goes_on, begins_variable, variable_by, begins_with_colon, is_colon, is_name, brace_name_byte, no_close, with_text}
+use Rattle.dg_words.specs.Grammar.Words.{plain, ends_word, Named, name_byte, name_goes_on, goes_on, begins_variable, variable_by, begins_with_colon, is_colon, is_name, brace_name_byte, no_close}
 use Rattle.dg_words.proofs.GrammarLemmas.Numbers.{and_left, and_right, paired, one_turn, octal_turn, letter_turn, number, with_more, is_none as no_digit, bytes_of, IsWriting, whole_behind, some_digits, next_value}
 use Rattle.dg_words.proofs.GrammarLemmas.Bytes.{is_class}
 use Rattle.dg_words.proofs.GrammarLemmas.ListSpelled.{first_same}

@@ -20,13 +20,13 @@ use Rattle.dg_words.specs.Turns.{ends, does, goes, turn}
 use Rattle.dg_words.specs.Machine.{Draft, Over, add, closed, end_word, fresh, level_in, onward, perform, read, step, stop}
 use Rattle.dg_words.specs.Turns.{in_braced}
 use Rattle.dg_words.specs.Grammar.Words as words
-use Rattle.dg_words.specs.Grammar.Words.{plain, ends_word, blanks, Named, name_byte, name_goes_on, goes_on, begins_variable, variable_by, begins_with_colon, is_colon, is_name, brace_name_byte, no_close, with_text}
+use Rattle.dg_words.specs.Grammar.Words.{plain, with_text}
 use Rattle.dg_words.proofs.GrammarLemmas.Bytes.{is_class}
 use Rattle.dg_words.proofs.GrammarLemmas.ListRead.{backslash_is}
 use Rattle.dg_words.proofs.GrammarLemmas.Segments.{at, Leads, lead_none, lead_one, lead_both, step_by, read_step, moved, add_add, Seg, seg_both, seg_one, seg_then, does_in}
 use Rattle.dg_words.specs.Turns.{in_brace_first, in_brace_star}
 use Rattle.dg_words.specs.declared.kinds.Delimiter.TheVariants as delimiter
-use Rattle.dg_words.specs.Grammar.Words.{Parts, Plain, OneWord, Words, OneCommand, Script, Begun, WordsOf, ends_command, Parted, Gap, Skipped, Comment, Braced, plain_braced, plain_comment, skipped, begins, Begins, is_hash, begins_with_hash}
+use Rattle.dg_words.specs.Grammar.Words.{Parts, Plain, OneWord, Words, OneCommand, Script, Begun, WordsOf, ends_command, Parted, Gap, Skipped, Braced, plain_braced, is_hash, begins_with_hash}
 use Rattle.dg_words.proofs.GrammarLemmas.ListRead.{quote_is}
 use Rattle.dg_words.proofs.GrammarLemmas.Pieces.{close_is, open_is, same}
 use Rattle.dg_words.specs.Reading.{command_at, words_of, kind_of, words_only}

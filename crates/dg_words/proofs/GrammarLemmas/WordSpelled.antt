@@ -23,7 +23,7 @@ use Rattle.dg_words.specs.Turns.{after, behind_deed, does, ends, goes, is_space,
 use Rattle.dg_words.specs.Machine.{is_none}
 use Rattle.dg_words.specs.Grammar.Escapes.{begins_with_space, Spaces}
 use Rattle.dg_words.specs.Grammar.Words as grammar
-use Rattle.dg_words.specs.Grammar.Words.{begins, Begins, blanks, Braced, ends_word, OneWord, Parted, Parts, Plain, plain_braced, with_text}
+use Rattle.dg_words.specs.Grammar.Words.{begins, Begins, Braced, ends_word, OneWord, Parted, Parts, Plain, plain_braced, with_text}
 use Rattle.dg_words.proofs.GrammarLemmas.Numbers.{and_both}
 use Rattle.dg_words.proofs.GrammarLemmas.Bytes.{is_class}
 use Rattle.dg_words.proofs.GrammarLemmas.ListRead.{backslash_is, newline_is, quote_is}

@@ -1,4 +1,3 @@
-use Rattle.std.proofs.Common.{◌∙◌}
 use Rattle.dg_index.proofs.KeptLemmas.{found-nothing, found-readers, looks-found, looks-nothing, only-found}
 use Rattle.dg_index.proofs.looking.look_at_readers.Goals as goal
 

@@ -1,4 +1,3 @@
-use Rattle.std.proofs.Common.{◌≡◌}
 use Rattle.dg_live.proofs.Going.{Going}
 use Rattle.dg_live.proofs.run.run_live.Given as goal
 

@@ -1,4 +1,4 @@
-use Rattle.std.proofs.Common.{◌≡◌, ◌∙◌, ap, sym, arith, List, [], ◌∷◌, ◌++◌, length, ◌<◌, ◌≤◌, slice_set}
+use Rattle.std.proofs.Common.{◌∙◌, ap, sym, arith, List, [], ◌∷◌, ◌++◌, length, ◌<◌, ◌≤◌, slice_set}
 use Rattle.dg_transcript.specs.declared.entry.Entry.{Entry}
 use Rattle.dg_living.specs.Living.{with_entry}
 use Rattle.dg_live.proofs.Telling.{entry-set, entry-push}

@@ -1,7 +1,7 @@
-use Rattle.std.proofs.Common.{◌≡◌, ◌∙◌, ap, sym, get_or, List}
+use Rattle.std.proofs.Common.{◌∙◌, ap, sym, get_or, List}
 use Rattle.dg_world.specs.declared.question.Read.{Read}
 use Rattle.dg_transcript.specs.declared.entry.Entry.{Entry}
-use Rattle.dg_living.specs.Replayed.{told_entry, transcript_of}
+use Rattle.dg_living.specs.Replayed.{told_entry}
 use Rattle.dg_live.proofs.Telling.{transcript-more}
 use Rattle.dg_live.proofs.sessions.sessions_in.Goals as goal
 

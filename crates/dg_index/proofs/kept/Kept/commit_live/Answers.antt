@@ -1,4 +1,4 @@
-use Rattle.std.proofs.Common.{◌≡◌, ◌∙◌, ap, sym, subst}
+use Rattle.std.proofs.Common.{◌∙◌, ap, sym, subst}
 use Rattle.dg_world.specs.World.{WorldView, recorded}
 use Rattle.dg_index.specs.Kept.{IsKept, committed_live}
 use Rattle.dg_index.specs.Marks.{MarkedView}

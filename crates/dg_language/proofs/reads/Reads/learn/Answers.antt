@@ -1,4 +1,4 @@
-use Rattle.std.proofs.Common.{◌≡◌, ◌∙◌, ◌++◌, ◌∷◌, [], ap, sym, true}
+use Rattle.std.proofs.Common.{◌≡◌, ◌∙◌, [], ap, sym, true}
 use Rattle.dg_language.specs.Play.{lookup}
 use Rattle.dg_language.specs.Reads.{are_new, is_once, reads_held}
 use Rattle.dg_language.proofs.ReadsLemmas.{are_new-push}

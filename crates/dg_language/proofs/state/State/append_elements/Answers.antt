@@ -1,4 +1,4 @@
-use Rattle.std.proofs.Common.{◌≡◌, ℕ, Bool, ◌<◌, ◌≤◌, ◌++◌, ◌∙◌, true, false, List, length, ap, sym, subst, refl}
+use Rattle.std.proofs.Common.{◌≡◌, ℕ, Bool, ◌++◌, ◌∙◌, true, false, List, ap, sym, subst}
 use Rattle.std.specs.Prelude.{Ok, Err}
 use Rattle.dg_words.specs.Canonical.{text_of_list}
 use Rattle.dg_words.specs.Elements.{elements_of}

@@ -1,5 +1,5 @@
-use Rattle.std.proofs.Common.{◌≡◌, ℕ, ◌<◌, ◌≤◌, ◌++◌, ◌∙◌, true, false, List, length, ap, sym, subst, refl}
-use Rattle.std.specs.Prelude.{Ok, Err}
+use Rattle.std.proofs.Common.{◌≡◌, ◌<◌, ◌≤◌, ◌++◌, ◌∙◌, true, false, length, ap, subst}
+use Rattle.std.specs.Prelude.{Err}
 use Rattle.dg_scope.specs.Scopes.{value_limit, value_of, with_value, or_none}
 use Rattle.dg_language.specs.State.{State}
 use Rattle.dg_language.specs.contracts.state.State.{the_view}

@@ -1,7 +1,5 @@
-use Rattle.std.proofs.Common.{refl, ap}
 use Rattle.dg_transcript.specs.declared.cursor.Action.TheVariants as action
 use Rattle.dg_gate.specs.declared.reply.Reply.TheVariants as reply
-use Rattle.dg_pipes.specs.Steps.{taken_of}
 use Rattle.dg_pipes.proofs.Places.{if_ok, if_err, joined_at}
 use Rattle.dg_pipes.proofs.sessions.Sessions.read.Goals as goal
 

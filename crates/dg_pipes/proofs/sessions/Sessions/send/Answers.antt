@@ -1,7 +1,7 @@
-use Rattle.std.proofs.Common.{refl, ap, slice_set}
+use Rattle.std.proofs.Common.{refl, slice_set}
 use Rattle.dg_transcript.specs.declared.cursor.Action.TheVariants as action
 use Rattle.dg_gate.specs.declared.reply.Reply.TheVariants as reply
-use Rattle.dg_pipes.specs.Steps.{taken_of, PipeStep}
+use Rattle.dg_pipes.specs.Steps.{PipeStep}
 use Rattle.dg_pipes.proofs.Places.{all_ok, all_err, kept_at, fails_by}
 use Rattle.dg_pipes.proofs.sessions.Sessions.send.Goals as goal
 

@@ -1,4 +1,4 @@
-use Rattle.std.proofs.Common.{ℕ, ◌+◌, ◌≤◌, vec_len, vec_capacity}
+use Rattle.std.proofs.Common.{◌+◌, ◌≤◌, vec_len, vec_capacity}
 use Rattle.dg_pipes.proofs.Places.{Told}
 use Rattle.dg_pipes.proofs.sessions.Sessions.stop.Given as goal
 

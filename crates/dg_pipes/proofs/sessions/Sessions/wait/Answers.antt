@@ -1,7 +1,6 @@
-use Rattle.std.proofs.Common.{refl, ap}
+use Rattle.std.proofs.Common.{refl}
 use Rattle.dg_transcript.specs.declared.cursor.Action.TheVariants as action
 use Rattle.dg_gate.specs.declared.reply.Reply.TheVariants as reply
-use Rattle.dg_pipes.specs.Steps.{taken_of}
 use Rattle.dg_pipes.proofs.Places.{all_ok, all_err, kept_at}
 use Rattle.dg_pipes.proofs.sessions.Sessions.wait.Goals as goal
 
