@@ -17,7 +17,7 @@ use Rattle.dg_language.specs.Expressions.{host, operand_steps, or_fault}
 use Rattle.dg_language.specs.Evaluation.{Then, fail, if_done}
 use Rattle.dg_language.specs.State.{State}
 use Rattle.dg_compiled.specs.declared.computing.Computed.{Computed}
-use Rattle.dg_compiled.specs.declared.computing.Computed.TheVariants.{Value, Failed, Operand}
+use Rattle.dg_compiled.specs.declared.computing.Computed.TheVariants.{Value, Whole, Failed, Operand}
 use Rattle.dg_compiled.specs.declared.calculation.Calculation.{Calculation}
 use Rattle.dg_compiled.specs.declared.making.Making.{Making}
 use Rattle.dg_compiled.specs.Calculating.{calculating, calculating_with, instructing}
@@ -70,6 +70,7 @@ module _ (s : State) (first now last : Calculation) (same : (k : Then) → calcu
 
   pub instructs-computes : (c : Computed) → Instructs i s (record now { left = left }) last (Some c) → Computes s first last c
   instructs-computes (Value v) h = λ k. instructs-now k ∙ h k
+  instructs-computes (Whole z) h = λ k. instructs-now k ∙ h k
   instructs-computes (Failed m) h = λ k. instructs-now k ∙ h k
   instructs-computes (Operand making) h =
       let count = ap length e in

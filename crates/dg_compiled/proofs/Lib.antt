@@ -4,3 +4,4 @@ pub mod TextLemmas
 pub mod ExpressionLemmas
 pub mod ComputingLemmas
 pub mod Crosses
+pub mod WholeLemmas

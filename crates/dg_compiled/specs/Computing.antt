@@ -1,6 +1,7 @@
 -- Where the instructions of an expression come to by themselves.
 use Rattle.std.specs.Prelude.{◌≡◌, ℕ, ◌^◌, ◌<◌, List, length, Option, Some, None}
 use Rattle.dg_expr.specs.declared.code.Instruction.{Instruction}
+use Rattle.dg_expr.specs.Number.{decimal_text}
 use Rattle.dg_language.specs.declared.code.Code.TheVariants.{Done}
 use Rattle.dg_language.specs.declared.substitution.Purpose.TheVariants.{Load}
 use Rattle.dg_language.specs.State.{State}
@@ -8,7 +9,7 @@ use Rattle.dg_language.specs.Evaluation.{Then, fail, if_done}
 use Rattle.dg_compiled.specs.declared.calculation.Calculation.{Calculation}
 use Rattle.dg_compiled.specs.declared.making.Making.{Making}
 use Rattle.dg_compiled.specs.declared.computing.Computed.{Computed}
-use Rattle.dg_compiled.specs.declared.computing.Computed.TheVariants.{Value, Failed, Operand}
+use Rattle.dg_compiled.specs.declared.computing.Computed.TheVariants.{Value, Whole, Failed, Operand}
 use Rattle.dg_compiled.specs.Calculating.{calculating, calculating_with, instructing}
 use Rattle.dg_compiled.specs.Making.{making_on}
 
@@ -37,12 +38,14 @@ Loads i s old new (Some making) = Leaves i s old new making
 abbrev pub Instructs : Instruction → State → Calculation → Calculation → Option Computed → Type 0
 Instructs i s old new None = IsDone i s old new
 Instructs i s old new (Some (Value v)) = (k : Then) → instructing old i s k ≡ k Done v s
+Instructs i s old new (Some (Whole z)) = (k : Then) → instructing old i s k ≡ k Done (decimal_text z) s
 Instructs i s old new (Some (Failed message)) = (k : Then) → instructing old i s k ≡ fail message s k
 Instructs i s old new (Some (Operand making)) = Leaves i s old new making
 
 -- the expression has come to its value, to an error, or to an operand, of which these words in the making are left
 abbrev pub Computes : State → Calculation → Calculation → Computed → Type 0
 Computes s old new (Value v) = (k : Then) → calculating old s k ≡ k Done v s
+Computes s old new (Whole z) = (k : Then) → calculating old s k ≡ k Done (decimal_text z) s
 Computes s old new (Failed message) = (k : Then) → calculating old s k ≡ fail message s k
 Computes s old new (Operand making) =
     ((k : Then) → calculating old s k ≡ making_on making new.depth s (if_done (λ v t. calculating_with new v t k) k))

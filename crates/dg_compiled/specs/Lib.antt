@@ -6,3 +6,4 @@ pub mod Texts
 pub mod Instructions
 pub mod Calculating
 pub mod Computing
+pub mod Wholes

@@ -25,6 +25,8 @@ use std::alloc::{AllocError, Global};
 pub enum Computed {
     /// To the end, with this value.
     Value(Bytes),
+    /// To the end, with the text of this number.
+    Whole(i64),
     /// To one that fails with this message.
     Failed(Bytes),
     /// To an operand, of which these words in the making are left.
@@ -243,6 +245,17 @@ fn instruct(
     }
 }
 
+/// The number that an expression comes to, where whole numbers are all that it needs.
+#[tactic(auto, unfolding(crate::specs::Wholes::ComesToWhole))]
+fn compute_whole(state: &State, calculation: &Calculation) -> Option<i64>
+    ensures { IfSome result (λ z. Computes state.now calculation.now calculation.now (TheComputed.Whole z)) }
+{
+    if calculation.passed > 0 {
+        return None;
+    }
+    calculation.left.whole(state)
+}
+
 /// What an expression comes to that is one operator between two operands that are values by themselves.
 fn compute_at_once(
     alloc: Global,
@@ -271,6 +284,9 @@ pub fn compute_on(
 ) -> Result<Computed, AllocError>
     ensures { IfOk result (Computes state.now calculation.old calculation.new) }
 {
+    if let Some(number) = compute_whole(state, calculation) {
+        return Ok(Computed::Whole(number));
+    }
     if let Some(computed) = compute_at_once(alloc, state, calculation)? {
         return Ok(computed);
     }

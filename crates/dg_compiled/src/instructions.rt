@@ -8,10 +8,12 @@ ghost use Rattle.dg_words.specs.Piece.{Piece};
 ghost use Rattle.dg_language.specs.Expressions.{code_in};
 ghost use Rattle.dg_compiled.specs.Instructions.{Begins, IsBetween, IsOperand, Takes};
 ghost use Rattle.dg_compiled.specs.Steps.{operand_in};
+ghost use Rattle.dg_compiled.specs.Wholes.{ComesToWhole};
 
 use crate::script::KEPT;
 use crate::steps::{kept_steps, queued};
 use crate::texts::one_value;
+use crate::wholes::whole_of;
 use dg_bytes::{Bytes, Seq, TryCopy};
 use dg_expr::{Infix, Instruction, Prefix};
 use dg_forms::{code_of, operand_of};
@@ -273,6 +275,18 @@ impl Instructions {
         match &self.formula.code {
             Some(code) if self.at == 0 => {
                 between(state, code.as_slice(), self.formula.steps.as_slice())
+            }
+            _ => None,
+        }
+    }
+
+    /// The number that all instructions come to, where whole numbers are all that they need.
+    pub(crate) fn whole(&self, state: &State) -> Option<i64>
+        ensures { IfSome result (ComesToWhole state.now self.now) }
+    {
+        match &self.formula.code {
+            Some(code) if self.at == 0 => {
+                whole_of(state, code.as_slice(), self.formula.steps.as_slice())
             }
             _ => None,
         }

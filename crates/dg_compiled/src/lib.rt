@@ -11,6 +11,7 @@ mod script;
 mod stack;
 mod steps;
 mod texts;
+mod wholes;
 
 pub use crate::calculation::Calculation;
 pub use crate::computing::{Computed, compute_on};

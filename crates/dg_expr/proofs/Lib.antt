@@ -1,4 +1,5 @@
 pub mod Digits
+pub mod Plain
 pub mod Wholes
 pub mod Division
 pub mod Shifts
@@ -11,3 +12,4 @@ pub mod Tokens
 pub mod Running
 pub mod Applying
 pub mod Spelling
+pub mod Decimals

@@ -13,3 +13,4 @@ pub mod Reading
 pub mod Steps
 pub mod Code
 pub mod ShortCircuit
+pub mod Arithmetic

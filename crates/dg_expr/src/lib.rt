@@ -1,6 +1,7 @@
 //! Expressions: numbers, truth, operators and trees.
 #![tactic(auto)]
 
+mod arithmetic;
 mod boolean;
 mod code;
 mod fault;
@@ -14,6 +15,7 @@ mod tree;
 mod value;
 mod whole;
 
+pub use crate::arithmetic::apply_whole;
 pub use crate::boolean::{truth, truth_text};
 pub use crate::code::{Instruction, code_runs, compile};
 pub use crate::fault::{ExprFault, Side};
@@ -23,5 +25,5 @@ pub use crate::law::{
 pub use crate::operator::{Infix, Prefix};
 pub use crate::reading::{one_tree, read_expr};
 pub use crate::tree::{Node, Tree};
-pub use crate::value::{apply, apply_one};
+pub use crate::value::{apply, apply_one, decimal};
 pub use crate::whole::number;

@@ -14,13 +14,18 @@ use crate::operator::{Infix, Prefix};
 use crate::whole::number;
 use dg_bytes::Bytes;
 use dg_words::{WordFault, split_list};
+use itoa::Buffer;
 use std::alloc::{AllocError, Global};
 use std::cmp::Ordering;
 
-fn number_text(alloc: Global, value: i64) -> Result<Bytes, AllocError>
+/// The text of a number, in decimal.
+///
+/// # Errors
+/// `AllocError` where a growth is refused.
+pub fn decimal(alloc: Global, value: i64) -> Result<Bytes, AllocError>
     ensures { IfOk result (λ t. t ≡ decimal_text value) }
 {
-    Ok(Bytes::from_vec(value.to_string(alloc)?.into_bytes()))
+    Bytes::from_slice(alloc, Buffer::new().format(value).as_bytes())
 }
 
 /// The text of a number, if 64 bits hold it.
@@ -28,7 +33,7 @@ fn number_value(alloc: Global, value: i128) -> Result<Bytes, ExprFault>
     ensures { Gives (number_value value) result }
 {
     match i64::try_from(value) {
-        Ok(value) => Ok(number_text(alloc, value)?),
+        Ok(value) => Ok(decimal(alloc, value)?),
         Err(_) => Err(ExprFault::TooLarge),
     }
 }
@@ -88,10 +93,10 @@ fn quotient(x: i64, y: i64) -> i128
     requires { y ≢ pos 0 }
     ensures { result ≡ quotient x y }
 {
-    let (x, y) = (i128::from(x), i128::from(y));
     if y > 0 {
-        x.div_euclid(y)
+        i128::from(x.div_euclid(y))
     } else {
+        let (x, y) = (i128::from(x), i128::from(y));
         (-x).div_euclid(-y)
     }
 }
@@ -101,10 +106,10 @@ fn remainder(x: i64, y: i64) -> i128
     requires { y ≢ pos 0 }
     ensures { result ≡ remainder x y }
 {
-    let (x, y) = (i128::from(x), i128::from(y));
     if y > 0 {
-        x.rem_euclid(y)
+        i128::from(x.rem_euclid(y))
     } else {
+        let (x, y) = (i128::from(x), i128::from(y));
         -(-x).rem_euclid(-y)
     }
 }

@@ -10,8 +10,8 @@ ghost use Rattle.dg_language.specs.Expressions.{code_in, fault_message, in_decim
 use crate::values::with_quoted;
 use dg_bytes::{Bytes, Seq};
 use dg_expr::{
-    ExprFault, Infix, Instruction, Prefix, Side, apply, apply_one, compile, number, read_expr,
-    truth,
+    ExprFault, Infix, Instruction, Prefix, Side, apply, apply_one, compile, decimal, number,
+    read_expr, truth,
 };
 use dg_words::fault_text;
 use std::alloc::{AllocError, Global};
@@ -118,7 +118,7 @@ pub fn in_decimal(alloc: Global, value: Bytes) -> Result<Bytes, AllocError>
     ensures { IfOk result (λ v. v ≡ in_decimal value) }
 {
     match number(value.as_slice()) {
-        Some(number) => Ok(Bytes::from_vec(number.to_string(alloc)?.into_bytes())),
+        Some(number) => decimal(alloc, number),
         None => Ok(value),
     }
 }

@@ -9,6 +9,7 @@ ghost use Rattle.dg_language.specs.Expecting.{group_text, out_name, with_groups}
 
 use crate::values::joined;
 use dg_bytes::Bytes;
+use dg_expr::decimal;
 use dg_language::State;
 use dg_match::Span;
 use std::alloc::{AllocError, Global};
@@ -38,7 +39,7 @@ pub fn write_out(
 fn group_index(alloc: Global, n: u32) -> Result<Bytes, AllocError>
     ensures { IfOk result (λ b. b ≡ decimal n ++ codes ",string") }
 {
-    let mut index = Bytes::from_vec(n.to_string(alloc)?.into_bytes());
+    let mut index = decimal(alloc, i64::from(n))?;
     index.extend(b",string")?;
     Ok(index)
 }

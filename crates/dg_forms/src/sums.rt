@@ -5,7 +5,7 @@ ghost use Rattle.dg_language.specs.Variables.{addend, increased};
 
 use crate::values::expected_integer;
 use dg_bytes::Bytes;
-use dg_expr::number;
+use dg_expr::{decimal, number};
 use std::alloc::{AllocError, Global};
 
 /// The number that `incr` adds: 1 where none is given.
@@ -34,5 +34,5 @@ pub fn increased(alloc: Global, old: &[u8], by: &[u8]) -> Result<Result<Bytes, B
     let Some(sum) = x.checked_add(y) else {
         return Ok(Err(Bytes::from_slice(alloc, b"integer value too large to represent")?));
     };
-    Ok(Ok(Bytes::from_vec(sum.to_string(alloc)?.into_bytes())))
+    Ok(Ok(decimal(alloc, sum)?))
 }

@@ -8,6 +8,7 @@ ghost use Rattle.dg_language.specs.Variables.{cannot_read, cannot_unset, expecte
 
 use dg_bytes::{Bytes, Seq};
 use dg_cmds::{CmdFault, concat};
+use dg_expr::decimal;
 use dg_words::{WordFault, fault_text, list_elements, list_text, split_list};
 use std::alloc::{AllocError, Global};
 
@@ -32,7 +33,7 @@ pub(crate) fn with_number(alloc: Global, text: &[u8], number: u32) -> Result<Byt
     ensures { IfOk result (λ b. b ≡ text.now ++ decimal number) }
 {
     let mut whole = Bytes::from_slice(alloc, text)?;
-    whole.extend(number.to_string(alloc)?.as_bytes())?;
+    whole.extend(decimal(alloc, i64::from(number))?.as_slice())?;
     Ok(whole)
 }
 

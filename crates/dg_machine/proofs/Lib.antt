@@ -18,3 +18,4 @@ pub mod SessionLemmas
 pub mod AwaitingLemmas
 pub mod LimitLemmas
 pub mod PatternLemmas
+pub mod WholeLemmas

@@ -11,6 +11,7 @@ use crate::frame::{Choice, Frame, Pace};
 use crate::machine::Machine;
 use dg_bytes::Bytes;
 use dg_compiled::{Calculation, Computed, compute_on};
+use dg_expr::decimal;
 use dg_forms::{clauses_of, concatenated, split, switched, truth_in};
 use dg_language::{ChoiceCommand, Clause, Clauses, Code, Queue};
 use std::alloc::{AllocError, Global};
@@ -64,6 +65,10 @@ impl Machine {
         };
         match compute_on(alloc, &self.state, &mut calculation)? {
             Computed::Value(value) => Ok(self.decide_now(alloc, choice, value)?),
+            Computed::Whole(number) => {
+                let value = decimal(alloc, number)?;
+                Ok(self.decide_now(alloc, choice, value)?)
+            }
             computed => {
                 self.stack.push(Frame::Choosing { choice })?;
                 Ok(self.come_to(alloc, calculation, computed)?)

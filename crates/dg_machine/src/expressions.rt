@@ -13,6 +13,7 @@ use crate::frame::{Frame, Pace};
 use crate::machine::Machine;
 use dg_bytes::Bytes;
 use dg_compiled::{Calculation, Computed, compute_on};
+use dg_expr::decimal;
 use dg_forms::{in_decimal, split, syntax_error, with_spaces};
 use dg_language::Code;
 use dg_scope::LONGEST_VALUE;
@@ -46,6 +47,11 @@ impl Machine {
     {
         match computed {
             Computed::Value(value) => {
+                self.end(Code::Done, value);
+                Ok(Pace::Moved)
+            }
+            Computed::Whole(number) => {
+                let value = decimal(alloc, number)?;
                 self.end(Code::Done, value);
                 Ok(Pace::Moved)
             }
@@ -139,6 +145,11 @@ impl Machine {
         match compute_on(alloc, &self.state, &mut calculation)? {
             Computed::Value(value) => {
                 let value = in_decimal(alloc, value)?;
+                self.end(Code::Done, value);
+                Ok(Pace::Moved)
+            }
+            Computed::Whole(number) => {
+                let value = decimal(alloc, number)?;
                 self.end(Code::Done, value);
                 Ok(Pace::Moved)
             }

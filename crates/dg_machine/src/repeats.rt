@@ -1,5 +1,7 @@
 //! The loops over a condition: `while` and `for`.
-ghost use Rattle.std.specs.Prelude.{ℕ, List, ◌≡◌, ◌+◌, ◌^◌, ◌<◌, IfOk, None};
+ghost use Rattle.std.specs.Prelude.{ℕ, List, ◌≡◌, ◌+◌, ◌^◌, ◌<◌, IfOk, None, Some};
+ghost use Rattle.dg_expr.specs.Number.{decimal_text};
+ghost use Rattle.dg_expr.specs.Truth.{truth_of};
 ghost use Rattle.dg_language.specs.Choosing.{do_for, do_while};
 ghost use Rattle.dg_language.specs.Expressions.{calculate};
 ghost use Rattle.dg_language.specs.declared.code.Code.{Code};
@@ -16,6 +18,14 @@ use dg_compiled::{Body, Calculation, Computed, Condition, Script, compute_on};
 use dg_forms::{four, truth_in, two};
 use dg_language::{Code, STEPS};
 use std::alloc::{AllocError, Global};
+
+/// The truth of a number's text.
+#[tactic(auto, using(crate::proofs::WholeLemmas::truth_of_whole))]
+fn whole_truth(number: i64) -> bool
+    ensures { truth_of (decimal_text number) ≡ Some result }
+{
+    number != 0
+}
 
 impl Machine {
     /// The next test of a loop begins to be computed, if a step is left for it.
@@ -48,6 +58,10 @@ impl Machine {
         match compute_on(alloc, &self.state, &mut calculation)? {
             Computed::Value(value) => {
                 Ok(self.behind_test(alloc, repetition, Code::Done, value)?)
+            }
+            Computed::Whole(number) => {
+                let holds = whole_truth(number);
+                Ok(self.repeat_if(alloc, repetition, holds)?)
             }
             computed => {
                 self.stack.push(Frame::Repeating { repetition })?;

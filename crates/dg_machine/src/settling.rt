@@ -14,6 +14,7 @@ use dg_bytes::{Bytes, TryCopy};
 use dg_compiled::{
     Calculation, Commands, Computed, Formula, KEPT, Script, compute_on, ends_word, short_text,
 };
+use dg_expr::decimal;
 use dg_forms::{in_decimal, increased};
 use dg_language::{State, Substitution};
 use dg_scope::LONGEST_VALUE;
@@ -204,6 +205,10 @@ fn value_computed(
     match compute_on(alloc, state, &mut calculation)? {
         Computed::Value(value) => {
             let value = in_decimal(alloc, value)?;
+            Ok(Some(value))
+        }
+        Computed::Whole(number) => {
+            let value = decimal(alloc, number)?;
             Ok(Some(value))
         }
         Computed::Failed(_) | Computed::Operand(_) => Ok(None),

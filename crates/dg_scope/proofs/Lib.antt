@@ -1,3 +1,5 @@
-pub mod Tables
+pub mod Trees
+pub mod Numbers
+pub mod Joined
 pub mod Exchanges
 pub mod Links

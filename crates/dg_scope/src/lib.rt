@@ -2,9 +2,11 @@
 #![tactic(auto)]
 
 mod fault;
+mod long_names;
 mod name;
 mod scope;
 mod scopes;
+mod short_names;
 mod table;
 
 pub use crate::fault::ScopeFault;

@@ -14,21 +14,28 @@ pub fn global_name(name: &[u8]) -> &[u8]
 pub(crate) fn is_qualified(name: &[u8]) -> bool
     ensures { result ≡ is_qualified name.now }
 {
-    name.starts_with(b"::")
+    matches!(name, [b':', b':', ..])
 }
 
 /// Whether the name neither begins with `::` nor ends as an element's does.
 pub(crate) fn is_plain(name: &[u8]) -> bool
     ensures { result ≡ (not (is_qualified name.now) && not (ends_with nat_eq name.now (41 ∷ []))) }
 {
-    !is_qualified(name) && !name.ends_with(b")")
+    !is_qualified(name) && !is_closed(name)
+}
+
+/// Whether the name ends as an element's does, with `)`.
+pub(crate) fn is_closed(name: &[u8]) -> bool
+    ensures { result ≡ ends_with nat_eq name.now (41 ∷ []) }
+{
+    matches!(name, [.., b')'])
 }
 
 /// Whether the name is an element's: it ends with `)` and has a `(`.
 pub fn has_index(name: &[u8]) -> bool
     ensures { result ≡ has_index name.now }
 {
-    name.ends_with(b")") && name.contains(&b'(')
+    is_closed(name) && name.contains(&b'(')
 }
 
 /// The part of a name before its first `(`, if it ends with `)`, or else the whole of it.
@@ -36,7 +43,7 @@ pub fn base_of(name: &[u8]) -> &[u8]
     ensures { result.now ≡ base_of name.now }
 {
     match first_bracket(name) {
-        Some(open) if name.ends_with(b")") => &name[..open],
+        Some(open) if is_closed(name) => &name[..open],
         _ => name,
     }
 }

@@ -6,7 +6,7 @@ ghost use Rattle.std.specs.FinMap as map;
 ghost use Rattle.dg_scope.specs.Names.{base_of};
 ghost use Rattle.dg_scope.specs.Scopes.{Names, is_link, means_global_in, held};
 
-use crate::name::{base_of, is_qualified};
+use crate::name::{base_of, is_closed, is_qualified};
 use crate::table::Table;
 use dg_bytes::Bytes;
 use std::alloc::Global;
@@ -43,7 +43,7 @@ impl Scope {
 fn is_linked_by_base(names: &Table<Slot>, name: &[u8]) -> bool
     ensures { result ≡ (is_link (map.get names.now name.now) || is_link (map.get names.now (base_of name.now))) }
 {
-    if name.ends_with(b")") {
+    if is_closed(name) {
         return is_linked(names, name) || is_linked(names, base_of(name));
     }
     is_linked(names, name)

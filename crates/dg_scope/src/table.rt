@@ -3,19 +3,21 @@ ghost use Rattle.std.specs.Prelude.{◌≡◌, IsFalse, IsTrue, OnOk, OnErr, Som
 ghost use Rattle.std.specs.Option.{option_copied};
 ghost use Rattle.std.specs.FinMap as map;
 
+use crate::long_names::LongNames;
+use crate::short_names::{ShortNames, is_short};
 use std::alloc::{AllocError, Global};
-use std::collections::BTreeMap;
 use std::marker::Model;
-use std::mem;
 
-/// Values by name. A contract sees the finite map from names, in byte order, to values.
+/// Values by name. A contract sees the finite map from names, in byte order, to values. Most names are short, and numbers are
+/// compared faster than bytes.
 pub struct Table<V> {
-    entries: BTreeMap<Vec<u8>, V>,
+    short: ShortNames<V>,
+    long: LongNames<V>,
 }
 
 impl<V: Drop> Drop for Table<V> {
     fn drop(self) {
-        let Table { entries: _ } = self;
+        let Table { short: _, long: _ } = self;
     }
 }
 
@@ -29,9 +31,9 @@ impl<V> Model for Table<V> {
 
     ghost coded = { map.code (coded_list coded_ℕ) V.code };
 
-    ghost use Rattle.dg_scope.specs.Table.{by_bytes};
+    ghost use Rattle.dg_scope.specs.Table.{joined};
 
-    ghost view = { λ t. map.from_entries (by_bytes t.entries.entries) };
+    ghost view = { λ t. joined t.short t.long };
 }
 
 impl<V: Drop> Table<V> {
@@ -40,7 +42,8 @@ impl<V: Drop> Table<V> {
         ensures { result ≡ map.empty }
     {
         Table {
-            entries: BTreeMap::new(alloc),
+            short: ShortNames::new(alloc),
+            long: LongNames::new(alloc),
         }
     }
 
@@ -48,14 +51,22 @@ impl<V: Drop> Table<V> {
     pub fn get(&self, name: &[u8]) -> Option<&V>
         ensures { option_copied result ≡ map.get self.now name.now }
     {
-        self.entries.get(name)
+        if is_short(name) {
+            self.short.get(name)
+        } else {
+            self.long.get(name)
+        }
     }
 
     /// Whether a name has a value.
     pub fn has(&self, name: &[u8]) -> bool
         ensures { result ≡ map.contains_key self.now name.now }
     {
-        self.entries.contains_key(name)
+        if is_short(name) {
+            self.short.has(name)
+        } else {
+            self.long.has(name)
+        }
     }
 
     /// Exchanges the value of a name for another, if it has one.
@@ -64,26 +75,21 @@ impl<V: Drop> Table<V> {
         ensures exchanged { IsTrue result → (map.get self.old name.now ≡ Some value.new) × (self.new ≡ map.insert self.old name.now value.old) }
         ensures absent { IsFalse result → (self.new ≡ self.old) × (value.new ≡ value.old) }
     {
-        match self.entries.get_mut(name) {
-            Some(held) => {
-                mem::swap(held, value);
-                true
-            }
-            None => false,
+        if is_short(name) {
+            return self.short.exchange(name, value);
         }
+        self.long.exchange(name, value)
     }
 
     /// Gives a name a value, or changes nothing.
-    pub fn insert(&mut self, alloc: Global, name: &[u8], mut value: V) -> Result<(), AllocError>
+    pub fn insert(&mut self, alloc: Global, name: &[u8], value: V) -> Result<(), AllocError>
         ensures ok { OnOk result (self.new ≡ map.insert self.old name.now value) }
         ensures err { OnErr result (self.new ≡ self.old) }
     {
-        if self.exchange(name, &mut value) {
-            return Ok(());
+        if is_short(name) {
+            return self.short.insert(name, value);
         }
-        let name = Vec::from_slice(alloc, name)?;
-        self.entries.insert(name, value)?;
-        Ok(())
+        self.long.insert(alloc, name, value)
     }
 
     /// Takes the value of a name away, and tells whether there was one.
@@ -91,6 +97,9 @@ impl<V: Drop> Table<V> {
         ensures found { result ≡ map.contains_key self.old name.now }
         ensures gone { self.new ≡ map.remove self.old name.now }
     {
-        self.entries.remove(name).is_some()
+        if is_short(name) {
+            return self.short.remove(name);
+        }
+        self.long.remove(name)
     }
 }

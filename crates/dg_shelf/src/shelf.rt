@@ -86,20 +86,34 @@ impl<T: Reading> Model for Shelf<T> {
     ghost view = { λ s. tt };
 }
 
-/// How many bytes of a text tell its place.
-const TOLD: usize = 64;
+/// How many bytes are taken as one number.
+const GROUP: usize = 8;
+
+/// How many groups of bytes tell a text's place.
+const TOLD: usize = 8;
+
+/// An odd number whose product with another has high bits that depend on all of its bits.
+const SPREAD: u64 = 0x9e37_79b9_7f4a_7c15;
+
+/// A group of bytes as one number.
+fn number_of(group: &[u8]) -> u64 {
+    if let [a, b, c, d, e, f, g, h] = group {
+        return u64::from_le_bytes([*a, *b, *c, *d, *e, *f, *g, *h]);
+    }
+    let mut number: u64 = 0;
+    for byte in group {
+        number = number << 8 | u64::from(*byte);
+    }
+    number
+}
 
 /// Where the reading of a text is kept. Most texts that differ have places that differ.
 fn place_of(text: &[u8], places: usize) -> usize {
     let mut sum = text.len() as u64;
-    for byte in text.iter().take(TOLD) {
-        sum = sum.wrapping_mul(0x0100_0000_01b3) ^ (*byte as u64);
+    for group in text.chunks(GROUP).take(TOLD) {
+        sum = (sum.rotate_left(5) ^ number_of(group)).wrapping_mul(SPREAD);
     }
-    if places == 0 {
-        0
-    } else {
-        (sum >> 7) as usize % places
-    }
+    (((sum >> 32) * (places as u64 & 0xffff_ffff)) >> 32) as usize
 }
 
 impl<T: Reading> Shelf<T> {

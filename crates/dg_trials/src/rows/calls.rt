@@ -26,7 +26,7 @@ pub fn answer(alloc: Global, call: &[u8], args: &[Bytes]) -> Result<Option<Bytes
         b"command" | b"words" | b"operand" | b"count" | b"list" | b"canonical" => words::answer(
             alloc, call, args,
         )?,
-        b"value" | b"tree" | b"number" | b"truth" | b"code" => expressions::answer(
+        b"value" | b"tree" | b"number" | b"whole" | b"truth" | b"code" => expressions::answer(
             alloc, call, args,
         )?,
         b"run" => commands::answer(alloc, args)?,

@@ -2,7 +2,8 @@
 use crate::rows::calls::text::{Line, arg, named, text};
 use dg_bytes::Bytes;
 use dg_expr::{
-    ExprFault, Infix, Instruction, Node, Tree, apply, apply_one, compile, number, read_expr, truth,
+    ExprFault, Infix, Instruction, Node, Tree, apply, apply_one, apply_whole, compile, decimal,
+    number, read_expr, truth,
 };
 use dg_words::{Part, Parts};
 use std::alloc::{AllocError, Global};
@@ -15,6 +16,10 @@ pub fn answer(alloc: Global, call: &[u8], args: &[Bytes]) -> Result<Bytes, Alloc
         b"tree" => levels(alloc, expression),
         b"number" => match number(expression) {
             Some(number) => text(alloc, number.to_string(alloc)?.as_bytes()),
+            None => text(alloc, b"none"),
+        },
+        b"whole" => match whole_in(alloc, expression)? {
+            Some(number) => decimal(alloc, number),
             None => text(alloc, b"none"),
         },
         b"truth" => match truth(expression) {
@@ -93,6 +98,30 @@ fn value(alloc: Global, tree: &Tree, levels: u32) -> Result<Bytes, ExprFault> {
 fn value_in(alloc: Global, text: &[u8]) -> Result<Bytes, ExprFault> {
     let tree = read_expr(alloc, text)?;
     value(alloc, &tree, 200)
+}
+
+/// The number of a tree of whole numbers, of at most so many levels.
+fn whole(tree: &Tree, levels: u32) -> Option<i64> {
+    if levels == 0 {
+        return None;
+    }
+    match tree.node() {
+        Node::Operand(parts) => match parts.as_slice() {
+            [Part::Text(text)] => number(text.as_slice()),
+            _ => None,
+        },
+        Node::Two(op, a, b) => apply_whole(*op, whole(a, levels - 1)?, whole(b, levels - 1)?),
+        _ => None,
+    }
+}
+
+/// The number that a text spells by whole numbers alone.
+fn whole_in(alloc: Global, text: &[u8]) -> Result<Option<i64>, AllocError> {
+    match read_expr(alloc, text) {
+        Ok(tree) => Ok(whole(&tree, 200)),
+        Err(ExprFault::Memory) => Err(AllocError),
+        Err(_) => Ok(None),
+    }
 }
 
 /// How many levels the tree of a text has.

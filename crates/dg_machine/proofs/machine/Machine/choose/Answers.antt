@@ -1,4 +1,5 @@
-use Rattle.std.proofs.Common.{◌∙◌, length, ap, refl, sym, arith}
+use Rattle.std.proofs.Common.{rules, ◌≡◌, ◌∙◌, length, ap, refl, sym, arith}
+use Rattle.dg_expr.specs.Number.{decimal_text}
 use Rattle.dg_machine.specs.Meaning.{back, all_back}
 use Rattle.dg_machine.proofs.MachineLemmas.{Goes-along, weight-cons}
 use Rattle.dg_machine.proofs.ChoiceLemmas.{choose-none, choose-next}
@@ -22,6 +23,15 @@ returns-in-Value c =
     let begun = rw c.in-Some-of.is at c.of.ensures.begun in
     let value = rw c.in-Value.is at c.in_ok-computed.ensures in
     Goes-along _ _ _ _ _ _ _ _ c.in_ok-decide_now-in-Value.ensures
+    (choose-next _ _ _ _ _ _ _ c.in-Some.ensures ∙ sym (begun-calculates _ _ _ _ _ _ c.in_ok-formula.ensures begun.0 begun.1) ∙ value _) refl (omega (arith, longer))
+
+pub returns-in-Whole : goal.returns-in-Whole
+returns-in-Whole c =
+    let longer = ap length c.in-Some.ensures in
+    let begun = rw c.in-Some-of.is at c.of.ensures.begun in
+    let is : c.in_ok-value-in-Whole.value ≡ decimal_text c.in-Whole.number = search rules in
+    let value = rw (sym is) at (rw c.in-Whole.is at c.in_ok-computed.ensures) in
+    Goes-along _ _ _ _ _ _ _ _ c.in_ok-decide_now-in-Whole.ensures
     (choose-next _ _ _ _ _ _ _ c.in-Some.ensures ∙ sym (begun-calculates _ _ _ _ _ _ c.in_ok-formula.ensures begun.0 begun.1) ∙ value _) refl (omega (arith, longer))
 
 pub returns : goal.returns

@@ -1,5 +1,8 @@
-use Rattle.std.proofs.Common.{◌<◌, ◌≤◌, ◌∙◌, refl, sym, subst, arith}
-use Rattle.dg_language.specs.Expressions.{written}
+use Rattle.std.proofs.Common.{rules, ◌≡◌, ap, ◌<◌, ◌≤◌, ◌∙◌, refl, sym, subst, arith}
+use Rattle.dg_expr.specs.Number.{decimal_text}
+use Rattle.dg_language.specs.declared.code.Code.TheVariants.{Done}
+use Rattle.dg_language.specs.Expressions.{in_decimal, written}
+use Rattle.dg_machine.proofs.WholeLemmas.{in_decimal-whole}
 use Rattle.dg_machine.specs.Meaning.{back, all_back, rest, weight}
 use Rattle.dg_machine.proofs.MachineLemmas.{Goes-along, weight-cons}
 use Rattle.dg_compiled.proofs.GatherLemmas.{fail-through}
@@ -33,6 +36,24 @@ returns-in-Value c =
     let k = written (all_back c.args.self.now.stack) in
     rw (c.end.ensures, c.in_ok-value-in-Value.ensures, c.requires)
     (sym (expr-short _ _ _ _ c.in-Some.ensures _ _ short ∙ sym (begun-calculates _ _ _ _ _ k code begun.0 begun.1) ∙ value k), refl, omega arith)
+
+pub returns-in-Whole : goal.returns-in-Whole
+unfolding rest weight
+returns-in-Whole c =
+    let text = rw c.as_slice.ensures at c.in_ok-text.ensures in
+    let short = rw text at (subst (λ n. n ≤ 1048576) c.len.ensures c.if-len-gt-LONGEST_VALUE.false) in
+    let begun = rw c.in-Some-of.is at c.of.ensures.begun in
+    let code = rw text at c.in_ok-formula.ensures in
+    let value = rw c.in-Whole.is at c.in_ok-computed.ensures in
+    let is : c.in_ok-value-in-Whole.value ≡ decimal_text c.in-Whole.number = search rules in
+    let same : in_decimal (decimal_text c.in-Whole.number) ≡ decimal_text c.in-Whole.number = search (rules, in_decimal-whole) in
+    let k = written (all_back c.args.self.now.stack) in
+    rw (c.end-in-Whole.ensures, c.requires) (
+      sym (expr-short _ _ _ _ c.in-Some.ensures _ _ short ∙ sym (begun-calculates _ _ _ _ _ k code begun.0 begun.1) ∙ value k
+          ∙ ap (λ v. all_back c.args.self.now.stack Done v c.args.self.now.state) (same ∙ sym is)),
+      refl,
+      omega arith,
+    )
 
 pub returns : goal.returns
 unfolding all_back back

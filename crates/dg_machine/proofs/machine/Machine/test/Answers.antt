@@ -1,11 +1,15 @@
-use Rattle.std.proofs.Common.{◌∙◌, sym, arith}
-use Rattle.dg_machine.specs.Choosing.{repeating}
+use Rattle.std.proofs.Common.{rules, ◌≡◌, ap, ◌∙◌, sym, arith}
+use Rattle.std.specs.Prelude.{Some, Ok}
+use Rattle.dg_expr.specs.Number.{decimal_text}
+use Rattle.dg_expr.specs.Truth.{truth_of}
+use Rattle.dg_language.specs.Expressions.{or_no_truth}
+use Rattle.dg_machine.specs.Choosing.{repeat_if, repeating}
 use Rattle.dg_machine.specs.declared.frame.Stage.TheVariants.{Test}
 use Rattle.dg_machine.specs.Meaning.{back, all_back}
 use Rattle.dg_machine.proofs.MachineLemmas.{Goes-comes, weight-cons}
 use Rattle.dg_machine.proofs.GatherLemmas.{Comes-along}
 use Rattle.dg_compiled.proofs.GatherLemmas.{fail-through}
-use Rattle.dg_compiled.proofs.ExpressionLemmas.{begun-calculates, calculate-none}
+use Rattle.dg_compiled.proofs.ExpressionLemmas.{begun-calculates, calculate-none, judged-truth}
 use Rattle.dg_machine.proofs.machine.Machine.test.Goals as goal
 
 pub returns-in_default : goal.returns-in_default
@@ -21,6 +25,19 @@ returns-in_ok-behind_test-in-Value c =
     let k = repeating c.args.repetition Test (all_back c.args.self.now.stack) in
     Comes-along _ _ _ _ _ _ _ c.in_ok-behind_test-in-Value.ensures
     (sym (begun-calculates _ _ _ _ _ k c.in_ok-formula.ensures begun.0 begun.1) ∙ value k) (omega arith)
+
+pub returns-in_ok-repeat_if-in-Whole : goal.returns-in_ok-repeat_if-in-Whole
+returns-in_ok-repeat_if-in-Whole c =
+    let begun = rw c.in-Some.is at c.of.ensures.begun in
+    let value = rw c.in-Whole.is at c.in_ok-computed.ensures in
+    let k = repeating c.args.repetition Test (all_back c.args.self.now.stack) in
+    let text = decimal_text c.in-Whole.number in
+    let truth : truth_of text ≡ Some c.whole_truth-holds.result = search rules in
+    let holds : Ok c.whole_truth-holds.result ≡ or_no_truth (truth_of text) text = sym (ap (λ o. or_no_truth o text) truth) in
+    Comes-along _ _ _ _ _ _ _ c.in_ok-repeat_if-in-Whole.ensures
+    (sym (begun-calculates _ _ _ _ _ k c.in_ok-formula.ensures begun.0 begun.1) ∙ value k
+    ∙ judged-truth (truth_of text) text c.whole_truth-holds.result c.args.self.now.state (all_back c.args.self.now.stack)
+    (λ h. repeat_if c.args.repetition h c.args.self.now.state (all_back c.args.self.now.stack)) holds) (omega arith)
 
 pub returns-in_ok-come_to-in_default-2 : goal.returns-in_ok-come_to-in_default-2
 unfolding all_back back

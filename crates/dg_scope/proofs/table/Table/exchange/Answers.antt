@@ -1,35 +1,43 @@
-use Rattle.std.proofs.Common.{◌≡◌, ap, sym, ◌∙◌, is_some, Some, subst, refl}
-use Rattle.std.specs.Bool.{IsTrue}
-use Rattle.std.specs.Option.{IsSome, option_copied_mut}
-use Rattle.std.specs.Ordering.{nat_cmp}
-use Rattle.std.specs.Cmp.Lexicographic.{slice_cmp}
-use Rattle.dg_scope.specs.Table.{by_bytes}
+use Rattle.std.proofs.Common.{ap, sym, ◌∙◌, is_some}
 use Rattle.std.specs.FinMap as map
-use Rattle.dg_scope.proofs.Tables.{lookup-get, written}
+use Rattle.dg_scope.specs.Table.{joined}
+use Rattle.dg_scope.proofs.Joined.{get-short, get-long, insert-short, insert-long}
 use Rattle.dg_scope.proofs.table.Table.exchange.Goals as goal
-use Rattle.dg_scope.proofs.table.Table.exchange.Goals.{in-Some, in-None}
+
+pub returns-then-is_short-clause-found : goal.returns-then-is_short-clause-found
+returns-then-is_short-clause-found g c =
+    let name = c.args.name.now in
+    c.exchange.ensures.found
+    ∙ ap is_some (sym (get-short c.self.inside.short c.self.inside.long name (sym c.is_short.ensures ∙ c.if-is_short.true)))
+    ∙ ap (λ m. map.contains_key m name) c.self.view_is
+
+pub returns-then-is_short-clause-exchanged : goal.returns-then-is_short-clause-exchanged
+returns-then-is_short-clause-exchanged g c =
+    let name = c.args.name.now in
+    let short = c.self.inside.short in
+    let long = c.self.inside.long in
+    let is = sym c.is_short.ensures ∙ c.if-is_short.true in
+    λ yes.
+    let was = c.exchange.ensures.exchanged yes in (
+      ap (λ m. map.get m name) (sym c.self.view_is) ∙ get-short short long name is ∙ was.0,
+      ap (λ s. joined s long) was.1 ∙ insert-short short long name c.args.value.now is ∙ ap (λ m. map.insert m name c.args.value.now) c.self.view_is,
+    )
 
 pub returns-clause-found : goal.returns-clause-found
 returns-clause-found g c =
-    let got : option_copied_mut c.get_mut.result ≡ map.get c.args.self.now c.args.name.now = c.get_mut.ensures.value ∙ lookup-get c.self.inside.entries.entries c.args.name.now ∙ ap (λ m. map.get m c.args.name.now) c.self.view_is in
-    elim c.match-get_mut.branch [
-      | in-Some w ↦ w.result-is ∙ ap (λ r. is_some (option_copied_mut r)) (sym w.in-Some.is) ∙ ap is_some got
-      | in-None w ↦ w.result-is ∙ ap (λ r. is_some (option_copied_mut r)) (sym w.in-None.is) ∙ ap is_some got
-    ]
+    let name = c.args.name.now in
+    c.exchange-2.ensures.found
+    ∙ ap is_some (sym (get-long c.self.inside.short c.self.inside.long name (sym c.is_short.ensures ∙ c.if-is_short.false)))
+    ∙ ap (λ m. map.contains_key m name) c.self.view_is
 
 pub returns-clause-exchanged : goal.returns-clause-exchanged
 returns-clause-exchanged g c =
-    let got : option_copied_mut c.get_mut.result ≡ map.get c.args.self.now c.args.name.now = c.get_mut.ensures.value ∙ lookup-get c.self.inside.entries.entries c.args.name.now ∙ ap (λ m. map.get m c.args.name.now) c.self.view_is in
-    elim c.match-get_mut.branch [
-      | in-Some w ↦ λ yes.
-          let m = c.self.inside.entries in
-          let n = c.get_mut.follows.lender w.swap.new.x in
-          let here = sym c.get_mut.ensures.value ∙ ap option_copied_mut w.in-Some.is in (
-            sym got ∙ ap option_copied_mut w.in-Some.is ∙ ap (λ v. Some v) (sym (w.value-is ∙ w.swap.ensures.y_after)),
-            ap (λ i. map.from_entries {R = slice_cmp nat_cmp} (by_bytes i.entries.entries)) w.self-inside-is
-                ∙ written m n c.args.name.now w.swap.new.x ((c.get_mut.follows.holds w.swap.new.x).3 (subst IsSome (sym here) refl))
-                ∙ ap (λ v. map.insert (map.from_entries {R = slice_cmp nat_cmp} (by_bytes m.entries)) c.args.name.now v) w.swap.ensures.x_after
-                ∙ ap (λ t. map.insert t c.args.name.now c.args.value.now) c.self.view_is,
-          )
-      | in-None w ↦ λ yes. let no = subst IsTrue w.result-is yes in absurd cc
-    ]
+    let name = c.args.name.now in
+    let short = c.self.inside.short in
+    let long = c.self.inside.long in
+    let is = sym c.is_short.ensures ∙ c.if-is_short.false in
+    λ yes.
+    let was = c.exchange-2.ensures.exchanged yes in (
+      ap (λ m. map.get m name) (sym c.self.view_is) ∙ get-long short long name is ∙ was.0,
+      ap (joined short) was.1 ∙ insert-long short long name c.args.value.now is ∙ ap (λ m. map.insert m name c.args.value.now) c.self.view_is,
+    )

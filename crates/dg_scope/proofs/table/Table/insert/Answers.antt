@@ -1,17 +1,33 @@
-use Rattle.std.proofs.Common.{ap, ◌∙◌}
-use Rattle.std.specs.Ordering.{nat_cmp}
-use Rattle.std.specs.Cmp.Lexicographic.{slice_cmp}
+use Rattle.std.proofs.Common.{Result, Ok, Err, OnOk, ap, sym, ◌∙◌}
 use Rattle.std.specs.FinMap as map
-use Rattle.dg_scope.specs.Table.{by_bytes}
-use Rattle.dg_scope.proofs.Tables.{inserted}
+use Rattle.dg_scope.specs.Table.{joined}
+use Rattle.dg_scope.proofs.Joined.{insert-short, insert-long}
 use Rattle.dg_scope.proofs.table.Table.insert.Goals as goal
+
+where_ok : {T E P Q : Type 0} (r : Result T E) → (P → Q) → OnOk r P → OnOk r Q
+where_ok (Ok x) f h = f h
+where_ok (Err e) f h = h
+
+pub returns-then-is_short-clause-ok : goal.returns-then-is_short-clause-ok
+returns-then-is_short-clause-ok g c =
+    let name = c.args.name.now in
+    let short = c.self.inside.short in
+    let long = c.self.inside.long in
+    where_ok c.insert.result
+    (λ was.
+    ap (λ s. joined s long) was
+    ∙ insert-short short long name c.args.value (sym c.is_short.ensures ∙ c.if-is_short.true)
+    ∙ ap (λ m. map.insert m name c.args.value) c.self.view_is)
+    c.insert.ensures.ok
 
 pub returns-clause-ok : goal.returns-clause-ok
 returns-clause-ok g c =
-    let v = c.exchange.new.value in
-    let stays = c.exchange.ensures.absent c.if-exchange.false in
-    ap (λ es. map.from_entries {R = slice_cmp nat_cmp} (by_bytes es)) c.in_ok-insert.ensures.entries
-    ∙ inserted c.self.inside.entries.entries c.in_ok-name.name v
-    ∙ ap (λ n. map.insert (map.from_entries {R = slice_cmp nat_cmp} (by_bytes c.self.inside.entries.entries)) n v) c.in_ok-name.ensures.items
-    ∙ ap (λ m. map.insert m c.args.name.now v) (c.self.view_is ∙ stays.0)
-    ∙ ap (λ x. map.insert c.args.self.now c.args.name.now x) stays.1
+    let name = c.args.name.now in
+    let short = c.self.inside.short in
+    let long = c.self.inside.long in
+    where_ok c.insert-2.result
+    (λ was.
+    ap (joined short) was
+    ∙ insert-long short long name c.args.value (sym c.is_short.ensures ∙ c.if-is_short.false)
+    ∙ ap (λ m. map.insert m name c.args.value) c.self.view_is)
+    c.insert-2.ensures.ok
