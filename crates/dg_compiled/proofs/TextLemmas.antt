@@ -47,10 +47,10 @@ two-of (a ∷ b ∷ []) x y l e f = sym (ap (λ u. u ∷ y ∷ []) e ∙ ap (λ 
 two-of (a ∷ b ∷ c ∷ cs) x y l e f = absurd (omega (arith, l))
 
 -- the steps of the command at a place, among those that are kept of all
-pub kept-at : (all : List Command) (at : ℕ) (r : List Substitution) → at < length all → r ≡ slice_index_or (map steps_in all) at r → r ≡ steps_at all at
-kept-at [] at r l e = absurd (omega (arith, l))
-kept-at (c ∷ cs) zero r l e = e
-kept-at (c ∷ cs) (suc n) r l e = kept-at cs n r (omega (arith, l)) e
+pub kept-at : (all : List Command) (at : ℕ) (c : Command) → at < length all → c ≡ slice_index_or all at c → steps_in c ≡ steps_at all at
+kept-at [] at c l e = absurd (omega (arith, l))
+kept-at (a ∷ all) zero c l e = ap steps_in e
+kept-at (a ∷ all) (suc n) c l e = kept-at all n c (omega (arith, l)) e
 
 -- one operator between two operands, and the steps of these
 pub three-of : (all : List Instruction) (steps : List (List Substitution)) (i j o : Instruction) (p q : List Substitution) → length all ≡ 3 → steps ≡ map operand_in all

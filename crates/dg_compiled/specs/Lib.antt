@@ -7,3 +7,4 @@ pub mod Instructions
 pub mod Calculating
 pub mod Computing
 pub mod Wholes
+pub mod Ways

@@ -11,6 +11,7 @@ mod script;
 mod stack;
 mod steps;
 mod texts;
+mod ways;
 mod wholes;
 
 pub use crate::calculation::Calculation;
@@ -21,3 +22,4 @@ pub use crate::making::{Making, first_or_empty};
 pub use crate::script::{Begun, Body, Commands, KEPT, Script, WordSteps};
 pub use crate::stack::Stack;
 pub use crate::texts::{add_text, ends_word, has_room, make_texts, short_text};
+pub use crate::ways::{Way, literal_word};

@@ -9,10 +9,12 @@ ghost use Rattle.dg_compiled.specs.Making.{making_on};
 ghost use Rattle.dg_compiled.specs.Script.{HasSteps};
 ghost use Rattle.dg_compiled.specs.Script.{Begins, Reads, Takes, begins, steps_of};
 ghost use Rattle.dg_compiled.specs.Steps.{steps_in};
+ghost use Rattle.dg_compiled.specs.Ways.{HasWay};
 
 use crate::making::Making;
 use crate::steps::kept_steps;
 use crate::texts::begun_with;
+use crate::ways::{Way, way_of};
 use dg_bytes::{Bytes, Seq, TryCopy};
 use dg_forms::steps_of;
 use dg_language::{Command, Purpose, Queue, State, Substitution};
@@ -32,23 +34,62 @@ pub enum Begun {
     Unreadable(WordFault),
 }
 
-/// The commands of a text, all read, and for each the steps in which its words are made. A contract sees the commands.
+/// A command, the steps in which its words are made, and how it runs where it stands. A contract sees the command.
+#[derive(Drop)]
+struct KeptCommand {
+    command: Command,
+    steps: Seq<Substitution>,
+    way: Way,
+}
+
+impl Model for KeptCommand {
+    ghost use Rattle.std.specs.Prelude.{◌≡◌};
+    ghost use Rattle.dg_language.specs.declared.command.Command.{Command};
+    ghost use Rattle.dg_compiled.specs.Steps.{steps_in};
+    ghost use Rattle.dg_compiled.specs.Ways.{HasWay};
+
+    ghost Value = { Command };
+
+    ghost view = { λ k. k.command };
+
+    ghost invariant = { λ k. (k.steps ≡ steps_in k.command) × HasWay k.steps k.way };
+}
+
+impl KeptCommand {
+    /// A command that was read.
+    fn new(alloc: Global, command: Command) -> Result<KeptCommand, AllocError>
+        ensures { IfOk result (λ k. k ≡ command) }
+    {
+        let steps = steps_in(alloc, &command)?;
+        let way = way_of(alloc, steps.as_slice())?;
+        Ok(KeptCommand {
+            command,
+            steps,
+            way,
+        })
+    }
+
+    /// The steps in which its words are made.
+    fn steps(&self) -> &[Substitution]
+        ensures { result.now ≡ steps_in self.now }
+    {
+        self.steps.as_slice()
+    }
+}
+
+/// The commands of a text, all read. A contract sees the commands.
 #[derive(Drop)]
 pub struct Commands {
-    all: Seq<Command>,
-    steps: Seq<Seq<Substitution>>,
+    all: Seq<KeptCommand>,
 }
 
 impl Model for Commands {
-    ghost use Rattle.std.specs.Prelude.{◌≡◌, List, map};
+    ghost use Rattle.std.specs.Prelude.{List};
     ghost use Rattle.dg_language.specs.declared.command.Command.{Command};
-    ghost use Rattle.dg_compiled.specs.Steps.{steps_in};
 
     ghost Value = { List Command };
 
     ghost view = { λ c. c.all };
-
-    ghost invariant = { λ c. c.steps ≡ map steps_in c.all };
 }
 
 impl Reading for Commands {
@@ -56,8 +97,7 @@ impl Reading for Commands {
 
     fn read(alloc: Global, text: &[u8]) -> Result<Commands, AllocError> {
         let all = commands_of(alloc, text)?;
-        let steps = steps_of_all(alloc, all.as_slice())?;
-        Ok(Commands { all, steps })
+        Ok(Commands { all })
     }
 }
 
@@ -69,16 +109,19 @@ impl Commands {
         self.all.len()
     }
 
-    /// The steps in which the words of the command at a place are made, if there is one that can be read.
-    pub fn steps_at(&self, at: usize) -> Option<&[Substitution]>
-        ensures steps { IfSome result (λ r. HasSteps self.now at r.now) }
+    /// The steps in which the words of the command at a place are made, and how it runs where it stands, if there is one that
+    /// can be read.
+    pub fn way_at(&self, at: usize) -> Option<(&[Substitution], &Way)>
+        ensures steps { IfSome result (λ r. HasSteps self.now at r.0.now) }
+        ensures way { IfSome result (λ r. HasWay r.0.now r.1.now) }
         ensures within { IfSome result (λ r. at < length self.now) }
     {
         if at >= self.all.len() {
             return None;
         }
-        match &self.all.as_slice()[at] {
-            Command::Words(_) => Some(self.steps.as_slice()[at].as_slice()),
+        let kept = &self.all.as_slice()[at];
+        match &kept.command {
+            Command::Words(_) => Some((kept.steps.as_slice(), &kept.way)),
             Command::Unreadable(_) => None,
         }
     }
@@ -92,17 +135,6 @@ fn steps_in(alloc: Global, command: &Command) -> Result<Seq<Substitution>, Alloc
         Command::Words(words) => kept_steps(alloc, steps_of(alloc, words.as_slice())?),
         Command::Unreadable(_) => Ok(Seq::new(alloc)),
     }
-}
-
-/// The steps of each of these commands.
-fn steps_of_all(alloc: Global, commands: &[Command]) -> Result<Seq<Seq<Substitution>>, AllocError>
-    ensures { IfOk result (λ all. all ≡ map steps_in commands.now) }
-{
-    let mut all = Seq::new(alloc);
-    for command in commands {
-        all.push(steps_in(alloc, command)?)?;
-    }
-    Ok(all)
 }
 
 /// The steps in which the words of a kept command are made. A contract sees the steps.
@@ -130,7 +162,8 @@ impl KeptSteps {
     pub fn as_slice(&self) -> &[Substitution]
         ensures { result.now ≡ self.now }
     {
-        self.commands.steps.as_slice()[self.at].as_slice()
+        let kept = &self.commands.all.as_slice()[self.at];
+        kept.steps()
     }
 }
 
@@ -185,14 +218,14 @@ impl Model for Script {
 /// What stands at a place of a text: the words of a command and the place behind it, why it can't be
 /// read, or nothing more.
 #[derive(Drop)]
-enum Next {
+pub(crate) enum Next {
     Words(Seq<Word>, usize),
     Unreadable(WordFault),
     Nothing,
 }
 
 /// Reads the command at a place of a text.
-fn read_command(alloc: Global, text: &[u8], at: usize) -> Result<Next, AllocError>
+pub(crate) fn read_command(alloc: Global, text: &[u8], at: usize) -> Result<Next, AllocError>
     requires { at ≤ length text.now }
     ensures { IfOk result (Reads text.now at) }
 {
@@ -213,7 +246,7 @@ fn read_command(alloc: Global, text: &[u8], at: usize) -> Result<Next, AllocErro
 }
 
 /// All commands of a text, up to the first that can't be read.
-fn commands_of(alloc: Global, text: &[u8]) -> Result<Seq<Command>, AllocError>
+fn commands_of(alloc: Global, text: &[u8]) -> Result<Seq<KeptCommand>, AllocError>
     ensures { IfOk result (λ cs. cs ≡ commands_at text.now 0) }
 {
     let mut commands = Seq::new(alloc);
@@ -221,11 +254,11 @@ fn commands_of(alloc: Global, text: &[u8]) -> Result<Seq<Command>, AllocError>
     'commands: loop {
         match read_command(alloc, text, at)? {
             Next::Words(words, next) => {
-                commands.push(Command::Words(words))?;
+                commands.push(KeptCommand::new(alloc, Command::Words(words))?)?;
                 at = next;
             }
             Next::Unreadable(fault) => {
-                commands.push(Command::Unreadable(fault))?;
+                commands.push(KeptCommand::new(alloc, Command::Unreadable(fault))?)?;
                 return Ok(commands);
             }
             Next::Nothing => return Ok(commands),
@@ -238,7 +271,8 @@ fn begin_at(commands: &Arc<Commands>, at: usize) -> Result<Begun, AllocError>
     requires { at < length (arc_value commands.now) }
     ensures { IfOk result (Begins (arc_value commands.now) at) }
 {
-    match &commands.all.as_slice()[at] {
+    let kept = &commands.all.as_slice()[at];
+    match &kept.command {
         Command::Words(_) => {
             let commands = Arc::try_clone(commands)?;
             Ok(Begun::Words(WordSteps::Kept(KeptSteps { commands, at })))

@@ -43,8 +43,11 @@ Elements-sync = search (sendable, bytes.the_sync, seq.the_sync) depth 20
 Rounds-send : IsSend Rounds.the_field.row
 Rounds-send = search (sendable, bytes.the_send, seq.the_send, queue.the_send, Body-send) depth 20
 
-Repetition-send : IsSend Repetition.the_field.row
+Repetition-send : IsSend Repetition.the_row
 Repetition-send = search (sendable, bytes.the_send, stage.the_field_send, Body-send, Condition-send) depth 20
+
+Kept-repetition-send : IsSend (Boxed.the_field Repetition.the_row).row
+Kept-repetition-send = boxed.the_send Repetition.the_row Repetition-send
 
 Prepared-send : IsSend Prepared.the_row
 Prepared-send = search (sendable, seq.the_send, pair.the_field_send, Pattern-send) depth 20
@@ -81,7 +84,7 @@ Frames-send = (
                         (
                           (choice.the_field_send, tt),
                           (
-                            (Repetition-send, tt),
+                            (Kept-repetition-send, tt),
                             (
                               (acting.the_field_send, tt),
                               (

@@ -1,16 +1,18 @@
 -- Commands that run where they stand.
-use Rattle.std.proofs.Common.{lit≤, ◌≡◌, ◌≢◌, ℕ, zero, suc, ◌+◌, ◌-◌, ◌<◌, ◌≤◌, Bool, true, false, List, [], ◌∷◌, ◌++◌, drop, length, map, slice_index_or, ap, sym, ◌∙◌, refl, arith}
+use Rattle.std.proofs.Common.{lit≤, ◌≡◌, ◌≢◌, ℕ, zero, suc, ◌+◌, ◌-◌, ◌<◌, ◌≤◌, Bool, true, false, List, [], ◌∷◌, ◌++◌, drop, length, ap, subst, sym, ◌∙◌, refl, arith}
 use Rattle.std.proofs.lemmas.List.{append-nil, drop_all}
-use Rattle.std.specs.Prelude.{IfSome, IsTrue, ◌↔◌, Option, Some, None, Ok, codes}
+use Rattle.std.specs.Prelude.{IfSome, Option, Some, None, Ok, codes}
 use Rattle.std.specs.FinMap as names
-use Rattle.dg_words.specs.declared.word.Word.{Word}
 use Rattle.dg_scope.specs.Scopes.{value_of}
-use Rattle.dg_language.specs.declared.code.Code.TheVariants.{Done}
-use Rattle.dg_language.specs.declared.command.Builtin.TheVariants.{Choice as ChoiceBuiltin, Variable as VariableBuiltin}
+use Rattle.dg_language.specs.declared.code.Code.{Code}
+use Rattle.dg_language.specs.declared.code.Code.TheVariants.{Done, Returned}
+use Rattle.dg_language.specs.declared.command.Builtin.TheVariants.{Choice as ChoiceBuiltin, Immediate as ImmediateBuiltin, Variable as VariableBuiltin}
 use Rattle.dg_language.specs.declared.command.ChoiceCommand.TheVariants.{Expr}
+use Rattle.dg_language.specs.declared.command.ImmediateCommand.TheVariants.{Return}
+use Rattle.dg_language.specs.Control.{do_return}
 use Rattle.dg_language.specs.declared.command.VariableCommand.TheVariants.{Set, Increase}
 use Rattle.dg_language.specs.declared.command.Command.{Command}
-use Rattle.dg_language.specs.declared.command.Command.TheVariants.{Words}
+use Rattle.dg_language.specs.declared.command.Command.TheVariants.{Words, Unreadable}
 use Rattle.dg_language.specs.declared.substitution.Substitution.{Substitution}
 use Rattle.dg_language.specs.declared.substitution.Substitution.TheVariants.{Literal, Script, WordEnds}
 use Rattle.dg_language.specs.State.{State, assigned, stepped}
@@ -23,15 +25,16 @@ use Rattle.dg_expr.specs.declared.code.Instruction.{Instruction}
 use Rattle.dg_language.specs.Language.{builtin_of, command, commands_at, evaluate, known_command, sequence, usable}
 use Rattle.dg_language.specs.Words.{Act, gather, longer, substitutions}
 use Rattle.dg_language.proofs.TouchLemmas.{in-use, within-short}
-use Rattle.dg_machine.specs.Settling.{AsksNothing, ComesBy, GoesOnAs, HasText, HasWord, IsOnly, Sets, Settles}
-use Rattle.dg_compiled.specs.Script.{HasSteps}
-use Rattle.dg_compiled.specs.Steps.{steps_in}
+use Rattle.dg_machine.specs.Settling.{AsksNothing, ComesBy, GoesOnAs, HasText, IsOnly, Returns, Sets, Settles, Yields}
+use Rattle.dg_compiled.specs.Script.{HasSteps, begins}
 use Rattle.dg_compiled.specs.Texts.{IsText}
+use Rattle.dg_compiled.specs.Ways.{HasCode, HasWord, IsCoded}
 use Rattle.dg_machine.specs.declared.frame.Control.{Control}
+use Rattle.dg_machine.specs.declared.frame.Control.TheVariants.{Go, Ended}
 use Rattle.dg_machine.specs.declared.frame.Frame.{Frame}
 use Rattle.dg_machine.specs.declared.frame.Frame.TheVariants.{Repeating}
 use Rattle.dg_machine.specs.declared.frame.Repetition.{Repetition}
-use Rattle.dg_machine.specs.declared.frame.Stage.TheVariants.{Body}
+use Rattle.dg_machine.specs.declared.frame.Stage.TheVariants.{Body, Next}
 use Rattle.dg_machine.specs.Choosing.{repeating}
 use Rattle.dg_compiled.specs.Calculating.{calculating}
 use Rattle.dg_compiled.specs.declared.calculation.Calculation.{Calculation}
@@ -57,7 +60,7 @@ in-use-stepped : (s : State) (n : List ℕ) (old : List ℕ) → value_in_use n 
 unfolding stepped
 in-use-stepped s n old h = h
 
-procedures-stepped : (s : State) (n : List ℕ) → names.get (stepped s).procedures n ≡ names.get s.procedures n
+pub procedures-stepped : (s : State) (n : List ℕ) → names.get (stepped s).procedures n ≡ names.get s.procedures n
 unfolding stepped
 procedures-stepped s n = refl
 
@@ -185,20 +188,17 @@ expr-does d text v o c s k short code begun first value =
     ∙ sym (begun-calculates c o text d s (written k) code begun first)
     ∙ value (written k)
 
-pub expr-settles : (d : ℕ) (steps : List Substitution) (text v : List ℕ) (o : Option (List Instruction)) (c : Calculation) (s : State) → length text ≤ 1048576
-    → HasWord steps 0 (Literal (codes "expr")) → HasWord steps 2 (Literal text) → length steps ≡ 4 → names.get s.procedures (codes "expr") ≡ None
-    → o ≡ code_in (tree_in text) → o ≡ Some c.left → c ≡ record { values = []; passed = 0; left = c.left; depth = d } → ((k : Then) → calculating c s k ≡ k Done v s)
-    → Settles d steps s (in_decimal v) s
-expr-settles d steps text v o c s short h g l none code begun first value = λ k.
-    ap (λ xs. gather (evaluate d) (command (evaluate d)) [] [] [] xs s k) (two-in steps (Literal (codes "expr")) (Literal text) h g l)
+pub expr-settles : (d : ℕ) (steps : List Substitution) (v : List ℕ) (o : Option (List Instruction)) (c : Calculation) (s : State) → HasCode steps o
+    → names.get s.procedures (codes "expr") ≡ None → o ≡ Some c.left → c ≡ record { values = []; passed = 0; left = c.left; depth = d }
+    → ((k : Then) → calculating c s k ≡ k Done v s) → Settles d steps s (in_decimal v) s
+expr-settles d steps v o c s h none begun first value = λ k.
+    let text : List ℕ = h.0 in
+    let short : length text ≤ 1048576 = h.1.0.3 in
+    ap (λ xs. gather (evaluate d) (command (evaluate d)) [] [] [] xs s k) (two-in steps (Literal (codes "expr")) (Literal text) h.1.0.0 h.1.0.1 h.1.0.2)
     ∙ two-words d (command (evaluate d)) s k (codes "expr") text (lit≤ tt) short
     ∙ command-known d (codes "expr" ∷ text ∷ []) (codes "expr") (text ∷ []) s k refl none
     ∙ ap (λ b. known_command (evaluate d) b (codes "expr") (text ∷ []) s k) (expr-usable s.on_board)
-    ∙ expr-does d text v o c s k short code begun first value
-
--- a test of two texts that was true
-pub means : {b : Bool} {P : Type 0} → IsTrue b ↔ P → b ≡ true → P
-means h e = h.0 e
+    ∙ expr-does d text v o c s k short h.1.1 begun first value
 
 -- what holds of a value that is there
 pub if-both : {A : Type 0} (o : Option A) (P Q R : A → Type 0) → ((a : A) → P a → Q a → R a) → IfSome o P → IfSome o Q → IfSome o R
@@ -208,6 +208,12 @@ if-both (Some a) P Q R f p q = f a p q
 pub if-some : {A : Type 0} (o : Option A) (P Q : A → Type 0) → ((a : A) → P a → Q a) → IfSome o P → IfSome o Q
 if-some None P Q f p = p
 if-some (Some a) P Q f p = f a p
+
+-- what is all of a value is that of an equal one
+pub settles-as : (o : Option (List ℕ)) (w v : List ℕ) (d : ℕ) (code : Option (List Instruction)) (s : State) → IfSome o (λ x. x ≡ w) → w ≡ v
+    → ((steps : List Substitution) → HasCode steps code → Settles d steps s v s) → IfSome o (λ x. (steps : List Substitution) → HasCode steps code → Settles d steps s x s)
+settles-as None w v d code s e f h = e
+settles-as (Some x) w v d code s e f h = λ steps c. subst (λ u. Settles d steps s u s) (sym f ∙ sym e) (h steps c)
 
 -- the next command has run where it stands
 pub settles-next : (d : ℕ) (cs : List Command) (at : ℕ) (steps : List Substitution) (s t : State) (v w : List ℕ) → HasSteps cs at steps → s.steps < 100000
@@ -244,16 +250,6 @@ pub weight-settled : (o : Control) (fs : List Frame) (s t : State) → AsksNothi
 unfolding weight
 weight-settled o fs s t h = rw h.1 (omega (arith, h.2))
 
--- the steps of a command that is kept
-pub steps-kept : (all : List Command) (at : ℕ) (c : Command) (ws : List Word) (r : List Substitution) → at < length all → c ≡ slice_index_or all at c → c ≡ Words ws
-    → r ≡ slice_index_or (map steps_in all) at r → HasSteps all at r
-steps-kept [] at c ws r l e w f = absurd (omega (arith, l))
-steps-kept (a ∷ all) zero c ws r l e w f = (ws, (ap (λ x. x ∷ all) (sym e ∙ w), f ∙ ap steps_in (sym e ∙ w)))
-steps-kept (a ∷ all) (suc n) c ws r l e w f =
-    let one : suc n + 1 ≡ suc (n + 1) = omega arith in
-    let below = steps-kept all n c ws r (omega (arith, l)) e w f in
-    (below.0, (rw one below.1.0, below.1.1))
-
 -- a text, whose commands have run as far as they do where they stand
 pub text-settled : (d : ℕ) (text : List ℕ) (cs ds : List Command) (u v : List ℕ) (s t : State) (k : Then) → d ≢ 0 → cs ≡ commands_at text 0 → u ≡ [] → GoesOnAs (d - 1) cs u s ds v t
     → evaluate d text s k ≡ sequence (evaluate (d - 1)) ds v t k
@@ -263,21 +259,62 @@ text-settled d text cs ds u v s t k n e f g =
     ∙ ap (λ x. sequence (evaluate (d - 1)) cs x s k) (sym f)
     ∙ sym (g k)
 
+-- an end weighs little
+pub weight-ended : (s : State) (c : Code) (v : List ℕ) (fs : List Frame) → weight (Ended c v) s fs ≡ weight Go s fs + 1
+unfolding weight
+weight-ended s c v fs = omega arith
+
+-- commands that are left of all have gone on as far as they do where they stand
+pub left-settled : (d : ℕ) (cs all : List Command) (first at : ℕ) (x u v : List ℕ) (s t : State) (k : Then) → cs ≡ drop first all → u ≡ x
+    → GoesOnAs d (drop first all) u s (drop at all) v t → sequence (evaluate d) cs x s k ≡ sequence (evaluate d) (drop at all) v t k
+left-settled d cs all first at x u v s t k e f g =
+    ap (λ xs. sequence (evaluate d) xs x s k) e ∙ ap (λ y. sequence (evaluate d) (drop first all) y s k) (sym f) ∙ sym (g k)
+
+-- commands that are left go on behind any value
+pub behind-any : (d : ℕ) (cs : List Command) (at : ℕ) (v w : List ℕ) (s : State) (k : Then) → at < length cs
+    → sequence (evaluate d) (drop at cs) v s k ≡ sequence (evaluate d) (drop at cs) w s k
+unfolding sequence
+behind-any d [] at v w s k l = absurd (omega (arith, l))
+behind-any d (Words ws ∷ cs) zero v w s k l = refl
+behind-any d (Unreadable fault ∷ cs) zero v w s k l = refl
+behind-any d (c ∷ cs) (suc n) v w s k l = behind-any d cs n v w s k (omega (arith, l))
+
+-- the frame of a loop whose third script runs
+pub next-back : (r : Repetition) (fs : List Frame) → all_back (Repeating (record r { stage = Next }) ∷ fs) ≡ repeating r Next (all_back fs)
+unfolding all_back back
+next-back r fs = refl
+
 -- the frame of a loop whose body runs
 pub body-back : (r : Repetition) (fs : List Frame) → r.stage ≡ Body → all_back (Repeating r ∷ fs) ≡ repeating r Body (all_back fs)
 unfolding all_back back
 body-back r fs e = ap (λ stage. repeating r stage (all_back fs)) e
 
--- the only command of a text
-pub only-computes : (d : ℕ) (cs : List Command) (steps : List Substitution) (s : State) (v : List ℕ) → HasSteps cs 0 steps → length cs ≡ 1 → s.steps < 100000
+-- the only command of a list
+only-computes : (d : ℕ) (cs : List Command) (steps : List Substitution) (s : State) (v : List ℕ) → HasSteps cs 0 steps → length cs ≡ 1 → s.steps < 100000
     → Settles d steps (stepped s) v (stepped s) → IsOnly d cs s v
 only-computes d cs steps s v h one left settles = λ k.
     let none : drop (0 + 1) cs ≡ [] = drop_all (0 + 1) cs (omega (arith, one)) in
     sym (settles-next d cs 0 steps s (stepped s) [] v h left settles k) ∙ sequence-done d (drop (0 + 1) cs) v (stepped s) k none
 
+pub yields : (d : ℕ) (code : Option (List Instruction)) (s : State) (v : List ℕ) → s.steps < 100000
+    → ((steps : List Substitution) → HasCode steps code → Settles d steps (stepped s) v (stepped s)) → Yields d code s v
+yields d code s v left settles = λ ws h.
+    only-computes d (Words ws ∷ []) (substitutions ws) s v (ws, (refl, refl)) refl left (settles (substitutions ws) h)
+
+pub only-yields : (d : ℕ) (cs : List Command) (steps : List Substitution) (code : Option (List Instruction)) (s : State) (v : List ℕ) → HasSteps cs 0 steps → length cs ≡ 1
+    → HasCode steps code → Yields d code s v → IsOnly d cs s v
+only-yields d cs steps code s v h one coded yields =
+    let none : drop (0 + 1) cs ≡ [] = drop_all (0 + 1) cs (omega (arith, one)) in
+    let all : cs ≡ Words h.0 ∷ [] = h.1.0 ∙ ap (λ xs. Words h.0 ∷ xs) none in
+    subst (λ xs. IsOnly d xs s v) (sym all) (yields h.0 (subst (λ xs. HasCode xs code) h.1.1 coded))
+
 pub text-computes : (d : ℕ) (text : List ℕ) (cs : List Command) (s : State) (v : List ℕ) → d ≢ 0 → cs ≡ commands_at text 0 → IsOnly (d - 1) cs s v → ComesBy d text s v
 text-computes d text cs s v n e only = λ k.
     sym (evaluate-inside d text s k n) ∙ ap (λ xs. sequence (evaluate (d - 1)) xs [] s k) (sym e) ∙ only k
+
+pub coded-computes : (d : ℕ) (script : List ℕ) (code : Option (List Instruction)) (s : State) (v : List ℕ) → d ≢ 0 → IsCoded script code → Yields (d - 1) code s v
+    → ComesBy d script s v
+coded-computes d script code s v n h yields = text-computes d script (Words h.0 ∷ []) s v n (sym h.1.0) (yields h.0 h.1.1)
 
 -- `set` of a variable to the value of a script
 pub set-computes : (d : ℕ) (s : State) (steps : List Substitution) (n t v old : List ℕ) → HasWord steps 0 (Literal (codes "set")) → HasWord steps 2 (Literal n)
@@ -297,3 +334,39 @@ set-computes d s steps n t v old h g f l long none held comes short = λ k.
     ∙ command-known d (name ∷ n ∷ v ∷ []) name (n ∷ v ∷ []) (stepped s) k refl (procedures-stepped s name ∙ none)
     ∙ ap (λ o. known_command (evaluate d) o name (n ∷ v ∷ []) (stepped s) k) (set-usable (stepped s).on_board)
     ∙ set-does d n v old (stepped s) k (in-use-stepped s n old held) short
+
+-- `return` of the value of a script
+return-usable : (b : Bool) → usable b (builtin_of (codes "return")) ≡ Some (ImmediateBuiltin Return)
+unfolding builtin_of
+return-usable true = refl
+return-usable false = refl
+
+return-does : (d : ℕ) (v : List ℕ) (s : State) (k : Then) → known_command (evaluate d) (Some (ImmediateBuiltin Return)) (codes "return") (v ∷ []) s k ≡ k Returned v s
+unfolding do_return
+return-does d v s k = refl
+
+pub return-computes : (d : ℕ) (s : State) (steps : List Substitution) (t v : List ℕ) → HasWord steps 0 (Literal (codes "return")) → HasWord steps 2 (Script t) → length steps ≡ 4
+    → names.get s.procedures (codes "return") ≡ None → ComesBy d t s v → length v ≤ 1048576 → (k : Then) → begins steps d s k ≡ k Returned v (stepped s)
+return-computes d s steps t v h g l none comes short = λ k.
+    let act : Act = command (evaluate d) in
+    let name : List ℕ = codes "return" in
+    ap (λ xs. gather (evaluate d) act [] [] [] xs s k) (two-in steps (Literal name) (Script t) h g l)
+    ∙ sym (word-taken d act [] [] (Script t ∷ WordEnds ∷ []) s k (Literal name) name refl (lit≤ tt))
+    ∙ gather-script d act (name ∷ []) [] [] (Script t ∷ WordEnds ∷ []) s k t (WordEnds ∷ []) refl
+    ∙ comes (if_done (λ u s'. longer [] u s' (λ w. gather (evaluate d) act (name ∷ []) [] w (WordEnds ∷ []) s' k)) k)
+    ∙ within-short (0 + length v) (stepped s) (gather (evaluate d) act (name ∷ []) [] v (WordEnds ∷ []) (stepped s) k) (omega (arith, short))
+    ∙ gather-word d act (name ∷ []) [] v (WordEnds ∷ []) (stepped s) k [] refl
+    ∙ gather-none d act (name ∷ v ∷ []) [] [] [] (stepped s) k refl
+    ∙ command-known d (name ∷ v ∷ []) name (v ∷ []) (stepped s) k refl (procedures-stepped s name ∙ none)
+    ∙ ap (λ o. known_command (evaluate d) o name (v ∷ []) (stepped s) k) (return-usable (stepped s).on_board)
+    ∙ return-does d v (stepped s) k
+
+pub returns-next : (d : ℕ) (cs : List Command) (at : ℕ) (steps : List Substitution) (s t : State) (w : List ℕ) → HasSteps cs at steps → s.steps < 100000
+    → ((k : Then) → begins steps d (stepped s) k ≡ k Returned w t) → Returns d (drop at cs) s w t
+unfolding sequence
+returns-next d cs at steps s t w h left returns = λ v k.
+    let then : Then = if_done (λ u t'. sequence (evaluate d) (drop (at + 1) cs) u t' k) k in
+    ap (λ xs. sequence (evaluate d) xs v s k) h.1.0
+    ∙ tick-step s (λ u. gather (evaluate d) (command (evaluate d)) [] [] [] (substitutions h.0) u then) left
+    ∙ ap (λ xs. gather (evaluate d) (command (evaluate d)) [] [] [] xs (stepped s) then) (sym h.1.1)
+    ∙ returns then

@@ -1,5 +1,5 @@
 -- Expressions that come to whole numbers.
-use Rattle.std.proofs.Common.{◌≡◌, ℕ, ◌^◌, ◌<◌, ℤ, pos, List, ap}
+use Rattle.std.proofs.Common.{◌≡◌, ◌^◌, ◌<◌, ℤ, pos, ap}
 use Rattle.std.specs.Prelude.{not, Some}
 use Rattle.std.specs.Ordering.{int_eq}
 use lib.Signed.{mag}

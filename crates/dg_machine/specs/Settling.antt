@@ -1,20 +1,20 @@
 -- Commands that run where they stand: nothing is asked or evaluated for them.
 use Rattle.std.specs.Prelude.{◌≡◌, ℕ, ◌+◌, ◌≤◌, List, [], ◌∷◌, drop, Option, Some, None}
-use Rattle.dg_language.specs.declared.code.Code.TheVariants.{Done}
+use Rattle.dg_language.specs.declared.code.Code.TheVariants.{Done, Returned}
+use Rattle.dg_words.specs.declared.word.Word.{Word}
+use Rattle.dg_expr.specs.declared.code.Instruction.{Instruction}
 use Rattle.dg_language.specs.declared.command.Command.{Command}
+use Rattle.dg_language.specs.declared.command.Command.TheVariants.{Words}
 use Rattle.dg_language.specs.declared.substitution.Substitution.{Substitution}
-use Rattle.dg_language.specs.declared.substitution.Substitution.TheVariants.{WordEnds}
 use Rattle.dg_language.specs.State.{State, assigned, stepped}
 use Rattle.dg_language.specs.Evaluation.{Then}
 use Rattle.dg_language.specs.Language.{evaluate, sequence}
+use Rattle.dg_language.specs.Words.{substitutions}
 use Rattle.dg_compiled.specs.Script.{begins}
 use Rattle.dg_compiled.specs.Texts.{IsText}
+use Rattle.dg_compiled.specs.Ways.{HasCode, HasWord}
 
--- a word begins at a place, whose steps are this one alone
-abbrev pub HasWord : List Substitution → ℕ → Substitution → Type 0
-HasWord steps at x = drop at steps ≡ x ∷ WordEnds ∷ drop (at + 2) steps
-
--- and that is this text, by itself or as the value of a variable in use
+-- the word at a place is this text, by itself or as the value of a variable in use
 abbrev pub HasText : List Substitution → ℕ → State → List ℕ → Type 0
 HasText steps at s v = (x : Substitution) × (HasWord steps at x × IsText s x v)
 
@@ -44,9 +44,17 @@ IsAfter (Some v) s t = t ≡ stepped s
 abbrev pub IsOnly : ℕ → List Command → State → List ℕ → Type 0
 IsOnly depth cs s v = (k : Then) → sequence (evaluate depth) cs [] s k ≡ k Done v (stepped s)
 
+-- so does an `expr` of this code
+abbrev pub Yields : ℕ → Option (List Instruction) → State → List ℕ → Type 0
+Yields depth code s v = (ws : List Word) → HasCode (substitutions ws) code → IsOnly depth (Words ws ∷ []) s v
+
 -- so does a text
 abbrev pub ComesBy : ℕ → List ℕ → State → List ℕ → Type 0
 ComesBy depth text s v = (k : Then) → evaluate depth text s k ≡ k Done v (stepped s)
+
+-- the first of these commands returns from what is around it with a value, behind whatever value
+abbrev pub Returns : ℕ → List Command → State → List ℕ → State → Type 0
+Returns depth cs s v t = (u : List ℕ) (k : Then) → sequence (evaluate depth) cs u s k ≡ k Returned v t
 
 -- no answer came and no entry was used; steps may have been taken
 abbrev pub AsksNothing : State → State → Type 0

@@ -1,9 +1,10 @@
 //! Values that stand in a block of their own, so that what holds one is moved by moving a pointer.
-ghost use Rattle.std.specs.Prelude.{◌≡◌, None, IfOk, OnOk};
+ghost use Rattle.std.specs.Prelude.{◌≡◌, ◌-◌, ◌<◌, None, IfOk, OnOk};
+ghost use Rattle.dg_machine.specs.declared.frame.Stage.{Stage as TheStage};
 ghost use Rattle.dg_language.specs.Play.{lookup};
 ghost use Rattle.dg_machine.specs.Meaning.{told, ComesTo};
 
-use crate::frame::Stop;
+use crate::frame::{Repetition, Stage, Stop};
 use crate::machine::Machine;
 use dg_world::{Answer, Question};
 use std::alloc::{AllocError, Global};
@@ -61,5 +62,23 @@ impl Boxed<Machine> {
         ensures { OnOk result (self.new ≡ told question answer self.old) }
     {
         self.inner.state.learn(question, answer)
+    }
+}
+
+impl Boxed<Repetition> {
+    /// This of the loop runs next.
+    pub fn set_stage(&mut self, stage: Stage)
+        ensures { self.new ≡ record self.old { stage = stage } }
+    {
+        self.inner.stage = stage;
+    }
+
+    /// A test runs next, and is counted.
+    pub fn begin_test(&mut self)
+        requires { 0 < self.old.left }
+        ensures { self.new ≡ record self.old { stage = TheStage.Test; left = self.old.left - 1 } }
+    {
+        self.inner.stage = Stage::Test;
+        self.inner.left -= 1;
     }
 }

@@ -241,7 +241,7 @@ pub(crate) enum Frame {
     },
     /// A loop over a condition.
     Repeating {
-        repetition: Repetition,
+        repetition: Boxed<Repetition>,
     },
     /// An action on a session.
     Acting {

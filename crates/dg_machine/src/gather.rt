@@ -203,6 +203,30 @@ impl Machine {
         Ok(Pace::Moved)
     }
 
+    /// A value is added to what is made of a word, and the words are used if all are made then by themselves.
+    #[tactic(auto, unfolding(crate::specs::Meaning::rest, crate::specs::Meaning::go, crate::specs::Meaning::weight, crate::specs::Meaning::stack_weight))]
+    fn add_and_use(
+        &mut self,
+        alloc: Global,
+        mut making: Making,
+        value: Bytes,
+        depth: u32,
+    ) -> Result<Pace, AllocError>
+        requires { self.old.control ≡ Control.Go }
+        ensures { IfOk result (λ p. Comes (making_with making depth value self.old.state (all_back self.old.stack)) self.old.state.known (weight_of self.old + budget making.purpose + 5 + 4 * length making.left) self.new p) }
+    {
+        if !has_room(&making.text, &value) {
+            return Ok(self.add_value(alloc, making, value, depth)?);
+        }
+        add_text(&mut making.text, value)?;
+        make_texts(alloc, &self.state, &mut making)?;
+        if making.left.len() == 0 {
+            return Ok(self.use_words(alloc, making, depth)?);
+        }
+        self.stack.push(Frame::Gathering { making, depth })?;
+        Ok(Pace::Moved)
+    }
+
     /// The value of a script is made, to be added.
     #[tactic(auto, unfolding(crate::specs::Meaning::back, crate::specs::Meaning::all_back, crate::specs::Meaning::weight, crate::specs::Meaning::stack_weight))]
     fn run_script(
@@ -213,10 +237,10 @@ impl Machine {
         depth: u32,
     ) -> Result<Pace, AllocError>
         requires { self.old.control ≡ Control.Go }
-        ensures { IfOk result (λ p. Goes (evaluate depth script self.old.state (if_done (λ v s. making_with making depth v s (all_back self.old.stack)) (all_back self.old.stack))) self.old.state.known (weight_of self.old + budget making.purpose + 8 + 4 * length making.left) self.new p) }
+        ensures { IfOk result (λ p. Comes (evaluate depth script self.old.state (if_done (λ v s. making_with making depth v s (all_back self.old.stack)) (all_back self.old.stack))) self.old.state.known (weight_of self.old + budget making.purpose + 8 + 4 * length making.left) self.new p) }
     {
         if let Some(value) = self.value_of_script(alloc, &script, depth)? {
-            return Ok(self.add_value(alloc, making, value, depth)?);
+            return Ok(self.add_and_use(alloc, making, value, depth)?);
         }
         self.stack.push(Frame::Gathering { making, depth })?;
         let pace = self.enter(alloc, script, depth)?;

@@ -1,5 +1,6 @@
 //! A stopped evaluation, and how its commands begin and end.
-ghost use Rattle.std.specs.Prelude.{◌≡◌, ◌+◌, ◌*◌, ◌^◌, ◌<◌, ◌∷◌, length, IfOk, OnOk, ℕ, List};
+ghost use Rattle.std.specs.Prelude.{◌≡◌, ◌+◌, ◌*◌, ◌^◌, ◌<◌, ◌∷◌, [], drop, length, IfOk, OnOk, ℕ, List};
+ghost use Rattle.std.specs.Arc.{arc_value};
 ghost use Rattle.dg_language.specs.Evaluation.{cut, out_of_steps, fail, wrong_count};
 ghost use Rattle.dg_language.specs.Play.{Ends};
 ghost use Rattle.dg_language.specs.Variables.{store};
@@ -20,6 +21,7 @@ use dg_scope::LONGEST_VALUE;
 use dg_shelf::Shelf;
 use dg_words::fault_text;
 use std::alloc::{AllocError, Global};
+use std::sync::Arc;
 
 /// A stopped evaluation.
 pub(crate) struct Machine {
@@ -239,8 +241,39 @@ impl Machine {
         requires { self.old.control ≡ Control.Go }
         ensures { IfOk result (λ p. Comes (sequence (evaluate depth) commands value self.old.state (all_back self.old.stack)) self.old.state.known (weight_of self.old + 3) self.new p) }
     {
-        let left = self.settle(alloc, commands, &mut value, depth)?;
-        Ok(self.next_command(alloc, left, value, depth)?)
+        match commands.into_kept() {
+            Ok((all, first)) => {
+                let at = self.settle_from(alloc, &all, first, &mut value, depth)?;
+                Ok(self.next_at(alloc, all, at, value, depth)?)
+            }
+            Err(commands) => Ok(self.next_command(alloc, commands, value, depth)?),
+        }
+    }
+
+    /// The command at a place returns, if it does where it stands, or the words of it are made, or the value of the last is
+    /// that of all.
+    #[tactic(auto, unfolding(crate::specs::Meaning::rest, crate::specs::Meaning::weight))]
+    fn next_at(
+        &mut self,
+        alloc: Global,
+        all: Arc<Commands>,
+        at: usize,
+        value: Bytes,
+        depth: u32,
+    ) -> Result<Pace, AllocError>
+        requires { self.old.control ≡ Control.Go }
+        ensures { IfOk result (λ p. Comes (sequence (evaluate depth) (drop at (arc_value all)) value self.old.state (all_back self.old.stack)) self.old.state.known (weight_of self.old + 3) self.new p) }
+    {
+        match self.value_returned(alloc, &all, at, depth)? {
+            Some(value) => {
+                self.end(Code::Returned, value);
+                Ok(Pace::Moved)
+            }
+            None => {
+                let commands = Script::kept_from(all, at);
+                Ok(self.next_command(alloc, commands, value, depth)?)
+            }
+        }
     }
 
     /// The evaluation of a text begins, whose commands these are, inside as many others as this leaves.
@@ -257,11 +290,59 @@ impl Machine {
             let closing = self.cut(alloc, b"too many nested evaluations")?;
             return Ok(Pace::Over(closing));
         }
-        self.stack.push(Frame::Sequence {
-            commands,
-            depth: depth - 1,
-        })?;
-        Ok(Pace::Moved)
+        Ok(self.begin_inside(alloc, commands, depth - 1)?)
+    }
+
+    /// The commands of a text that is evaluated begin: those that run where they stand do, and what is left waits for its turn.
+    fn begin_inside(
+        &mut self,
+        alloc: Global,
+        commands: Script,
+        depth: u32,
+    ) -> Result<Pace, AllocError>
+        requires { self.old.control ≡ Control.Go }
+        ensures { IfOk result (λ p. Goes (sequence (evaluate depth) commands [] self.old.state (all_back self.old.stack)) self.old.state.known (weight_of self.old + 4) self.new p) }
+    {
+        match commands.into_kept() {
+            Ok((all, first)) => {
+                let mut value = Bytes::new(alloc);
+                let at = self.settle_from(alloc, &all, first, &mut value, depth)?;
+                if at >= all.count() {
+                    self.end(Code::Done, value);
+                    return Ok(Pace::Moved);
+                }
+                Ok(self.begin_at(alloc, all, at, depth)?)
+            }
+            Err(commands) => {
+                self.stack.push(Frame::Sequence { commands, depth })?;
+                Ok(Pace::Moved)
+            }
+        }
+    }
+
+    /// The command at a place returns, if it does where it stands, or waits for its turn, in front of those behind it.
+    #[tactic(auto, unfolding(crate::specs::Meaning::rest, crate::specs::Meaning::go, crate::specs::Meaning::weight, crate::specs::Meaning::stack_weight))]
+    fn begin_at(
+        &mut self,
+        alloc: Global,
+        all: Arc<Commands>,
+        at: usize,
+        depth: u32,
+    ) -> Result<Pace, AllocError>
+        requires { self.old.control ≡ Control.Go }
+        ensures { IfOk result (λ p. Goes (sequence (evaluate depth) (drop at (arc_value all)) [] self.old.state (all_back self.old.stack)) self.old.state.known (weight_of self.old + 4) self.new p) }
+    {
+        match self.value_returned(alloc, &all, at, depth)? {
+            Some(value) => {
+                self.end(Code::Returned, value);
+                Ok(Pace::Moved)
+            }
+            None => {
+                let commands = Script::kept_from(all, at);
+                self.stack.push(Frame::Sequence { commands, depth })?;
+                Ok(Pace::Moved)
+            }
+        }
     }
 
     /// The evaluation of a text begins as `begin` has it, and its first command runs.

@@ -11,6 +11,7 @@ ghost use Rattle.dg_machine.specs.declared.frame.Stage.{Stage};
 ghost use Rattle.dg_machine.specs.Choosing.{next_script, next_test, repeat_if, repeating, stage_weight};
 ghost use Rattle.dg_machine.specs.Meaning.{all_back, weight_of, Comes, GoesAs};
 
+use crate::boxed::Boxed;
 use crate::frame::{Frame, Pace, Repetition, Stage};
 use crate::machine::Machine;
 use dg_bytes::{Bytes, TryCopy};
@@ -30,30 +31,34 @@ fn whole_truth(number: i64) -> bool
 impl Machine {
     /// The next test of a loop begins to be computed, if a step is left for it.
     #[tactic(auto, unfolding(crate::specs::Meaning::back, crate::specs::Meaning::all_back))]
-    fn next_test(&mut self, alloc: Global, mut repetition: Repetition) -> Result<Pace, AllocError>
+    fn next_test(
+        &mut self,
+        alloc: Global,
+        mut repetition: Boxed<Repetition>,
+    ) -> Result<Pace, AllocError>
         requires { self.old.control ≡ Control.Go }
         ensures { IfOk result (λ p. Comes (next_test repetition self.old.state (all_back self.old.stack)) self.old.state.known (weight_of self.old + 5) self.new p) }
     {
-        if repetition.left == 0 || !self.state.has_step() {
+        if repetition.get().left == 0 || !self.state.has_step() {
             let closing = self.out_of_steps(alloc)?;
             return Ok(Pace::Over(closing));
         }
         self.state.take_step();
-        repetition.left -= 1;
-        repetition.stage = Stage::Test;
+        repetition.begin_test();
         Ok(self.test(alloc, repetition)?)
     }
 
     /// The test of a loop is computed, and its body begins if the condition holds.
     #[tactic(auto, unfolding(crate::specs::Meaning::back, crate::specs::Meaning::all_back))]
-    fn test(&mut self, alloc: Global, repetition: Repetition) -> Result<Pace, AllocError>
+    fn test(&mut self, alloc: Global, repetition: Boxed<Repetition>) -> Result<Pace, AllocError>
         requires go { self.old.control ≡ Control.Go }
         requires stage { repetition.stage ≡ Stage.Test }
         ensures { IfOk result (λ p. Comes (calculate (evaluate repetition.depth) repetition.test self.old.state (repeating repetition Stage.Test (all_back self.old.stack))) self.old.state.known (weight_of self.old + 2 ^ 139) self.new p) }
     {
-        let formula = repetition.test.formula(alloc, &mut self.formulas)?;
-        let Some(mut calculation) = Calculation::of(alloc, formula, repetition.depth) else {
-            return Ok(self.no_expression(alloc, repetition.test.text())?);
+        let looped = repetition.get();
+        let formula = looped.test.formula(alloc, &mut self.formulas)?;
+        let Some(mut calculation) = Calculation::of(alloc, formula, looped.depth) else {
+            return Ok(self.no_expression(alloc, looped.test.text())?);
         };
         match compute_on(alloc, &self.state, &mut calculation)? {
             Computed::Value(value) => {
@@ -75,7 +80,7 @@ impl Machine {
     fn repeat_if(
         &mut self,
         alloc: Global,
-        mut repetition: Repetition,
+        mut repetition: Boxed<Repetition>,
         holds: bool,
     ) -> Result<Pace, AllocError>
         requires { self.old.control ≡ Control.Go }
@@ -85,23 +90,24 @@ impl Machine {
             self.end(Code::Done, Bytes::new(alloc));
             return Ok(Pace::Moved);
         }
-        repetition.stage = Stage::Body;
+        repetition.set_stage(Stage::Body);
         Ok(self.run_body(alloc, repetition)?)
     }
 
     /// The body of a loop runs. Where all of it runs where it stands, no frame stands around it.
     #[tactic(auto, unfolding(crate::specs::Meaning::back, crate::specs::Meaning::all_back, crate::specs::Meaning::weight, crate::specs::Meaning::stack_weight))]
-    fn run_body(&mut self, alloc: Global, repetition: Repetition) -> Result<Pace, AllocError>
+    fn run_body(&mut self, alloc: Global, repetition: Boxed<Repetition>) -> Result<Pace, AllocError>
         requires go { self.old.control ≡ Control.Go }
         requires stage { repetition.stage ≡ Stage.Body }
         ensures { IfOk result (λ p. Comes (evaluate repetition.depth repetition.body self.old.state (repeating repetition Stage.Body (all_back self.old.stack))) self.old.state.known (weight_of self.old + 24) self.new p) }
     {
-        let depth = repetition.depth;
+        let looped = repetition.get();
+        let depth = looped.depth;
         if depth == 0 {
             let closing = self.cut(alloc, b"too many nested evaluations")?;
             return Ok(Pace::Over(closing));
         }
-        let commands = repetition.body.script(alloc)?;
+        let commands = looped.body.script(alloc)?;
         let mut value = Bytes::new(alloc);
         let left = self.settle(alloc, commands, &mut value, depth - 1)?;
         if left.is_over() {
@@ -116,14 +122,14 @@ impl Machine {
     fn end_body(
         &mut self,
         alloc: Global,
-        repetition: Repetition,
+        repetition: Boxed<Repetition>,
         value: Bytes,
     ) -> Result<Pace, AllocError>
         requires go { self.old.control ≡ Control.Go }
         requires stage { repetition.stage ≡ Stage.Body }
         ensures { IfOk result (λ p. Comes (repeating repetition Stage.Body (all_back self.old.stack) Code.Done value self.old.state) self.old.state.known (weight_of self.old + 24) self.new p) }
     {
-        let Some(next) = &repetition.next else {
+        let Some(next) = &repetition.get().next else {
             self.stack.push(Frame::Repeating { repetition })?;
             self.end(Code::Done, value);
             return Ok(Pace::Moved);
@@ -137,25 +143,39 @@ impl Machine {
     fn begin_next(
         &mut self,
         alloc: Global,
-        mut repetition: Repetition,
+        mut repetition: Boxed<Repetition>,
         commands: Script,
     ) -> Result<Pace, AllocError>
         requires { self.old.control ≡ Control.Go }
         ensures { IfOk result (λ p. (text : List ℕ) → commands ≡ commands_at text 0 → Comes (evaluate repetition.depth text self.old.state (repeating repetition Stage.Next (all_back self.old.stack))) self.old.state.known (weight_of self.old + 16) self.new p) }
     {
-        let depth = repetition.depth;
-        repetition.stage = Stage::Next;
+        let depth = repetition.get().depth;
+        if depth == 0 {
+            let closing = self.cut(alloc, b"too many nested evaluations")?;
+            return Ok(Pace::Over(closing));
+        }
+        let mut value = Bytes::new(alloc);
+        let left = self.settle(alloc, commands, &mut value, depth - 1)?;
+        repetition.set_stage(Stage::Next);
         self.stack.push(Frame::Repeating { repetition })?;
-        Ok(self.begin_now(alloc, commands, depth)?)
+        if left.is_over() {
+            self.end(Code::Done, value);
+            return Ok(Pace::Moved);
+        }
+        Ok(self.next_command(alloc, left, value, depth - 1)?)
     }
 
     /// What comes behind the body of a loop: the third script of `for`, or the next test.
     #[tactic(auto, unfolding(crate::specs::Meaning::back, crate::specs::Meaning::all_back, crate::specs::Meaning::weight, crate::specs::Meaning::stack_weight))]
-    fn next_script(&mut self, alloc: Global, repetition: Repetition) -> Result<Pace, AllocError>
+    fn next_script(
+        &mut self,
+        alloc: Global,
+        repetition: Boxed<Repetition>,
+    ) -> Result<Pace, AllocError>
         requires { self.old.control ≡ Control.Go }
         ensures { IfOk result (λ p. Comes (next_script repetition self.old.state (all_back self.old.stack)) self.old.state.known (weight_of self.old + 16) self.new p) }
     {
-        let Some(next) = &repetition.next else {
+        let Some(next) = &repetition.get().next else {
             return self.next_test(alloc, repetition);
         };
         let commands = next.script(alloc)?;
@@ -167,7 +187,7 @@ impl Machine {
     fn behind_start(
         &mut self,
         alloc: Global,
-        repetition: Repetition,
+        repetition: Boxed<Repetition>,
         code: Code,
         value: Bytes,
     ) -> Result<Pace, AllocError>
@@ -187,7 +207,7 @@ impl Machine {
     fn behind_test(
         &mut self,
         alloc: Global,
-        repetition: Repetition,
+        repetition: Boxed<Repetition>,
         code: Code,
         value: Bytes,
     ) -> Result<Pace, AllocError>
@@ -210,7 +230,7 @@ impl Machine {
     fn behind_body(
         &mut self,
         alloc: Global,
-        repetition: Repetition,
+        repetition: Boxed<Repetition>,
         code: Code,
         value: Bytes,
     ) -> Result<Pace, AllocError>
@@ -229,7 +249,7 @@ impl Machine {
     fn behind_next(
         &mut self,
         alloc: Global,
-        repetition: Repetition,
+        repetition: Boxed<Repetition>,
         code: Code,
         value: Bytes,
     ) -> Result<Pace, AllocError>
@@ -249,14 +269,14 @@ impl Machine {
     pub(crate) fn repeat(
         &mut self,
         alloc: Global,
-        repetition: Repetition,
+        repetition: Boxed<Repetition>,
         code: Code,
         value: Bytes,
     ) -> Result<Pace, AllocError>
         requires { self.old.control ≡ Control.Go }
         ensures { IfOk result (λ p. Comes (repeating repetition repetition.stage (all_back self.old.stack) code value self.old.state) self.old.state.known (weight_of self.old + stage_weight repetition.stage) self.new p) }
     {
-        match repetition.stage {
+        match repetition.get().stage {
             Stage::Start => self.behind_start(alloc, repetition, code, value),
             Stage::Test => self.behind_test(alloc, repetition, code, value),
             Stage::Body => self.behind_body(alloc, repetition, code, value),
@@ -286,6 +306,7 @@ impl Machine {
             left: STEPS,
             depth,
         };
+        let repetition = Boxed::new(alloc, repetition)?;
         self.stack.push(Frame::Repeating { repetition })?;
         self.end(Code::Done, Bytes::new(alloc));
         Ok(Pace::Moved)
@@ -313,6 +334,7 @@ impl Machine {
             left: STEPS,
             depth,
         };
+        let repetition = Boxed::new(alloc, repetition)?;
         self.stack.push(Frame::Repeating { repetition })?;
         let start = start.copy(alloc)?;
         Ok(self.enter(alloc, start, depth)?)

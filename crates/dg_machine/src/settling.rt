@@ -1,41 +1,29 @@
 //! Commands that run where they stand: `set` and `incr` of a variable in use by words that are texts or values of variables
 //! in use, `expr` of a text that comes to its value by itself, and `set` of a variable in use to the value of such an `expr`
 //! in brackets. Nothing is asked for them, and no frame stands around them.
-ghost use Rattle.std.specs.Prelude.{◌≡◌, ◌≤◌, ◌<◌, codes, drop, length, IfNone, IfOk, IfSome, None, Ok, OnOk};
+ghost use Rattle.std.specs.Prelude.{◌≡◌, ◌≤◌, ◌<◌, ℕ, List, codes, drop, length, IfNone, IfOk, IfSome, None, Ok, OnOk, Some};
+ghost use Rattle.std.specs.Arc.{arc_value};
 ghost use Rattle.std.specs.Bool.{OnFalse};
 ghost use Rattle.std.specs.FinMap as procedures;
 ghost use Rattle.dg_scope.specs.Scopes.{value_limit};
 ghost use Rattle.dg_language.specs.declared.substitution.Substitution.{Substitution as Step};
 ghost use Rattle.dg_language.specs.Variables.{increased};
-ghost use Rattle.dg_machine.specs.Settling.{AsksNothing, ComesBy, GoesOnAs, HasText, HasWord, IsAfter, IsOnly, Passes, Sets, Settles};
+ghost use Rattle.dg_compiled.specs.Ways.{HasCode, HasWay, HasWord};
+ghost use Rattle.dg_compiled.specs.declared.ways.Way.{Way as TheWay};
+ghost use Rattle.dg_machine.specs.Settling.{AsksNothing, ComesBy, GoesOnAs, HasText, IsAfter, Passes, Returns, Sets, Settles, Yields};
 
 use crate::machine::Machine;
 use dg_bytes::{Bytes, TryCopy};
 use dg_compiled::{
-    Calculation, Commands, Computed, Formula, KEPT, Script, compute_on, ends_word, short_text,
+    Calculation, Commands, Computed, Formula, KEPT, Script, Way, compute_on, ends_word,
+    literal_word, short_text,
 };
 use dg_expr::decimal;
 use dg_forms::{in_decimal, increased};
 use dg_language::{State, Substitution};
 use dg_scope::LONGEST_VALUE;
-use dg_shelf::Shelf;
 use std::alloc::{AllocError, Global};
-
-/// The text of a step that is one, unless it is longer than a value may be.
-fn literal(step: &Substitution) -> Option<&Bytes>
-    ensures text { IfSome result (λ t. step.now ≡ Step.Literal t.now) }
-    ensures short { IfSome result (λ t. length t.now ≤ value_limit) }
-{
-    match step {
-        Substitution::Literal(text) => {
-            if text.len() > LONGEST_VALUE {
-                return None;
-            }
-            Some(text)
-        }
-        _ => None,
-    }
-}
+use std::sync::Arc;
 
 /// A value, unless it is longer than a value may be.
 fn short(value: Bytes) -> Option<Bytes>
@@ -46,18 +34,6 @@ fn short(value: Bytes) -> Option<Bytes>
         return None;
     }
     Some(value)
-}
-
-/// The text of the word at a place, where its steps are one text.
-fn literal_word(steps: &[Substitution], at: usize) -> Option<&Bytes>
-    requires { at ≤ 4 }
-    ensures word { IfSome result (λ t. HasWord steps.now at (Step.Literal t.now)) }
-    ensures short { IfSome result (λ t. length t.now ≤ value_limit) }
-{
-    if at + 2 > steps.len() || !ends_word(&steps[at + 1]) {
-        return None;
-    }
-    literal(&steps[at])
 }
 
 /// The word at a place, where its steps are one text, or the value of one variable that is in use.
@@ -151,81 +127,32 @@ fn value_counted(
     Ok(value)
 }
 
-/// The variable that a command sets or counts up and its value then, if the command runs where it stands.
-fn setting<'a>(
-    alloc: Global,
-    state: &State,
-    steps: &'a [Substitution],
-) -> Result<Option<(&'a Bytes, Bytes)>, AllocError>
-    ensures sets { IfOk result (λ o. IfSome o (λ r. Sets steps.now state.now r.0.now r.1)) }
-    ensures short { IfOk result (λ o. IfSome o (λ r. length r.1 ≤ value_limit)) }
-{
-    let Some(command) = literal_word(steps, 0) else {
-        return Ok(None);
-    };
-    let Some(name) = literal_word(steps, 2) else {
-        return Ok(None);
-    };
-    let value = if command.is(b"set") {
-        value_set(alloc, state, steps, name)?
-    } else if command.is(b"incr") {
-        value_counted(alloc, state, steps, name)?
-    } else {
-        None
-    };
-    match value {
-        Some(value) => Ok(Some((name, value))),
-        None => Ok(None),
-    }
-}
-
-/// The value of `expr text`, where the expression comes to one by itself.
+/// The value of an `expr` of this code, where it comes to one by itself.
 fn value_computed(
     alloc: Global,
     state: &State,
-    formulas: &mut Shelf<Formula>,
-    steps: &[Substitution],
+    formula: &Arc<Formula>,
     depth: u32,
 ) -> Result<Option<Bytes>, AllocError>
-    ensures { IfOk result (λ o. IfSome o (λ v. Settles depth steps.now state.now v state.now)) }
+    ensures value { IfOk result (λ o. IfSome o (λ v. (steps : List Step) → HasCode steps (arc_value formula.now) → Settles depth steps state.now v state.now)) }
+    ensures short { IfOk result (λ o. IfSome o (λ v. length v ≤ value_limit)) }
 {
-    let Some(command) = literal_word(steps, 0) else {
-        return Ok(None);
-    };
-    if steps.len() != 4 || !command.is(b"expr") || is_hidden(state, b"expr") {
+    if is_hidden(state, b"expr") {
         return Ok(None);
     }
-    let Some(text) = literal_word(steps, 2) else {
-        return Ok(None);
-    };
-    let formula = formulas.reading(alloc, text)?;
-    let Some(mut calculation) = Calculation::of(alloc, formula, depth) else {
+    let Some(mut calculation) = Calculation::of(alloc, Arc::try_clone(formula)?, depth) else {
         return Ok(None);
     };
     match compute_on(alloc, state, &mut calculation)? {
         Computed::Value(value) => {
             let value = in_decimal(alloc, value)?;
-            Ok(Some(value))
+            Ok(short(value))
         }
         Computed::Whole(number) => {
             let value = decimal(alloc, number)?;
-            Ok(Some(value))
+            Ok(short(value))
         }
         Computed::Failed(_) | Computed::Operand(_) => Ok(None),
-    }
-}
-
-/// The script of the word at a place, where its steps are one script in brackets.
-fn script_word(steps: &[Substitution], at: usize) -> Option<&Bytes>
-    requires { at ≤ 4 }
-    ensures { IfSome result (λ t. HasWord steps.now at (Step.Script t.now)) }
-{
-    if at + 2 > steps.len() || !ends_word(&steps[at + 1]) {
-        return None;
-    }
-    match &steps[at] {
-        Substitution::Script(script) => Some(script),
-        _ => None,
     }
 }
 
@@ -235,26 +162,24 @@ fn begins_expr(script: &Bytes) -> bool {
 }
 
 impl Machine {
-    /// The value of the command of a script that has one only, where that is an expression that comes to its value by itself. Its
-    /// step is taken then; else nothing has changed.
+    /// The value of a script that has one command, an `expr` of this code, where it comes to one by itself. Its step is taken
+    /// then; else nothing has changed.
     fn value_of_only(
         &mut self,
         alloc: Global,
-        commands: &Commands,
+        formula: &Arc<Formula>,
         depth: u32,
     ) -> Result<Option<Bytes>, AllocError>
-        ensures some { IfOk result (λ o. IfSome o (λ v. IsOnly depth commands.now self.old.state v)) }
+        ensures some { IfOk result (λ o. IfSome o (λ v. Yields depth (arc_value formula.now) self.old.state v)) }
+        ensures short { IfOk result (λ o. IfSome o (λ v. length v ≤ value_limit)) }
         ensures after { IfOk result (λ o. IsAfter o self.old.state self.new.state) }
         ensures same { OnOk result (self.new ≡ record self.old { state = self.new.state }) }
     {
-        if commands.count() != 1 || !self.state.has_step() {
+        if !self.state.has_step() {
             return Ok(None);
         }
-        let Some(steps) = commands.steps_at(0) else {
-            return Ok(None);
-        };
         self.state.take_step();
-        match value_computed(alloc, &self.state, &mut self.formulas, steps, depth)? {
+        match value_computed(alloc, &self.state, formula, depth)? {
             Some(value) => Ok(Some(value)),
             None => {
                 self.state.give_step_back();
@@ -279,75 +204,145 @@ impl Machine {
             return Ok(None);
         }
         let commands = self.scripts.reading(alloc, script)?;
-        let value = self.value_of_only(alloc, &commands, depth - 1)?;
+        if commands.count() != 1 {
+            return Ok(None);
+        }
+        let Some((_steps, Way::Computing(formula))) = commands.way_at(0) else {
+            return Ok(None);
+        };
+        let value = self.value_of_only(alloc, formula, depth - 1)?;
         Ok(value)
     }
 
-    /// Gives a variable in use the value of a script, if `set name [script]` runs where it stands. The value, or else nothing has
-    /// changed.
-    fn set_computed(
+    /// Runs a `set` of these words.
+    fn set_in_place(
         &mut self,
         alloc: Global,
         steps: &[Substitution],
-        depth: u32,
     ) -> Result<Option<Bytes>, AllocError>
-        ensures some { IfOk result (λ o. IfSome o (λ v. Settles depth steps.now self.old.state v self.new.state)) }
+        requires { HasWord steps.now 0 (Step.Literal (codes "set")) }
+        ensures some { IfOk result (λ o. IfSome o (λ v. (depth : ℕ) → Settles depth steps.now self.old.state v self.new.state)) }
         ensures none { IfOk result (λ o. IfNone o (self.new.state ≡ self.old.state)) }
         ensures asks { OnOk result (AsksNothing self.old.state self.new.state) }
         ensures same { OnOk result (self.new ≡ record self.old { state = self.new.state }) }
     {
-        let Some(command) = literal_word(steps, 0) else {
-            return Ok(None);
-        };
-        if steps.len() != 6 || !command.is(b"set") {
-            return Ok(None);
-        }
-        let Some(script) = script_word(steps, 4) else {
-            return Ok(None);
-        };
-        if !begins_expr(script) || is_hidden(&self.state, b"set") {
-            return Ok(None);
-        }
         let Some(name) = literal_word(steps, 2) else {
             return Ok(None);
         };
-        let Some(_old) = self.state.value_in_use(name.as_slice()) else {
+        let Some(value) = value_set(alloc, &self.state, steps, name)? else {
             return Ok(None);
         };
-        let Some(value) = self.value_of_script(alloc, script, depth)? else {
-            return Ok(None);
-        };
-        if value.len() > LONGEST_VALUE {
-            self.state.give_step_back();
-            return Ok(None);
-        }
         self.state
             .assign(alloc, name.as_slice(), value.copy(alloc)?)?;
         Ok(Some(value))
     }
 
-    /// Runs the command of these words, whose step is taken, if it runs where it stands. Its value, or else nothing has changed.
-    fn run_in_place(
+    /// Runs an `incr` of these words.
+    fn count_in_place(
         &mut self,
         alloc: Global,
         steps: &[Substitution],
+    ) -> Result<Option<Bytes>, AllocError>
+        requires { HasWord steps.now 0 (Step.Literal (codes "incr")) }
+        ensures some { IfOk result (λ o. IfSome o (λ v. (depth : ℕ) → Settles depth steps.now self.old.state v self.new.state)) }
+        ensures none { IfOk result (λ o. IfNone o (self.new.state ≡ self.old.state)) }
+        ensures asks { OnOk result (AsksNothing self.old.state self.new.state) }
+        ensures same { OnOk result (self.new ≡ record self.old { state = self.new.state }) }
+    {
+        let Some(name) = literal_word(steps, 2) else {
+            return Ok(None);
+        };
+        let Some(value) = value_counted(alloc, &self.state, steps, name)? else {
+            return Ok(None);
+        };
+        self.state
+            .assign(alloc, name.as_slice(), value.copy(alloc)?)?;
+        Ok(Some(value))
+    }
+
+    /// The value of the command at a place, if that is a `return` of an `expr` that comes to one by itself. Its steps are taken
+    /// then; else nothing has changed.
+    pub(crate) fn value_returned(
+        &mut self,
+        alloc: Global,
+        commands: &Commands,
+        at: usize,
         depth: u32,
     ) -> Result<Option<Bytes>, AllocError>
+        ensures some { IfOk result (λ o. IfSome o (λ v. Returns depth (drop at commands.now) self.old.state v self.new.state)) }
+        ensures none { IfOk result (λ o. IfNone o (self.new.state ≡ self.old.state)) }
+        ensures asks { OnOk result (AsksNothing self.old.state self.new.state) }
+        ensures same { OnOk result (self.new ≡ record self.old { state = self.new.state }) }
+    {
+        let Some((_steps, Way::Returning(formula))) = commands.way_at(at) else {
+            return Ok(None);
+        };
+        if depth == 0 || is_hidden(&self.state, b"return") || !self.state.has_step() {
+            return Ok(None);
+        }
+        self.state.take_step();
+        match self.value_of_only(alloc, formula, depth - 1)? {
+            Some(value) => Ok(Some(value)),
+            None => {
+                self.state.give_step_back();
+                Ok(None)
+            }
+        }
+    }
+
+    /// Gives a variable in use the value of the script of these words, which is an `expr` of this code, if that comes to one by
+    /// itself. The value, or else nothing has changed.
+    fn set_computed(
+        &mut self,
+        alloc: Global,
+        steps: &[Substitution],
+        formula: &Arc<Formula>,
+        depth: u32,
+    ) -> Result<Option<Bytes>, AllocError>
+        requires { HasWay steps.now (TheWay.SettingComputed formula.now) }
         ensures some { IfOk result (λ o. IfSome o (λ v. Settles depth steps.now self.old.state v self.new.state)) }
         ensures none { IfOk result (λ o. IfNone o (self.new.state ≡ self.old.state)) }
         ensures asks { OnOk result (AsksNothing self.old.state self.new.state) }
         ensures same { OnOk result (self.new ≡ record self.old { state = self.new.state }) }
     {
-        if let Some((name, value)) = setting(alloc, &self.state, steps)? {
-            self.state
-                .assign(alloc, name.as_slice(), value.copy(alloc)?)?;
-            return Ok(Some(value));
+        let Some(name) = literal_word(steps, 2) else {
+            return Ok(None);
+        };
+        if depth == 0 || is_hidden(&self.state, b"set") {
+            return Ok(None);
         }
-        if let Some(value) = value_computed(alloc, &self.state, &mut self.formulas, steps, depth)? {
-            return Ok(Some(value));
+        let Some(_old) = self.state.value_in_use(name.as_slice()) else {
+            return Ok(None);
+        };
+        let Some(value) = self.value_of_only(alloc, formula, depth - 1)? else {
+            return Ok(None);
+        };
+        self.state
+            .assign(alloc, name.as_slice(), value.copy(alloc)?)?;
+        Ok(Some(value))
+    }
+
+    /// Runs the command of these words, whose step is taken, in this way. Its value, or else nothing has changed.
+    fn run_in_place(
+        &mut self,
+        alloc: Global,
+        steps: &[Substitution],
+        way: &Way,
+        depth: u32,
+    ) -> Result<Option<Bytes>, AllocError>
+        requires { HasWay steps.now way.now }
+        ensures some { IfOk result (λ o. IfSome o (λ v. Settles depth steps.now self.old.state v self.new.state)) }
+        ensures none { IfOk result (λ o. IfNone o (self.new.state ≡ self.old.state)) }
+        ensures asks { OnOk result (AsksNothing self.old.state self.new.state) }
+        ensures same { OnOk result (self.new ≡ record self.old { state = self.new.state }) }
+    {
+        match way {
+            Way::Setting => Ok(self.set_in_place(alloc, steps)?),
+            Way::Counting => Ok(self.count_in_place(alloc, steps)?),
+            Way::Computing(formula) => Ok(value_computed(alloc, &self.state, formula, depth)?),
+            Way::SettingComputed(formula) => Ok(self.set_computed(alloc, steps, formula, depth)?),
+            Way::Returning(_) | Way::Other => Ok(None),
         }
-        let value = self.set_computed(alloc, steps, depth)?;
-        Ok(value)
     }
 
     /// Runs the command at a place, if it runs where it stands and a step is left for it. Its value, or else nothing has changed.
@@ -362,14 +357,14 @@ impl Machine {
         ensures asks { OnOk result (AsksNothing self.old.state self.new.state) }
         ensures same { OnOk result (self.new ≡ record self.old { state = self.new.state }) }
     {
-        let Some(steps) = commands.steps_at(at) else {
+        let Some((steps, way)) = commands.way_at(at) else {
             return Ok(None);
         };
         if !self.state.has_step() {
             return Ok(None);
         }
         self.state.take_step();
-        match self.run_in_place(alloc, steps, depth)? {
+        match self.run_in_place(alloc, steps, way, depth)? {
             Some(value) => Ok(Some(value)),
             None => {
                 self.state.give_step_back();
@@ -380,7 +375,7 @@ impl Machine {
 
     /// Runs the commands from a place on that run where they stand, one after another, up to any other or to the last step. The
     /// place of the command that is next, and in `value` the value of the last.
-    fn settle_from(
+    pub(crate) fn settle_from(
         &mut self,
         alloc: Global,
         commands: &Commands,

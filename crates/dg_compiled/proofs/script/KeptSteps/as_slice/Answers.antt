@@ -1,4 +1,4 @@
-use Rattle.std.proofs.Common.{◌∙◌, ap, map}
+use Rattle.std.proofs.Common.{◌∙◌, ap, sym}
 use Rattle.std.specs.Arc.{arc_value}
 use Rattle.dg_compiled.specs.Steps.{steps_in}
 use Rattle.dg_compiled.proofs.TextLemmas.{kept-at}
@@ -6,5 +6,5 @@ use Rattle.dg_compiled.proofs.script.KeptSteps.as_slice.Goals as goal
 
 pub returns : goal.returns
 returns c =
-    let all = c.as_slice.ensures ∙ c.behind-self.invariant ∙ ap (map steps_in) c.behind-self.view_is ∙ ap (map steps_in) c.deref.ensures in
-    c.as_slice-2.ensures ∙ kept-at (arc_value c.self.inside.commands) c.self.inside.at _ c.self.invariant (rw all at c.index-as_slice-self.is) ∙ c.self.view_is
+    let all = c.as_slice.ensures ∙ c.behind-self.view_is ∙ c.deref.ensures in
+    c.steps.ensures ∙ kept-at (arc_value c.self.inside.commands) c.self.inside.at _ c.self.invariant (rw all at c.index-as_slice-self.is) ∙ c.self.view_is

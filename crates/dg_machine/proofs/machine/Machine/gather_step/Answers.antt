@@ -18,7 +18,7 @@ returns-in_ok-begin_index-in-IndexBegins c =
 
 pub returns-in_ok-run_script-in-Script : goal.returns-in_ok-run_script-in-Script
 returns-in_ok-run_script-in-Script c =
-    rw c.in-Script.is (Goes-comes _ _ _ _ _ _ _ c.in_ok-run_script-in-Script.ensures (gather-script _ _ _ _ _ _ _ _ _ _ refl) (omega arith))
+    rw c.in-Script.is (Comes-along _ _ _ _ _ _ _ c.in_ok-run_script-in-Script.ensures (gather-script _ _ _ _ _ _ _ _ _ _ refl) (omega arith))
 
 pub returns-in_ok-end_word-in-WordEnds : goal.returns-in_ok-end_word-in-WordEnds
 returns-in_ok-end_word-in-WordEnds c =

@@ -1,9 +1,18 @@
-use Rattle.std.proofs.Common.{◌∙◌}
-use Rattle.dg_machine.proofs.SettlingLemmas.{if-some, text-computes}
+use Rattle.std.proofs.Common.{◌≡◌, ◌∙◌, length, sym}
+use Rattle.std.specs.Arc.{arc_value}
+use Rattle.dg_compiled.specs.Ways.{HasCode}
+use Rattle.dg_machine.proofs.SettlingLemmas.{if-some, only-yields, text-computes}
 use Rattle.dg_machine.proofs.machine.Machine.value_of_script.Goals as goal
 
 pub returns-clause-some : goal.returns-clause-some
 returns-clause-some c =
+    let told = c.in-Some-default-Computing.ensures in
+    let steps = c.in-Some-default-Computing._steps.now in
+    let code = arc_value c.in-Some-default-Computing.formula in
+    let coded : HasCode steps code = rw c.in-Some-default-Computing.field-0-1-is at told.way in
+    let commands = c.deref-2.result.now in
+    let one : length commands ≡ 1 = rw (c.deref.ensures, ← c.deref-2.ensures) at (sym c.count.ensures ∙ c.if-count-ne1.false) in
     if-some _ _ _
-    (λ v only. text-computes c.args.depth c.args.script.now c.deref.result.now c.args.self.now.state v c.if-depth-eq0.false (c.deref.ensures ∙ c.in_ok-commands.ensures) only)
+    (λ v yields. text-computes c.args.depth c.args.script.now commands c.args.self.now.state v c.if-depth-eq0.false (c.deref-2.ensures ∙ c.in_ok-commands.ensures)
+    (only-yields _ commands steps code _ v told.steps one coded yields))
     c.in_ok-value.ensures.some
