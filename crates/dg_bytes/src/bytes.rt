@@ -11,7 +11,8 @@ ghost use Rattle.std.proofs.Common.{rules};
 
 use crate::listed::Listed;
 use crate::order::{is_same, order};
-use crate::text::Text;
+use crate::text::{Kept, SHORT, Text, extend_shared};
+use arrayvec::ArrayVec;
 use std::alloc::{AllocError, Global};
 use std::cmp::Ordering;
 use std::convert::AsSlice;
@@ -23,10 +24,12 @@ use std::{fmt, mem};
 /// What is kept of bytes.
 #[derive(Drop)]
 enum Form {
+    /// A few bytes, held in the value itself, and where memory for more is from.
+    Short(ArrayVec<u8, SHORT>, Global),
     /// Bytes that are held here alone.
     Own(Vec<u8>),
     /// Bytes that are shared.
-    Once(Text),
+    Once(Arc<Vec<u8>>),
     /// The canonical text of a list whose elements are kept beside it, shared.
     Listed(Arc<Listed>),
 }
@@ -68,7 +71,9 @@ impl Bytes {
     pub fn new(alloc: Global) -> Bytes
         ensures { result ≡ [] }
     {
-        Bytes::from_vec(Vec::new(alloc))
+        Bytes {
+            form: Form::Short(ArrayVec::new(), alloc),
+        }
     }
 
     /// Takes the bytes of a vector.
@@ -84,7 +89,13 @@ impl Bytes {
     pub fn from_slice(alloc: Global, bytes: &[u8]) -> Result<Bytes, AllocError>
         ensures { IfOk result (λ b. b ≡ bytes.now) }
     {
-        Ok(Bytes::from_vec(Vec::from_slice(alloc, bytes)?))
+        let mut short = ArrayVec::new();
+        match short.try_extend_from_slice(bytes) {
+            Ok(()) => Ok(Bytes {
+                form: Form::Short(short, alloc),
+            }),
+            Err(_) => Ok(Bytes::from_vec(Vec::from_slice(alloc, bytes)?)),
+        }
     }
 
     /// The bytes as a vector.
@@ -93,8 +104,9 @@ impl Bytes {
     {
         let Bytes { form } = self;
         match form {
+            Form::Short(short, alloc) => Vec::from_slice(alloc, short.as_slice()),
             Form::Own(bytes) => Ok(bytes),
-            Form::Once(text) => Vec::from_slice(text.allocator(), text.as_slice()),
+            Form::Once(shared) => Vec::from_slice(*shared.allocator(), shared.as_slice()),
             Form::Listed(list) => Vec::from_slice(list.allocator(), list.as_slice()),
         }
     }
@@ -103,9 +115,12 @@ impl Bytes {
     pub fn from_text(text: Text) -> Bytes
         ensures { result ≡ text }
     {
-        Bytes {
-            form: Form::Once(text),
-        }
+        let Text { kept } = text;
+        let form = match kept {
+            Kept::Short(short, alloc) => Form::Short(short, alloc),
+            Kept::Shared(bytes) => Form::Once(bytes),
+        };
+        Bytes { form }
     }
 
     /// The bytes as a text. Bytes that are kept aren't copied.
@@ -113,8 +128,11 @@ impl Bytes {
         ensures { IfOk result (λ t. t ≡ self.now) }
     {
         match &self.form {
+            Form::Short(short, _) => Text::from_slice(alloc, short.as_slice()),
             Form::Own(bytes) => Text::from_slice(alloc, bytes.as_slice()),
-            Form::Once(text) => text.share(),
+            Form::Once(shared) => Ok(Text {
+                kept: Kept::Shared(Arc::try_clone(shared)?),
+            }),
             Form::Listed(list) => Text::from_slice(alloc, list.as_slice()),
         }
     }
@@ -163,13 +181,13 @@ impl Bytes {
         }
     }
 
-    /// From now on a copy costs no copy of the bytes.
+    /// From now on a copy costs no copy of the bytes, unless they are few.
     pub fn keep(&mut self, alloc: Global) -> Result<(), AllocError>
         ensures { OnOk result (self.new ≡ self.old) }
     {
         if let Form::Own(bytes) = &mut self.form {
             let bytes = mem::replace(bytes, Vec::new(alloc));
-            self.form = Form::Once(Text::new(alloc, bytes)?);
+            *self = Bytes::from_text(Text::new(alloc, bytes)?);
         }
         Ok(())
     }
@@ -179,8 +197,11 @@ impl Bytes {
         ensures { IfOk result (λ b. b ≡ self.now) }
     {
         match &self.form {
+            Form::Short(short, _) => Bytes::from_slice(alloc, short.as_slice()),
             Form::Own(bytes) => Bytes::from_slice(alloc, bytes.as_slice()),
-            Form::Once(text) => Ok(Bytes::from_text(text.share()?)),
+            Form::Once(shared) => Ok(Bytes {
+                form: Form::Once(Arc::try_clone(shared)?),
+            }),
             Form::Listed(list) => Ok(Bytes {
                 form: Form::Listed(Arc::try_clone(list)?),
             }),
@@ -192,8 +213,9 @@ impl Bytes {
         ensures { result.now ≡ self.now }
     {
         match &self.form {
+            Form::Short(short, _) => short.as_slice(),
             Form::Own(bytes) => bytes.as_slice(),
-            Form::Once(text) => text.as_slice(),
+            Form::Once(shared) => shared.as_slice(),
             Form::Listed(list) => list.as_slice(),
         }
     }
@@ -233,13 +255,22 @@ impl Bytes {
         ensures err { OnErr result (self.new ≡ self.old) }
     {
         match &mut self.form {
+            Form::Short(short, alloc) => {
+                if short.try_extend_from_slice(bytes).is_ok() {
+                    return Ok(());
+                }
+                let mut own = Vec::from_slice(*alloc, short.as_slice())?;
+                own.extend_from_slice(bytes)?;
+                self.form = Form::Own(own);
+                Ok(())
+            }
             Form::Own(own) => own.extend_from_slice(bytes),
-            Form::Once(text) => text.extend(bytes),
+            Form::Once(shared) => extend_shared(shared, bytes),
             Form::Listed(list) => {
                 let alloc = list.allocator();
                 let mut copy = Vec::from_slice(alloc, list.as_slice())?;
                 copy.extend_from_slice(bytes)?;
-                self.form = Form::Once(Text::new(alloc, copy)?);
+                self.form = Form::Once(Arc::new(alloc, copy)?);
                 Ok(())
             }
         }
@@ -250,15 +281,10 @@ impl Bytes {
         ensures { self.new ≡ [] }
     {
         match &mut self.form {
+            Form::Short(_, alloc) => *self = Bytes::new(*alloc),
             Form::Own(own) => own.clear(),
-            Form::Once(text) => {
-                let none = Vec::new(text.allocator());
-                self.form = Form::Own(none);
-            }
-            Form::Listed(list) => {
-                let none = Vec::new(list.allocator());
-                self.form = Form::Own(none);
-            }
+            Form::Once(shared) => *self = Bytes::new(*shared.allocator()),
+            Form::Listed(list) => *self = Bytes::new(list.allocator()),
         }
     }
 }
@@ -301,11 +327,10 @@ impl Clone for Bytes {
 
     fn clone(&self) -> Result<Bytes, AllocError> {
         match &self.form {
-            Form::Own(bytes) => Bytes::from_slice(*bytes.allocator(), bytes.as_slice()),
-            Form::Once(text) => Ok(Bytes::from_text(text.share()?)),
-            Form::Listed(list) => Ok(Bytes {
-                form: Form::Listed(Arc::try_clone(list)?),
-            }),
+            Form::Short(_, alloc) => self.share(*alloc),
+            Form::Own(bytes) => self.share(*bytes.allocator()),
+            Form::Once(shared) => self.share(*shared.allocator()),
+            Form::Listed(list) => self.share(list.allocator()),
         }
     }
 }

@@ -123,11 +123,14 @@ fn push_further(text: &mut Vec<u8>, elements: &[Text]) -> Result<(), AllocError>
     Ok(())
 }
 
+/// How many bytes the text of an added element has room for at once.
+const ROOM: usize = 32;
+
 /// The text of elements that stand behind others.
 pub(crate) fn further(alloc: Global, elements: &[Text]) -> Result<Vec<u8>, AllocError>
     ensures { IfOk result (λ text. text.items ≡ further_text elements.now) }
 {
-    let mut text = Vec::new(alloc);
+    let mut text = Vec::with_capacity(alloc, ROOM)?;
     push_further(&mut text, elements)?;
     Ok(text)
 }

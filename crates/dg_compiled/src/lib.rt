@@ -17,7 +17,7 @@ mod wholes;
 pub use crate::calculation::Calculation;
 pub use crate::computing::{Computed, compute_on};
 pub use crate::instructions::{Condition, Formula};
-pub use crate::lists::{LONGEST_LIST, Listing, with_elements, with_lists};
+pub use crate::lists::{Listing, with_elements, with_lists};
 pub use crate::making::{Making, first_or_empty};
 pub use crate::script::{Begun, Body, Commands, KEPT, Script, WordSteps};
 pub use crate::stack::Stack;

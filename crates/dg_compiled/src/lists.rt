@@ -9,8 +9,6 @@ use std::marker::Model;
 
 /// From how many bytes on a list is kept with its elements: a shorter one is read as fast.
 const LONG: usize = 64;
-/// Up to how many bytes it is.
-pub const LONGEST_LIST: usize = 65_536;
 
 /// A text that was read as a list: the same text with its elements beside it, where it is the canonical text of a list. A
 /// contract sees nothing of it.
@@ -45,7 +43,7 @@ pub fn with_elements(
 ) -> Result<Bytes, AllocError>
     ensures { IfOk result (λ b. b ≡ text) }
 {
-    if text.len() < LONG || text.len() > LONGEST_LIST || text.elements().is_some() {
+    if text.len() < LONG || text.elements().is_some() {
         return Ok(text);
     }
     let listing = lists.reading(alloc, &text)?;

@@ -6,10 +6,11 @@ use crate::boxed::Boxed;
 use crate::frame::{Closing, Control, Frame, Opening, Stop};
 use crate::machine::Machine;
 use dg_bytes::Seq;
-use dg_compiled::{KEPT, LONGEST_LIST, Stack};
+use dg_compiled::Stack;
 use dg_language::{Ask, Close, State};
 use dg_match::Programs;
 use dg_results::Verdict;
+use dg_scope::LONGEST_VALUE;
 use dg_shelf::Shelf;
 use dg_world::{Answer, Read, TestId};
 use std::alloc::{AllocError, Global};
@@ -17,7 +18,9 @@ use std::marker::Model;
 
 /// How many scripts, expressions and pairs of `switch` are kept at most, of each.
 const PLACES: usize = 64;
-/// How many long lists a machine keeps beside their texts.
+/// How many bytes the texts of each have together at most: what is kept of them takes many times their room.
+const ROOM: usize = 262_144;
+/// How many long lists a machine keeps beside their texts, which have as many bytes together as a value may have.
 const LIST_PLACES: usize = 4;
 
 /// The judging of a test, between two questions. A contract sees its test, the answers so far and
@@ -120,10 +123,10 @@ impl Evaluation {
             stack,
             control: Control::Go,
             programs: Programs::new(alloc),
-            scripts: Shelf::new(alloc, PLACES, KEPT),
-            formulas: Shelf::new(alloc, PLACES, KEPT),
-            pairs: Shelf::new(alloc, PLACES, KEPT),
-            lists: Shelf::new(alloc, LIST_PLACES, LONGEST_LIST),
+            scripts: Shelf::new(alloc, PLACES, ROOM),
+            formulas: Shelf::new(alloc, PLACES, ROOM),
+            pairs: Shelf::new(alloc, PLACES, ROOM),
+            lists: Shelf::new(alloc, LIST_PLACES, LONGEST_VALUE),
         };
         let machine = Boxed::new(alloc, machine)?;
         Ok(Evaluation { test, machine })

@@ -61,13 +61,14 @@ impl<T: Reading> Entry<T> {
     }
 }
 
-/// Readings of texts that were read lately, at most one at each of a number of places. The places are
-/// made when the first text is read. A contract sees nothing of it: what is read of a text is the same
-/// whether it was kept or not.
+/// Readings of texts that were read lately, at most one at each of a number of places, and of so many bytes of texts
+/// together. The places are made when the first text is read. A contract sees nothing of it: what is read of a text is the
+/// same whether it was kept or not.
 pub struct Shelf<T: Reading> {
     places: Vec<Option<Entry<T>>>,
     count: usize,
-    longest: usize,
+    room: usize,
+    left: usize,
 }
 
 impl<T: Reading> Drop for Shelf<T> {
@@ -75,7 +76,8 @@ impl<T: Reading> Drop for Shelf<T> {
         let Shelf {
             places: _,
             count: _,
-            longest: _,
+            room: _,
+            left: _,
         } = self;
     }
 }
@@ -117,12 +119,13 @@ fn place_of(text: &[u8], places: usize) -> usize {
 }
 
 impl<T: Reading> Shelf<T> {
-    /// No readings yet, for so many places, of texts of at most so many bytes.
-    pub fn new(alloc: Global, count: usize, longest: usize) -> Shelf<T> {
+    /// No readings yet, for so many places, and for so many bytes of texts.
+    pub fn new(alloc: Global, count: usize, room: usize) -> Shelf<T> {
         Shelf {
             places: Vec::new(alloc),
             count,
-            longest,
+            room,
+            left: room,
         }
     }
 
@@ -146,19 +149,24 @@ impl<T: Reading> Shelf<T> {
         }
     }
 
-    /// Reads a text, and keeps what was read unless the text is too long.
+    /// Reads a text, and keeps what was read unless the text alone is longer than all may be.
     fn read(&mut self, alloc: Global, text: &Bytes) -> Result<Arc<T>, AllocError>
         ensures { IfOk result (λ r. arc_value r ≡ T.read_of text.now) }
     {
         let reading = Arc::new(alloc, T::read(alloc, text.as_slice())?)?;
-        if text.len() <= self.longest {
+        if text.len() <= self.room {
             self.keep(Entry::new(alloc, text, &reading)?)?;
         }
         Ok(reading)
     }
 
-    /// Keeps a reading in the place of its text.
+    /// Keeps a reading in the place of its text. Where there is too little room left for the text, all others are let go.
     fn keep(&mut self, entry: Entry<T>) -> Result<(), AllocError> {
+        let length = entry.text.len();
+        if self.left < length {
+            self.places.clear();
+            self.left = self.room;
+        }
         if self.places.is_empty() {
             for _ in 0..self.count {
                 self.places.push(None)?;
@@ -166,6 +174,11 @@ impl<T: Reading> Shelf<T> {
         }
         let place = place_of(entry.text.as_slice(), self.places.len());
         if let Some(slot) = self.places.get_mut(place) {
+            let before = match slot {
+                Some(old) => old.text.len(),
+                None => 0,
+            };
+            self.left = self.left.saturating_add(before).saturating_sub(length);
             *slot = Some(entry);
         }
         Ok(())
