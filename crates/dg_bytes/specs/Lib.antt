@@ -1,3 +1,4 @@
+pub mod Few
 pub mod Forms
 pub mod Canonical
 pub mod Added

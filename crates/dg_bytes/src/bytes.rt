@@ -9,10 +9,10 @@ ghost use Rattle.std.specs.Cmp.{partial_equiv_from_equiv};
 ghost use Rattle.std.specs.Cmp.Rules.{hashing};
 ghost use Rattle.std.proofs.Common.{rules};
 
+use crate::few::Few;
 use crate::listed::Listed;
 use crate::order::{is_same, order};
-use crate::text::{Kept, SHORT, Text, extend_shared};
-use arrayvec::ArrayVec;
+use crate::text::{Kept, Text, extend_shared};
 use std::alloc::{AllocError, Global};
 use std::cmp::Ordering;
 use std::convert::AsSlice;
@@ -25,7 +25,7 @@ use std::{fmt, mem};
 #[derive(Drop)]
 enum Form {
     /// A few bytes, held in the value itself, and where memory for more is from.
-    Short(ArrayVec<u8, SHORT>, Global),
+    Short(Few, Global),
     /// Bytes that are held here alone.
     Own(Vec<u8>),
     /// Bytes that are shared.
@@ -71,9 +71,7 @@ impl Bytes {
     pub fn new(alloc: Global) -> Bytes
         ensures { result ≡ [] }
     {
-        Bytes {
-            form: Form::Short(ArrayVec::new(), alloc),
-        }
+        Bytes::from_vec(Vec::new(alloc))
     }
 
     /// Takes the bytes of a vector.
@@ -89,13 +87,11 @@ impl Bytes {
     pub fn from_slice(alloc: Global, bytes: &[u8]) -> Result<Bytes, AllocError>
         ensures { IfOk result (λ b. b ≡ bytes.now) }
     {
-        let mut short = ArrayVec::new();
-        match short.try_extend_from_slice(bytes) {
-            Ok(()) => Ok(Bytes {
-                form: Form::Short(short, alloc),
-            }),
-            Err(_) => Ok(Bytes::from_vec(Vec::from_slice(alloc, bytes)?)),
-        }
+        let form = match Few::of(bytes) {
+            Some(few) => Form::Short(few, alloc),
+            None => Form::Own(Vec::from_slice(alloc, bytes)?),
+        };
+        Ok(Bytes { form })
     }
 
     /// The bytes as a vector.
@@ -104,7 +100,7 @@ impl Bytes {
     {
         let Bytes { form } = self;
         match form {
-            Form::Short(short, alloc) => Vec::from_slice(alloc, short.as_slice()),
+            Form::Short(few, alloc) => Vec::from_slice(alloc, few.as_slice()),
             Form::Own(bytes) => Ok(bytes),
             Form::Once(shared) => Vec::from_slice(*shared.allocator(), shared.as_slice()),
             Form::Listed(list) => Vec::from_slice(list.allocator(), list.as_slice()),
@@ -117,7 +113,7 @@ impl Bytes {
     {
         let Text { kept } = text;
         let form = match kept {
-            Kept::Short(short, alloc) => Form::Short(short, alloc),
+            Kept::Short(few, alloc) => Form::Short(few, alloc),
             Kept::Shared(bytes) => Form::Once(bytes),
         };
         Bytes { form }
@@ -128,7 +124,9 @@ impl Bytes {
         ensures { IfOk result (λ t. t ≡ self.now) }
     {
         match &self.form {
-            Form::Short(short, _) => Text::from_slice(alloc, short.as_slice()),
+            Form::Short(few, _) => Ok(Text {
+                kept: Kept::Short(*few, alloc),
+            }),
             Form::Own(bytes) => Text::from_slice(alloc, bytes.as_slice()),
             Form::Once(shared) => Ok(Text {
                 kept: Kept::Shared(Arc::try_clone(shared)?),
@@ -197,7 +195,9 @@ impl Bytes {
         ensures { IfOk result (λ b. b ≡ self.now) }
     {
         match &self.form {
-            Form::Short(short, _) => Bytes::from_slice(alloc, short.as_slice()),
+            Form::Short(few, _) => Ok(Bytes {
+                form: Form::Short(*few, alloc),
+            }),
             Form::Own(bytes) => Bytes::from_slice(alloc, bytes.as_slice()),
             Form::Once(shared) => Ok(Bytes {
                 form: Form::Once(Arc::try_clone(shared)?),
@@ -209,11 +209,12 @@ impl Bytes {
     }
 
     /// The bytes as a slice.
+    #[inline(always)]
     pub fn as_slice(&self) -> &[u8]
         ensures { result.now ≡ self.now }
     {
         match &self.form {
-            Form::Short(short, _) => short.as_slice(),
+            Form::Short(few, _) => few.as_slice(),
             Form::Own(bytes) => bytes.as_slice(),
             Form::Once(shared) => shared.as_slice(),
             Form::Listed(list) => list.as_slice(),
@@ -255,13 +256,14 @@ impl Bytes {
         ensures err { OnErr result (self.new ≡ self.old) }
     {
         match &mut self.form {
-            Form::Short(short, alloc) => {
-                if short.try_extend_from_slice(bytes).is_ok() {
+            Form::Short(few, alloc) => {
+                if let Some(more) = few.with(bytes) {
+                    *few = more;
                     return Ok(());
                 }
-                let mut own = Vec::from_slice(*alloc, short.as_slice())?;
+                let mut own = Vec::from_slice(*alloc, few.as_slice())?;
                 own.extend_from_slice(bytes)?;
-                self.form = Form::Own(own);
+                self.form = Form::Once(Arc::new(*alloc, own)?);
                 Ok(())
             }
             Form::Own(own) => own.extend_from_slice(bytes),

@@ -4,6 +4,7 @@
 mod bytes;
 mod canonical;
 mod copying;
+mod few;
 mod listed;
 mod measure;
 mod order;

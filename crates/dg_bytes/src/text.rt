@@ -2,19 +2,16 @@
 ghost use Rattle.std.specs.Prelude.{◌≡◌, ◌++◌, IfOk, OnOk, OnErr, length};
 ghost use Rattle.std.specs.Arc.{arc_value};
 
-use arrayvec::ArrayVec;
+use crate::few::Few;
 use std::alloc::{AllocError, Global};
 use std::marker::Model;
 use std::sync::Arc;
-
-/// How many bytes are held in a value itself.
-pub(crate) const SHORT: usize = 16;
 
 /// What is kept of a text.
 #[derive(Drop)]
 pub(crate) enum Kept {
     /// A few bytes, held in the value itself, and where memory for more is from.
-    Short(ArrayVec<u8, SHORT>, Global),
+    Short(Few, Global),
     /// Bytes that are shared.
     Shared(Arc<Vec<u8>>),
 }
@@ -39,10 +36,9 @@ impl Text {
     pub fn new(alloc: Global, bytes: Vec<u8>) -> Result<Text, AllocError>
         ensures { IfOk result (λ t. t ≡ bytes.items) }
     {
-        let mut short = ArrayVec::new();
-        let kept = match short.try_extend_from_slice(bytes.as_slice()) {
-            Ok(()) => Kept::Short(short, alloc),
-            Err(_) => Kept::Shared(Arc::new(alloc, bytes)?),
+        let kept = match Few::of(bytes.as_slice()) {
+            Some(few) => Kept::Short(few, alloc),
+            None => Kept::Shared(Arc::new(alloc, bytes)?),
         };
         Ok(Text { kept })
     }
@@ -51,10 +47,9 @@ impl Text {
     pub fn from_slice(alloc: Global, bytes: &[u8]) -> Result<Text, AllocError>
         ensures { IfOk result (λ t. t ≡ bytes.now) }
     {
-        let mut short = ArrayVec::new();
-        let kept = match short.try_extend_from_slice(bytes) {
-            Ok(()) => Kept::Short(short, alloc),
-            Err(_) => Kept::Shared(Arc::new(alloc, Vec::from_slice(alloc, bytes)?)?),
+        let kept = match Few::of(bytes) {
+            Some(few) => Kept::Short(few, alloc),
+            None => Kept::Shared(Arc::new(alloc, Vec::from_slice(alloc, bytes)?)?),
         };
         Ok(Text { kept })
     }
@@ -63,12 +58,11 @@ impl Text {
     pub fn share(&self) -> Result<Text, AllocError>
         ensures { IfOk result (λ t. t ≡ self.now) }
     {
-        match &self.kept {
-            Kept::Short(short, alloc) => Text::from_slice(*alloc, short.as_slice()),
-            Kept::Shared(bytes) => Ok(Text {
-                kept: Kept::Shared(Arc::try_clone(bytes)?),
-            }),
-        }
+        let kept = match &self.kept {
+            Kept::Short(few, alloc) => Kept::Short(*few, *alloc),
+            Kept::Shared(bytes) => Kept::Shared(Arc::try_clone(bytes)?),
+        };
+        Ok(Text { kept })
     }
 
     /// The bytes.
@@ -76,7 +70,7 @@ impl Text {
         ensures { result.now ≡ self.now }
     {
         match &self.kept {
-            Kept::Short(short, _) => short.as_slice(),
+            Kept::Short(few, _) => few.as_slice(),
             Kept::Shared(bytes) => bytes.as_slice(),
         }
     }
