@@ -17,11 +17,16 @@ pub fn split<T>(items: &[T]) -> Option<(&T, &[T])>
     }
 }
 
-/// Whether a name is this word.
+/// Whether a name is this word. Most names differ from most words in the first byte.
+#[inline(always)]
 pub(crate) fn is_word(name: &[u8], word: &[u8]) -> bool
     ensures { result ≡ is name.now word.now }
 {
-    name == word
+    match (name, word) {
+        ([first, rest @ ..], [letter, others @ ..]) => *first == *letter && rest == others,
+        ([], []) => true,
+        _ => false,
+    }
 }
 
 /// An equal text, if there is one.

@@ -290,8 +290,8 @@ impl State {
     ghost use Rattle.dg_language.specs.State.{began, began_with, assigned, unassigned, linked, defined, entered, departed};
     ghost use Rattle.std.specs.Prelude.{IsTrue, IsFalse, is_some};
 
-    /// Whether a name is that of a global that has not begun.
-    fn is_to_begin(&self, name: &[u8]) -> bool
+    /// Whether a name is that of a global that has not begun: before its first use what the line sets it to is asked for.
+    pub fn is_to_begin(&self, name: &[u8]) -> bool
         ensures { result ≡ is_to_begin name.now self.now }
     {
         let global = global_name(name);

@@ -3,6 +3,7 @@ use Rattle.std.proofs.Common.{lit≤, ◌≡◌, ◌≢◌, ℕ, zero, suc, ◌+
 use Rattle.std.proofs.lemmas.List.{append-nil, drop_all}
 use Rattle.std.specs.Prelude.{IfSome, Option, Some, None, Ok, codes}
 use Rattle.std.specs.FinMap as names
+use Rattle.dg_scope.specs.Names.{global_name}
 use Rattle.dg_scope.specs.Scopes.{value_of}
 use Rattle.dg_language.specs.declared.code.Code.{Code}
 use Rattle.dg_language.specs.declared.code.Code.TheVariants.{Done, Returned}
@@ -17,14 +18,14 @@ use Rattle.dg_language.specs.declared.substitution.Substitution.{Substitution}
 use Rattle.dg_language.specs.declared.substitution.Substitution.TheVariants.{Literal, Script, WordEnds}
 use Rattle.dg_language.specs.State.{State, assigned, stepped}
 use Rattle.dg_language.specs.Touch.{value_in_use}
-use Rattle.dg_language.specs.Variables.{add_number, do_incr, do_set, increased, or_zero, store, with_sum}
+use Rattle.dg_language.specs.Variables.{add_number, do_incr, do_set, increased, is_to_begin, or_zero, store, with_sum}
 use Rattle.dg_language.specs.Evaluation.{Then, if_done}
 use Rattle.dg_language.specs.Expressions.{calculate, code_in, in_decimal, written}
 use Rattle.dg_expr.specs.Reading.{tree_in}
 use Rattle.dg_expr.specs.declared.code.Instruction.{Instruction}
 use Rattle.dg_language.specs.Language.{builtin_of, command, commands_at, evaluate, known_command, sequence, usable}
 use Rattle.dg_language.specs.Words.{Act, gather, longer, substitutions}
-use Rattle.dg_language.proofs.TouchLemmas.{in-use, within-short}
+use Rattle.dg_language.proofs.TouchLemmas.{in-use, touch-free, within-short}
 use Rattle.dg_machine.specs.Settling.{AsksNothing, ComesBy, GoesOnAs, HasText, IsOnly, Returns, Sets, Settles, Yields}
 use Rattle.dg_compiled.specs.Script.{HasSteps, begins}
 use Rattle.dg_compiled.specs.Texts.{IsText}
@@ -56,9 +57,9 @@ same-again s = let same : s.steps + 1 - 1 ≡ s.steps = omega arith in ap (λ n.
 pub given-back : (s t : State) → stepped t ≡ stepped s → t ≡ s
 given-back s t e = sym (same-again t) ∙ ap less_a_step e ∙ same-again s
 
-in-use-stepped : (s : State) (n : List ℕ) (old : List ℕ) → value_in_use n s ≡ Some old → value_in_use n (stepped s) ≡ Some old
+free-stepped : (s : State) (n : List ℕ) → is_to_begin n s ≡ false → is_to_begin n (stepped s) ≡ false
 unfolding stepped
-in-use-stepped s n old h = h
+free-stepped s n h = h
 
 pub procedures-stepped : (s : State) (n : List ℕ) → names.get (stepped s).procedures n ≡ names.get s.procedures n
 unfolding stepped
@@ -100,10 +101,10 @@ stores : (n v : List ℕ) (s : State) (k : Then) → length v ≤ 1048576 → st
 unfolding store
 stores n v s k short = within-short (length v) s (k Done v (assigned n v s)) short
 
-set-does : (d : ℕ) (n v old : List ℕ) (s : State) (k : Then) → value_in_use n s ≡ Some old → length v ≤ 1048576
+set-does : (d : ℕ) (n v : List ℕ) (s : State) (k : Then) → is_to_begin n s ≡ false → length v ≤ 1048576
     → known_command (evaluate d) (Some (VariableBuiltin Set)) (codes "set") (n ∷ v ∷ []) s k ≡ k Done v (assigned n v s)
 unfolding do_set
-set-does d n v old s k held short = (in-use n s old held).0 (λ t. store n v t k) ∙ stores n v s k short
+set-does d n v s k free short = touch-free n (global_name n) s refl (is_to_begin n s) refl free (λ t. store n v t k) ∙ stores n v s k short
 
 -- a number more is stored
 adds : (n by old v : List ℕ) (s : State) (k : Then) → value_of s.variables n ≡ Some old → increased old by ≡ Ok v → length v ≤ 1048576
@@ -144,16 +145,17 @@ three-in (p ∷ q ∷ r ∷ t ∷ u ∷ []) a b x h g f l = absurd (omega (arith
 three-in (p ∷ q ∷ r ∷ t ∷ u ∷ w ∷ []) a b x h g f l = h ∙ ap (λ xs. a ∷ WordEnds ∷ xs) (g ∙ ap (λ xs. b ∷ WordEnds ∷ xs) f)
 three-in (p ∷ q ∷ r ∷ t ∷ u ∷ w ∷ y ∷ ys) a b x h g f l = absurd (omega (arith, l))
 
-module _ (s : State) (steps : List Substitution) (n : List ℕ) (long : length n ≤ 1048576) (old : List ℕ) (held : value_in_use n s ≡ Some old) where
-  pub set-sets : HasWord steps 0 (Literal (codes "set")) → HasWord steps 2 (Literal n) → length steps ≡ 6 → names.get s.procedures (codes "set") ≡ None
-      → (v : List ℕ) → HasText steps 4 s v → length v ≤ 1048576 → Sets steps s n v
-  set-sets h g l none v t short = λ d k.
-      ap (λ xs. gather (evaluate d) (command (evaluate d)) [] [] [] xs s k) (three-in steps (Literal (codes "set")) (Literal n) t.0 h g t.1.0 l)
-      ∙ three-words d (command (evaluate d)) s k (codes "set") n (lit≤ tt) long t.0 v t.1.1 short
-      ∙ command-known d (codes "set" ∷ n ∷ v ∷ []) (codes "set") (n ∷ v ∷ []) s k refl none
-      ∙ ap (λ o. known_command (evaluate d) o (codes "set") (n ∷ v ∷ []) s k) (set-usable s.on_board)
-      ∙ set-does d n v old s k held short
+pub set-sets : (s : State) (steps : List Substitution) (n : List ℕ) → length n ≤ 1048576 → is_to_begin n s ≡ false → HasWord steps 0 (Literal (codes "set"))
+    → HasWord steps 2 (Literal n) → length steps ≡ 6 → names.get s.procedures (codes "set") ≡ None
+    → (v : List ℕ) → HasText steps 4 s v → length v ≤ 1048576 → Sets steps s n v
+set-sets s steps n long free h g l none v t short = λ d k.
+    ap (λ xs. gather (evaluate d) (command (evaluate d)) [] [] [] xs s k) (three-in steps (Literal (codes "set")) (Literal n) t.0 h g t.1.0 l)
+    ∙ three-words d (command (evaluate d)) s k (codes "set") n (lit≤ tt) long t.0 v t.1.1 short
+    ∙ command-known d (codes "set" ∷ n ∷ v ∷ []) (codes "set") (n ∷ v ∷ []) s k refl none
+    ∙ ap (λ o. known_command (evaluate d) o (codes "set") (n ∷ v ∷ []) s k) (set-usable s.on_board)
+    ∙ set-does d n v s k free short
 
+module _ (s : State) (steps : List Substitution) (n : List ℕ) (long : length n ≤ 1048576) (old : List ℕ) (held : value_in_use n s ≡ Some old) where
   pub incr-sets : HasWord steps 0 (Literal (codes "incr")) → HasWord steps 2 (Literal n) → length steps ≡ 4 → names.get s.procedures (codes "incr") ≡ None
       → (v : List ℕ) → increased old (codes "1") ≡ Ok v → length v ≤ 1048576 → Sets steps s n v
   incr-sets h g l none v sum short = λ d k.
@@ -317,10 +319,10 @@ pub coded-computes : (d : ℕ) (script : List ℕ) (code : Option (List Instruct
 coded-computes d script code s v n h yields = text-computes d script (Words h.0 ∷ []) s v n (sym h.1.0) (yields h.0 h.1.1)
 
 -- `set` of a variable to the value of a script
-pub set-computes : (d : ℕ) (s : State) (steps : List Substitution) (n t v old : List ℕ) → HasWord steps 0 (Literal (codes "set")) → HasWord steps 2 (Literal n)
-    → HasWord steps 4 (Script t) → length steps ≡ 6 → length n ≤ 1048576 → names.get s.procedures (codes "set") ≡ None → value_in_use n s ≡ Some old
+pub set-computes : (d : ℕ) (s : State) (steps : List Substitution) (n t v : List ℕ) → HasWord steps 0 (Literal (codes "set")) → HasWord steps 2 (Literal n)
+    → HasWord steps 4 (Script t) → length steps ≡ 6 → length n ≤ 1048576 → names.get s.procedures (codes "set") ≡ None → is_to_begin n s ≡ false
     → ComesBy d t s v → length v ≤ 1048576 → Settles d steps s v (assigned n v (stepped s))
-set-computes d s steps n t v old h g f l long none held comes short = λ k.
+set-computes d s steps n t v h g f l long none free comes short = λ k.
     let act : Act = command (evaluate d) in
     let name : List ℕ = codes "set" in
     ap (λ xs. gather (evaluate d) act [] [] [] xs s k) (three-in steps (Literal name) (Literal n) (Script t) h g f l)
@@ -333,7 +335,7 @@ set-computes d s steps n t v old h g f l long none held comes short = λ k.
     ∙ gather-none d act (name ∷ n ∷ v ∷ []) [] [] [] (stepped s) k refl
     ∙ command-known d (name ∷ n ∷ v ∷ []) name (n ∷ v ∷ []) (stepped s) k refl (procedures-stepped s name ∙ none)
     ∙ ap (λ o. known_command (evaluate d) o name (n ∷ v ∷ []) (stepped s) k) (set-usable (stepped s).on_board)
-    ∙ set-does d n v old (stepped s) k (in-use-stepped s n old held) short
+    ∙ set-does d n v (stepped s) k (free-stepped s n free) short
 
 -- `return` of the value of a script
 return-usable : (b : Bool) → usable b (builtin_of (codes "return")) ≡ Some (ImmediateBuiltin Return)

@@ -1,6 +1,6 @@
-//! Commands that run where they stand: `set` and `incr` of a variable in use by words that are texts or values of variables
-//! in use, `expr` of a text that comes to its value by itself, and `set` of a variable in use to the value of such an `expr`
-//! in brackets. Nothing is asked for them, and no frame stands around them.
+//! Commands that run where they stand: `set` of a variable that has not to begin and `incr` of one in use, by words that are
+//! texts or values of variables in use; `expr` of a text that comes to its value by itself; `set` of a variable to the value of
+//! such an `expr` in brackets, and `return` of one. Nothing is asked for them, and no frame stands around them.
 ghost use Rattle.std.specs.Prelude.{◌≡◌, ◌≤◌, ◌<◌, ℕ, List, codes, drop, length, IfNone, IfOk, IfSome, None, Ok, OnOk, Some};
 ghost use Rattle.std.specs.Arc.{arc_value};
 ghost use Rattle.std.specs.Bool.{OnFalse};
@@ -55,7 +55,7 @@ fn is_hidden(state: &State, name: &[u8]) -> bool
     state.procedure(name).is_some()
 }
 
-/// The value that `set name value` gives a variable in use, if it runs where it stands.
+/// The value that `set name value` gives a variable that has not to begin, if it runs where it stands.
 fn value_set(
     alloc: Global,
     state: &State,
@@ -77,9 +77,9 @@ fn value_set(
     if is_hidden(state, b"set") {
         return Ok(None);
     }
-    let Some(_old) = state.value_in_use(name.as_slice()) else {
+    if state.is_to_begin(name.as_slice()) {
         return Ok(None);
-    };
+    }
     Ok(Some(value.copy(alloc)?))
 }
 
@@ -158,7 +158,7 @@ fn value_computed(
 
 /// Whether a script begins as an `expr` does.
 fn begins_expr(script: &Bytes) -> bool {
-    script.as_slice().starts_with(b"expr")
+    matches!(script.as_slice(), [b'e', b'x', b'p', b'r', ..])
 }
 
 impl Machine {
@@ -290,8 +290,8 @@ impl Machine {
         }
     }
 
-    /// Gives a variable in use the value of the script of these words, which is an `expr` of this code, if that comes to one by
-    /// itself. The value, or else nothing has changed.
+    /// Gives a variable that has not to begin the value of the script of these words, which is an `expr` of this code, if that
+    /// comes to one by itself. The value, or else nothing has changed.
     fn set_computed(
         &mut self,
         alloc: Global,
@@ -311,9 +311,9 @@ impl Machine {
         if depth == 0 || is_hidden(&self.state, b"set") {
             return Ok(None);
         }
-        let Some(_old) = self.state.value_in_use(name.as_slice()) else {
+        if self.state.is_to_begin(name.as_slice()) {
             return Ok(None);
-        };
+        }
         let Some(value) = self.value_of_only(alloc, formula, depth - 1)? else {
             return Ok(None);
         };
