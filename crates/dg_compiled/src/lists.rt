@@ -10,28 +10,34 @@ use std::marker::Model;
 /// From how many bytes on a list is kept with its elements: a shorter one is read as fast.
 const LONG: usize = 64;
 
-/// A text that was read as a list: the same text with its elements beside it, where it is the canonical text of a list. A
-/// contract sees nothing of it.
+/// A text that was read as a list: the same text, with its elements beside it where it is the canonical text of a list. A
+/// contract sees the text.
 #[derive(Drop)]
 pub struct Listing {
-    value: Option<Bytes>,
+    text: Bytes,
 }
 
 impl Model for Listing {
-    ghost Value = { Unit {0} };
+    ghost use Rattle.std.specs.Prelude.{ℕ, List};
 
-    ghost view = { λ l. tt };
+    ghost Value = { List ℕ };
+
+    ghost view = { λ l. l.text };
 }
 
 impl Reading for Listing {
-    ghost read_of = { λ text. tt };
+    ghost read_of = { λ text. text };
 
     fn read(alloc: Global, text: &[u8]) -> Result<Listing, AllocError> {
-        let value = match elements_in(alloc, text)? {
-            Ok(elements) => Some(Bytes::from_list(alloc, elements.as_slice())?),
-            Err(_) => None,
-        };
-        Ok(Listing { value })
+        if let Ok(elements) = elements_in(alloc, text)? {
+            let list = Bytes::from_list(alloc, elements.as_slice())?;
+            if list.is(text) {
+                return Ok(Listing { text: list });
+            }
+        }
+        let mut text = Bytes::from_slice(alloc, text)?;
+        text.keep(alloc)?;
+        Ok(Listing { text })
     }
 }
 
@@ -47,10 +53,7 @@ pub fn with_elements(
         return Ok(text);
     }
     let listing = lists.reading(alloc, &text)?;
-    match &listing.value {
-        Some(value) if *value == text => Ok(value.copy(alloc)?),
-        _ => Ok(text),
-    }
+    Ok(listing.text.copy(alloc)?)
 }
 
 /// Whether a command of this name reads a list.
