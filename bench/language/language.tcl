@@ -106,6 +106,23 @@ set loops {
         }
         pass [lists]
     }
+    {lindex of a long text} {
+        proc find {text} {
+            set n 0
+            for {set i 0} {$i < 3000} {incr i} {if {[lindex $text $i] eq "c1"} {incr n}}
+            return $n
+        }
+        pass [find [string trim [string repeat "ab c1 " 20000]]]
+    }
+    {calls of a long body} {
+        proc add {a b} "[string repeat "# a comment\n" 500]return \[expr {\$a + \$b}\]"
+        proc calls {} {
+            set s 0
+            for {set i 0} {$i < 10000} {incr i} {set s [add $s $i]}
+            return $s
+        }
+        pass [calls]
+    }
 }
 
 

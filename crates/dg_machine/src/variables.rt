@@ -1,9 +1,10 @@
 //! The commands on variables.
-ghost use Rattle.std.specs.Prelude.{◌≡◌, ◌+◌, ◌*◌, ◌<◌, ◌++◌, [], ◌≢◌, IfOk, OnOk, length, is_some};
+ghost use Rattle.std.specs.Prelude.{◌≡◌, ◌+◌, ◌*◌, ◌<◌, ◌++◌, [], ◌≢◌, IfOk, OnOk, codes, length, is_some};
 ghost use Rattle.std.specs.List.{concat};
 ghost use Rattle.std.specs.Option.{option_copied};
 ghost use Rattle.dg_expr.specs.Truth.{truth_text};
 ghost use Rattle.dg_scope.specs.Scopes.{value_of};
+ghost use Rattle.dg_language.specs.Evaluation.{fail};
 ghost use Rattle.dg_language.specs.Variables.{append_elements, add_number, or_empty, or_zero, store, touch, unset_all, unset_names, unset_one, with_sum, increased, do_append, do_global, do_incr, do_info, do_lappend, do_set, do_unset, do_variable};
 ghost use Rattle.dg_machine.specs.declared.frame.Control.{Control};
 ghost use Rattle.dg_machine.specs.Meaning.{all_back, weight_of, Comes, Goes, RunsAs, GoesAs};
@@ -264,6 +265,15 @@ impl Machine {
         Ok(Pace::Moved)
     }
 
+    /// A command fails, since none of its subcommands has the name that it was given.
+    fn unknown_subcommand(&mut self, alloc: Global) -> Result<Pace, AllocError>
+        requires { self.old.control ≡ Control.Go }
+        ensures { IfOk result (GoesAs (fail (codes "unknown subcommand")) 2 self.old self.new) }
+    {
+        let message = Bytes::from_slice(alloc, b"unknown subcommand")?;
+        self.fail(alloc, message)
+    }
+
     /// `info exists name`.
     #[tactic(auto, unfolding(dg_language::specs::Variables::do_info))]
     fn info(&mut self, alloc: Global, args: &[Bytes]) -> Result<Pace, AllocError>
@@ -274,8 +284,7 @@ impl Machine {
             return self.wrong_count(alloc, b"info");
         };
         if subcommand.as_slice() != b"exists".as_slice() {
-            let message = Bytes::from_slice(alloc, b"unknown subcommand")?;
-            return self.fail(alloc, message);
+            return self.unknown_subcommand(alloc);
         }
         let Some(name) = only(others) else {
             return self.wrong_count(alloc, b"info");
