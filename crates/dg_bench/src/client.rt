@@ -6,7 +6,7 @@ use crate::pass::Pass;
 use crate::refusal::BenchRefusal;
 use crate::room::Room;
 use crate::work::WorkFault;
-use dg_eval::{Job, Turn};
+use dg_eval::{Job, Readings, Turn};
 use dg_gate::{AskFault, Asker};
 use dg_live::LiveFault;
 use dg_records::Record;
@@ -99,15 +99,21 @@ impl<'a, B: Room, R: Wait> Client<'a, B, R> {
         }
     }
 
-    /// Judges a test, whose questions the bench answers, also those about its children.
-    pub(crate) fn rejudge(&mut self, test: TestId) -> Result<Record, LiveFault>
+    /// Judges a test, whose questions the bench answers, also those about its children. The readings are those of the worker.
+    pub(crate) fn rejudge(
+        &mut self,
+        test: TestId,
+        readings: &mut Readings,
+    ) -> Result<Record, LiveFault>
         ensures { IfOk result (λ r. r.test ≡ test) }
     {
-        let Ok(mut job) = Job::start(self.alloc, test) else {
+        let read = mem::replace(readings, Readings::new(self.alloc));
+        let Ok(mut job) = Job::start_with(self.alloc, test, read) else {
             return Err(LiveFault::Memory);
         };
         'turns: for _turn in 0..u64::MAX {
             if let Some(record) = self.take_turn(&mut job)? {
+                job.hand_on(readings);
                 return Ok(record);
             }
         }

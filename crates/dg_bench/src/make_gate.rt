@@ -1,6 +1,6 @@
 //! Where workers get their gates.
 use dg_gate::{Asker, Gate};
-use dg_live::{LiveFault, run_live};
+use dg_live::{LiveFault, Readings, run_live_with};
 use dg_records::Record;
 use dg_transcript::Transcript;
 use dg_world::TestId;
@@ -30,12 +30,14 @@ pub trait RunTests {
     // What has to hold before a test is run, as that what is called there may be called.
     ghost is_ready: { Self → Type 0 };
 
-    /// Judges a test over a gate of its own, as [`run_live`] does: its record, and the transcript of what that read.
+    /// Judges a test over a gate of its own, as [`run_live_with`] does: its record, and the transcript of what that read. The
+    /// readings are those of the worker.
     fn run_test<A: Asker>(
         &self,
         alloc: Global,
         worker: usize,
         test: TestId,
+        readings: &mut Readings,
         asker: &mut A,
     ) -> Result<(Record, Transcript), LiveFault>
         requires ready { is_ready self.now }
@@ -57,12 +59,13 @@ impl<M: MakeGate> RunTests for M {
         alloc: Global,
         worker: usize,
         test: TestId,
+        readings: &mut Readings,
         asker: &mut A,
     ) -> Result<(Record, Transcript), LiveFault> {
         let Ok(mut gate) = self.make(worker) else {
             return Err(LiveFault::Memory);
         };
-        let run = run_live(alloc, test, &mut gate, asker);
+        let run = run_live_with(alloc, test, readings, &mut gate, asker);
         self.end(worker, gate);
         run
     }

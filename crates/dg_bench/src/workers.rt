@@ -10,7 +10,7 @@ use crate::room::Room;
 use crate::work::{Work, WorkFault};
 use dg_bytes::{Seq, TryCopy};
 use dg_core::Reply;
-use dg_live::LiveFault;
+use dg_live::{LiveFault, Readings};
 use dg_world::TestId;
 use std::alloc::Global;
 use std::sync::Wait;
@@ -34,6 +34,7 @@ impl<'a, B: Room, M: RunTests, R: Wait> Crew<'a, B, M, R> {
     fn judge(
         &self,
         client: &mut Client<'a, B, R>,
+        readings: &mut Readings,
         worker: usize,
         test: &TestId,
     ) -> Result<(), WorkFault>
@@ -41,8 +42,8 @@ impl<'a, B: Room, M: RunTests, R: Wait> Crew<'a, B, M, R> {
     {
         self.maker.begin(test);
         match self.work {
-            Work::Live => self.judge_live(client, worker, test),
-            Work::Rejudge => self.rejudge(client, test),
+            Work::Live => self.judge_live(client, readings, worker, test),
+            Work::Rejudge => self.rejudge(client, readings, test),
         }
     }
 
@@ -50,13 +51,17 @@ impl<'a, B: Room, M: RunTests, R: Wait> Crew<'a, B, M, R> {
     fn judge_live(
         &self,
         client: &mut Client<'a, B, R>,
+        readings: &mut Readings,
         worker: usize,
         test: &TestId,
     ) -> Result<(), WorkFault>
         requires ready { M.is_ready self.now.maker.now }
     {
         let own = test.copy(self.alloc)?;
-        match self.maker.run_test(self.alloc, worker, own, client) {
+        match self
+            .maker
+            .run_test(self.alloc, worker, own, readings, client)
+        {
             Ok((record, transcript)) => {
                 self.maker.end(&record);
                 client.commit_live(record, transcript)
@@ -66,9 +71,14 @@ impl<'a, B: Room, M: RunTests, R: Wait> Crew<'a, B, M, R> {
     }
 
     /// Judges a test, whose children answer from their transcripts.
-    fn rejudge(&self, client: &mut Client<'a, B, R>, test: &TestId) -> Result<(), WorkFault> {
+    fn rejudge(
+        &self,
+        client: &mut Client<'a, B, R>,
+        readings: &mut Readings,
+        test: &TestId,
+    ) -> Result<(), WorkFault> {
         let own = test.copy(self.alloc)?;
-        match client.rejudge(own) {
+        match client.rejudge(own, readings) {
             Ok(record) => {
                 self.maker.end(&record);
                 client.commit(record)
@@ -91,8 +101,9 @@ impl<'a, B: Room, M: RunTests, R: Wait> Crew<'a, B, M, R> {
         requires ready { M.is_ready self.now.maker.now }
     {
         let mut client = Client::new(self.rt, self.alloc, self.bench, pass);
+        let mut readings = Readings::new(self.alloc);
         for test in self.tests.iter().skip(worker).step_by(self.workers) {
-            self.judge(&mut client, worker, test)?;
+            self.judge(&mut client, &mut readings, worker, test)?;
         }
         Ok(())
     }

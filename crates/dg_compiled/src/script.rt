@@ -25,7 +25,7 @@ use std::marker::Model;
 use std::sync::Arc;
 
 /// The most bytes of a text whose commands are kept: they take many times its room.
-pub const KEPT: usize = 65_536;
+pub const KEPT: usize = 262_144;
 
 /// A command that begins: the steps in which its words are made, or why it can't be read.
 #[derive(Drop)]

@@ -8,12 +8,13 @@ ghost use Rattle.dg_core.specs.Grown.{IsGrown};
 ghost use Rattle.dg_core.specs.Turning.{AsksInTurn};
 
 use dg_bytes::TryCopy;
-use dg_eval::{Job, JobFault, Turn};
+use dg_eval::{Job, JobFault, Readings, Turn};
 use dg_index::Kept;
 use dg_records::Record;
 use dg_transcript::{Entry, Transcript};
 use dg_world::{Answer, EntryPlace, Question, TestId, World};
 use std::alloc::{AllocError, Global};
+use std::mem;
 
 /// The entry at a place of a transcript, if there is one.
 fn entry_in<'a>(transcript: Option<&'a Transcript>, place: &EntryPlace) -> Option<&'a Entry>
@@ -117,16 +118,23 @@ fn take_turns(
 
 /// Judges a test in a world. A pattern that its evaluation is the first to ask for enters the world's book; what its record
 /// reads is asked for in turn, and nothing else.
-pub(crate) fn evaluate(alloc: Global, kept: &mut Kept, test: &TestId) -> Result<Record, JobFault>
+pub(crate) fn evaluate(
+    alloc: Global,
+    kept: &mut Kept,
+    test: &TestId,
+    readings: &mut Readings,
+) -> Result<Record, JobFault>
     ensures grown { IsGrown kept.old.world kept.new.world }
     ensures shelf { kept.new.shelf ≡ kept.old.shelf }
     ensures record { MatchResult result (Judges kept.new.world test.now) (Fails kept.new.world test.now) }
     ensures asked { IfOk result (λ r. AsksInTurn kept.old r.reads kept.new) }
     ensures stopped { OnErr result ((reads : List Read) × AsksInTurn kept.old reads kept.new) }
 {
-    let mut job = Job::start(alloc, test.copy(alloc)?)?;
+    let read = mem::replace(readings, Readings::new(alloc));
+    let mut job = Job::start_with(alloc, test.copy(alloc)?, read)?;
     'turns: loop {
         if let Some(record) = take_turns(alloc, kept, test, &mut job)? {
+            job.hand_on(readings);
             return Ok(record);
         }
     }

@@ -19,7 +19,7 @@ use crate::lineup::{Lineup, opened_to};
 use crate::openings::Openings;
 use crate::reply::Reply;
 use dg_bytes::{Bytes, Seq, TryCopy};
-use dg_eval::JobFault;
+use dg_eval::{JobFault, Readings};
 use dg_index::Kept;
 use dg_records::Record;
 use dg_sum::{Judged, exit_status, sum_text};
@@ -336,7 +336,12 @@ impl Core {
     }
 
     /// Evaluates a test and keeps its record.
-    fn judge(&mut self, alloc: Global, test: &TestId) -> Result<(), CoreFault>
+    fn judge(
+        &mut self,
+        alloc: Global,
+        test: &TestId,
+        readings: &mut Readings,
+    ) -> Result<(), CoreFault>
         ensures grown { IsGrown self.old.world self.new.world }
         ensures ok { OnOk result (self.new ≡ with_judged self.new.world self.new.compared self.old test.now) }
         ensures ends { OnOk result (HasVerdict self.new.world test.now) }
@@ -347,7 +352,7 @@ impl Core {
     {
         self.lineup = None;
         self.evaluations = self.evaluations.saturating_add(1);
-        let judged = match evaluate(alloc, &mut self.kept, test) {
+        let judged = match evaluate(alloc, &mut self.kept, test, readings) {
             Ok(judged) => judged,
             Err(JobFault::PatternLost) => return Err(CoreFault::PatternLost(test.copy(alloc)?)),
             Err(JobFault::Memory) => return Err(CoreFault::Memory),
@@ -395,8 +400,9 @@ impl Core {
     {
         let _begun = self.evaluations();
         let pending = self.pending(alloc, lineup)?;
+        let mut readings = Readings::new(alloc);
         for test in pending.as_slice() {
-            self.judge(alloc, test)?;
+            self.judge(alloc, test, &mut readings)?;
         }
         let sum = self.sum(alloc, lineup)?;
         Ok(sum)

@@ -10,31 +10,31 @@ use Rattle.dg_eval.specs.declared.stage.Stage.TheVariants.{Running, Asking, Fini
 abbrev pub IsStage : TestId → Stage → Type 0
 IsStage test (Running e) = e.test ≡ test
 IsStage test (Asking a) = a.test ≡ test
-IsStage test Finished = Unit {0}
+IsStage test (Finished r) = Unit {0}
 IsStage test Failed = Unit {0}
 
 abbrev pub reads_of : Stage → List Read
 reads_of (Running e) = e.reads
 reads_of (Asking a) = a.reads
-reads_of Finished = []
+reads_of (Finished r) = []
 reads_of Failed = []
 
 abbrev pub asked_of : Stage → Option Ask
 asked_of (Running e) = None
 asked_of (Asking a) = Some a.ask
-asked_of Finished = None
+asked_of (Finished r) = None
 asked_of Failed = None
 
 abbrev pub is_live : Stage → Bool
 is_live (Running e) = true
 is_live (Asking a) = true
-is_live Finished = false
+is_live (Finished r) = false
 is_live Failed = false
 
 abbrev pub has_failed : Stage → Bool
 has_failed (Running e) = false
 has_failed (Asking a) = false
-has_failed Finished = false
+has_failed (Finished r) = false
 has_failed Failed = true
 
 -- a job as its callers see it: its test, the answers so far, the question that stands, whether it goes on, whether it

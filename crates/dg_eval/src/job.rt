@@ -4,7 +4,7 @@ ghost use Rattle.dg_eval.specs.Advance.{Advances, Halts, HasFailed, Tells, Refus
 
 use crate::stage::Stage;
 use dg_language::Ask;
-use dg_machine::{Arrival, Evaluation};
+use dg_machine::{Arrival, Evaluation, Readings};
 use dg_records::Record;
 use dg_world::{Answer, TestId};
 use std::alloc::{AllocError, Global};
@@ -76,8 +76,15 @@ impl Job {
     pub fn start(alloc: Global, test: TestId) -> Result<Job, AllocError>
         ensures { IfOk result (λ j. j ≡ started test) }
     {
+        Job::start_with(alloc, test, Readings::new(alloc))
+    }
+
+    /// Begins the judging of a test, with what the evaluations of other jobs read of texts.
+    pub fn start_with(alloc: Global, test: TestId, readings: Readings) -> Result<Job, AllocError>
+        ensures { IfOk result (λ j. j ≡ started test) }
+    {
         let test = test.kept(alloc)?;
-        let evaluation = Evaluation::start(alloc, test.copy(alloc)?)?;
+        let evaluation = Evaluation::start(alloc, test.copy(alloc)?, readings)?;
         Ok(Job {
             test,
             stage: Stage::Running(evaluation),
@@ -91,6 +98,13 @@ impl Job {
         ensures { result ≡ self.now.steps }
     {
         self.steps
+    }
+
+    /// Puts what the evaluation read of texts in the place of these readings, where the job is done.
+    pub fn hand_on(mut self, readings: &mut Readings) {
+        if let Stage::Finished(read) = mem::replace(&mut self.stage, Stage::Failed) {
+            *readings = read;
+        }
     }
 
     /// Goes on to the next question or to the end. While a question stands it is given again.
@@ -108,8 +122,8 @@ impl Job {
                 self.stage.set(Stage::Asking(asking));
                 Ok(Turn::Need(copy))
             }
-            Stage::Finished => {
-                self.stage.set(Stage::Finished);
+            Stage::Finished(readings) => {
+                self.stage.set(Stage::Finished(readings));
                 Err(JobFault::Failed)
             }
             Stage::Failed => Err(JobFault::Failed),
@@ -131,7 +145,7 @@ impl Job {
             }
             Arrival::AtEnd(ended) => {
                 self.steps = ended.steps;
-                self.stage.set(Stage::Finished);
+                self.stage.set(Stage::Finished(ended.readings));
                 let record = Record::from_parts(ended.test, ended.reads, ended.verdict);
                 Ok(Turn::Done(record))
             }
@@ -162,8 +176,8 @@ impl Job {
                 self.stage.set(Stage::Running(evaluation));
                 Err(JobFault::NotAsked)
             }
-            Stage::Finished => {
-                self.stage.set(Stage::Finished);
+            Stage::Finished(readings) => {
+                self.stage.set(Stage::Finished(readings));
                 Err(JobFault::NotAsked)
             }
             Stage::Failed => Err(JobFault::Failed),

@@ -5,3 +5,4 @@ mod job;
 mod stage;
 
 pub use crate::job::{Job, JobFault, Turn};
+pub use dg_machine::Readings;

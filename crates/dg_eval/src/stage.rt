@@ -1,7 +1,7 @@
 //! How far a job is.
 ghost use Rattle.std.specs.Prelude.{◌≡◌};
 
-use dg_machine::{Asking, Evaluation};
+use dg_machine::{Asking, Evaluation, Readings};
 use std::mem;
 
 /// How far a job is.
@@ -11,8 +11,8 @@ pub enum Stage {
     Running(Evaluation),
     /// A question stands.
     Asking(Asking),
-    /// The record was handed out.
-    Finished,
+    /// The record was handed out. What the evaluation read of texts is left.
+    Finished(Readings),
     /// A growth was refused, or a pattern could not be built.
     Failed,
 }

@@ -7,4 +7,5 @@ mod run;
 mod sessions;
 
 pub use crate::fault::LiveFault;
-pub use crate::run::run_live;
+pub use crate::run::{run_live, run_live_with};
+pub use dg_eval::Readings;

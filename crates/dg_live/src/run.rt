@@ -9,13 +9,14 @@ ghost use Rattle.dg_live.specs.Walk.{session_of, Acts, AnswersTo, IsKnown, calls
 use crate::fault::LiveFault;
 use crate::known::entry_known;
 use crate::sessions::transcript_in;
-use dg_eval::{Job, JobFault, Turn};
+use dg_eval::{Job, JobFault, Readings, Turn};
 use dg_gate::{Asker, Gate, perform};
 use dg_language::Ask;
 use dg_records::Record;
 use dg_transcript::{Entry, Transcript};
 use dg_world::{Answer, Question, TestId};
 use std::alloc::{AllocError, Global};
+use std::mem;
 
 /// The session that a question about an entry is about.
 fn session_of(question: &Question) -> u32
@@ -128,13 +129,38 @@ pub fn run_live<G: Gate, A: Asker>(
     ensures run { IfOk result (λ p. IsLiveRun G.step A.step test gate.old asker.old gate.new asker.new p.0 p.1) }
     ensures fault { IfErr result CanFail }
 {
-    let mut job = match Job::start(alloc, test) {
+    let mut readings = Readings::new(alloc);
+    run_live_with(alloc, test, &mut readings, gate, asker)
+}
+
+/// The same, with what other evaluations read of texts. What this one then has read stands in its place, unless it failed.
+///
+/// # Errors
+/// As `run_live`.
+pub fn run_live_with<G: Gate, A: Asker>(
+    alloc: Global,
+    test: TestId,
+    readings: &mut Readings,
+    gate: &mut G,
+    asker: &mut A,
+) -> Result<(Record, Transcript), LiveFault>
+    requires room { G.count gate.old + 65536 < 2 ^ 64 }
+    requires ready { G.is_ready gate.old }
+    ensures ready { G.is_ready gate.new }
+    ensures run { IfOk result (λ p. IsLiveRun G.step A.step test gate.old asker.old gate.new asker.new p.0 p.1) }
+    ensures fault { IfErr result CanFail }
+{
+    let read = mem::replace(readings, Readings::new(alloc));
+    let mut job = match Job::start_with(alloc, test, read) {
         Ok(job) => job,
         Err(_) => return Err(LiveFault::Job(JobFault::Memory)),
     };
     'turns: for _turn in 0..u64::MAX {
         match take_turn(alloc, &mut job, gate, asker)? {
-            Some(judged) => return with_transcript(alloc, judged),
+            Some(judged) => {
+                job.hand_on(readings);
+                return with_transcript(alloc, judged);
+            }
             None => {}
         }
     }

@@ -21,9 +21,9 @@ use Rattle.dg_machine.specs.Meaning.{rest, go, all_back, told, ComesTo}
 use Rattle.dg_machine.specs.Evaluating.{IsOnce, IsLeft, IsAsking, NeedsNext, HasEnded}
 
 -- an evaluation begins as the judging of its test
-pub starts : (test : TestId) (m : Machine) → m ≡ record { state = fresh test; stack = Opening Board ∷ []; control = Go; programs = []; scripts = tt; formulas = tt; pairs = tt; lists = tt } → IsLeft test m
+pub starts : (test : TestId) (m : Machine) → m.state ≡ fresh test → m.stack ≡ Opening Board ∷ [] → m.control ≡ Go → IsLeft test m
 unfolding rest go all_back judge fresh
-starts test m e = rw e (record { once = tt; leads = refl })
+starts test m state stack control = rw (state, stack, control) (record { once = tt; leads = refl })
 
 -- the machine has moved on to a question
 pub stands : (test : TestId) (q : Ask) (old new : Machine) → IsLeft test old → ComesTo old new (AtQuestion q) → IsAsking test q new

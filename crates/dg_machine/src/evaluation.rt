@@ -3,25 +3,16 @@ ghost use Rattle.std.specs.Prelude.{◌≡◌, true, IfOk};
 ghost use Rattle.dg_world.specs.Question.{fits};
 
 use crate::boxed::Boxed;
-use crate::frame::{Closing, Control, Frame, Opening, Stop};
+use crate::frame::{Closing, Frame, Opening, Stop};
 use crate::machine::Machine;
+use crate::readings::Readings;
 use dg_bytes::Seq;
 use dg_compiled::Stack;
 use dg_language::{Ask, Close, State};
-use dg_match::Programs;
 use dg_results::Verdict;
-use dg_scope::LONGEST_VALUE;
-use dg_shelf::Shelf;
 use dg_world::{Answer, Read, TestId};
 use std::alloc::{AllocError, Global};
 use std::marker::Model;
-
-/// How many scripts, expressions and pairs of `switch` are kept at most, of each.
-const PLACES: usize = 64;
-/// How many bytes the texts of each have together at most: what is kept of them takes many times their room.
-const ROOM: usize = 262_144;
-/// How many long lists a machine keeps beside their texts, which have as many bytes together as a value may have.
-const LIST_PLACES: usize = 4;
 
 /// The judging of a test, between two questions. A contract sees its test, the answers so far and
 /// the steps that were taken.
@@ -93,6 +84,8 @@ pub struct Ended {
     pub board_steps: u32,
     /// All steps that were taken.
     pub steps: u64,
+    /// What was read of texts, for another evaluation.
+    pub readings: Readings,
 }
 
 /// What an evaluation comes to by itself.
@@ -110,24 +103,16 @@ impl Evaluation {
     ghost use Rattle.dg_machine.specs.Evaluating.{begun};
     ghost use Rattle.dg_machine.specs.Arriving.{Arrives};
 
-    /// The judging of a test begins.
-    pub fn start(alloc: Global, test: TestId) -> Result<Evaluation, AllocError>
+    /// The judging of a test begins, with what other evaluations read of texts.
+    pub fn start(alloc: Global, test: TestId, readings: Readings) -> Result<Evaluation, AllocError>
         ensures { IfOk result (λ e. e ≡ begun test) }
     {
         let mut stack = Stack::new(alloc);
         stack.push(Frame::Opening {
             what: Opening::Board,
         })?;
-        let machine = Machine {
-            state: State::new(alloc, test.copy(alloc)?),
-            stack,
-            control: Control::Go,
-            programs: Programs::new(alloc),
-            scripts: Shelf::new(alloc, PLACES, ROOM),
-            formulas: Shelf::new(alloc, PLACES, ROOM),
-            pairs: Shelf::new(alloc, PLACES, ROOM),
-            lists: Shelf::new(alloc, LIST_PLACES, LONGEST_VALUE),
-        };
+        let state = State::new(alloc, test.copy(alloc)?);
+        let machine = Machine::new(state, stack, readings.for_next(alloc));
         let machine = Boxed::new(alloc, machine)?;
         Ok(Evaluation { test, machine })
     }
@@ -142,7 +127,7 @@ impl Evaluation {
             Stop::Lost => Ok(Arrival::Lost),
             Stop::AtEnd(closing) => {
                 let Closing { verdict, close } = closing.into_inner();
-                let state = machine.into_inner().into_state();
+                let (state, readings) = machine.into_inner().into_parts();
                 let board_steps = state.board_steps();
                 let steps = state.steps();
                 let reads = state.into_reads()?;
@@ -153,6 +138,7 @@ impl Evaluation {
                     close,
                     board_steps,
                     steps,
+                    readings,
                 }))
             }
         }

@@ -18,6 +18,7 @@ mod opening;
 mod patterns;
 mod procedures;
 mod reading;
+mod readings;
 mod regexp;
 mod repeats;
 mod rounds;
@@ -28,3 +29,4 @@ mod targets;
 mod variables;
 
 pub use crate::evaluation::{Arrival, Asking, Ended, Evaluation};
+pub use crate::readings::Readings;

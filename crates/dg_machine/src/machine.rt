@@ -12,6 +12,7 @@ ghost use Rattle.dg_compiled.specs.Making.{making_on};
 
 use crate::boxed::Boxed;
 use crate::frame::{Closing, Control, Frame, Pace, plain_ask};
+use crate::readings::Readings;
 use dg_bytes::{Bytes, TryCopy};
 use dg_compiled::{Begun, Commands, Formula, KEPT, Listing, Making, Script, Stack};
 use dg_forms::{Elements, wrong_count};
@@ -35,6 +36,8 @@ pub(crate) struct Machine {
     pub formulas: Shelf<Formula>,
     pub pairs: Shelf<Elements>,
     pub lists: Shelf<Listing>,
+    /// How many evaluations had what was read before this one.
+    pub served: u32,
 }
 
 /// Written by hand, and so one call for whoever lets a machine go.
@@ -49,26 +52,63 @@ impl Drop for Machine {
             formulas: _,
             pairs: _,
             lists: _,
+            served: _,
         } = self;
     }
 }
 
 impl Machine {
-    /// What was made so far, without the frames.
-    pub(crate) fn into_state(self) -> State
-        ensures { result ≡ self.state }
+    /// A machine that is about to go on with these frames, and with what was read of texts.
+    pub(crate) fn new(state: State, stack: Stack<Frame>, readings: Readings) -> Machine
+        ensures state { result.state ≡ state }
+        ensures stack { result.stack ≡ stack }
+        ensures control { result.control ≡ Control.Go }
+    {
+        let Readings {
+            programs,
+            scripts,
+            formulas,
+            pairs,
+            lists,
+            served,
+        } = readings;
+        Machine {
+            state,
+            stack,
+            control: Control::Go,
+            programs,
+            scripts,
+            formulas,
+            pairs,
+            lists,
+            served,
+        }
+    }
+
+    /// What was made so far, without the frames, and what was read of texts.
+    pub(crate) fn into_parts(self) -> (State, Readings)
+        ensures { result.0 ≡ self.state }
     {
         let Machine {
             state,
             stack: _,
             control: _,
-            programs: _,
-            scripts: _,
-            formulas: _,
-            pairs: _,
-            lists: _,
+            programs,
+            scripts,
+            formulas,
+            pairs,
+            lists,
+            served,
         } = self;
-        state
+        let readings = Readings {
+            programs,
+            scripts,
+            formulas,
+            pairs,
+            lists,
+            served: served.saturating_add(1),
+        };
+        (state, readings)
     }
 
     /// A limit ends the evaluation as an error does.

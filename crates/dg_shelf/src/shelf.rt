@@ -19,11 +19,15 @@ pub trait Reading: Sized + Drop {
         ensures { IfOk result (λ r. r ≡ read_of text.now) };
 }
 
-/// A text and what was read of it. A contract sees the text.
+/// Where the entries of a place end.
+const END: usize = usize::MAX;
+
+/// A text and what was read of it, and the entry of the same place that was kept before it. A contract sees the text.
 #[derive(Drop)]
 struct Entry<T: Reading> {
     text: Text,
     reading: Arc<T>,
+    before: usize,
 }
 
 impl<T: Reading> Model for Entry<T> {
@@ -39,7 +43,12 @@ impl<T: Reading> Model for Entry<T> {
 
 impl<T: Reading> Entry<T> {
     /// A text and what was read of it.
-    fn new(alloc: Global, text: &Bytes, reading: &Arc<T>) -> Result<Entry<T>, AllocError>
+    fn new(
+        alloc: Global,
+        text: &Bytes,
+        reading: &Arc<T>,
+        before: usize,
+    ) -> Result<Entry<T>, AllocError>
         requires { arc_value reading.now ≡ T.read_of text.now }
         ensures { IfOk result (λ e. e ≡ text.now) }
     {
@@ -47,6 +56,7 @@ impl<T: Reading> Entry<T> {
         Ok(Entry {
             text: text.to_text(alloc)?,
             reading,
+            before,
         })
     }
 
@@ -61,11 +71,13 @@ impl<T: Reading> Entry<T> {
     }
 }
 
-/// Readings of texts that were read lately, at most one at each of a number of places, and of so many bytes of texts
-/// together. The places are made when the first text is read. A contract sees nothing of it: what is read of a text is the
-/// same whether it was kept or not.
+/// Readings of texts that were read lately: of so many texts, and of so many bytes of texts together. Where one more would
+/// be too many, all others are let go of first. A contract sees nothing of it: what is read of a text is the same whether it
+/// was kept or not.
 pub struct Shelf<T: Reading> {
-    places: Vec<Option<Entry<T>>>,
+    entries: Vec<Entry<T>>,
+    /// The newest entry of each place. They are made when the first text is read.
+    places: Vec<usize>,
     count: usize,
     room: usize,
     left: usize,
@@ -74,6 +86,7 @@ pub struct Shelf<T: Reading> {
 impl<T: Reading> Drop for Shelf<T> {
     fn drop(self) {
         let Shelf {
+            entries: _,
             places: _,
             count: _,
             room: _,
@@ -87,6 +100,9 @@ impl<T: Reading> Model for Shelf<T> {
 
     ghost view = { λ s. tt };
 }
+
+/// How many places there are.
+const PLACES: usize = 64;
 
 /// How many bytes are taken as one number.
 const GROUP: usize = 8;
@@ -109,19 +125,20 @@ fn number_of(group: &[u8]) -> u64 {
     number
 }
 
-/// Where the reading of a text is kept. Most texts that differ have places that differ.
-fn place_of(text: &[u8], places: usize) -> usize {
+/// The place of a text. Most texts that differ have places that differ.
+fn place_of(text: &[u8]) -> usize {
     let mut sum = text.len() as u64;
     for group in text.chunks(GROUP).take(TOLD) {
         sum = (sum.rotate_left(5) ^ number_of(group)).wrapping_mul(SPREAD);
     }
-    (((sum >> 32) * (places as u64 & 0xffff_ffff)) >> 32) as usize
+    (sum >> 32) as usize % PLACES
 }
 
 impl<T: Reading> Shelf<T> {
-    /// No readings yet, for so many places, and for so many bytes of texts.
+    /// No readings yet, for so many texts, and for so many bytes of texts.
     pub fn new(alloc: Global, count: usize, room: usize) -> Shelf<T> {
         Shelf {
+            entries: Vec::new(alloc),
             places: Vec::new(alloc),
             count,
             room,
@@ -129,14 +146,29 @@ impl<T: Reading> Shelf<T> {
         }
     }
 
+    /// The newest entry of a place.
+    fn newest(&self, place: usize) -> usize {
+        match self.places.get(place) {
+            Some(entry) => *entry,
+            None => END,
+        }
+    }
+
     /// What was read of this text, if it is kept.
     fn kept(&self, text: &[u8]) -> Result<Option<Arc<T>>, AllocError>
         ensures { IfOk result (λ o. IfSome o (λ r. arc_value r ≡ T.read_of text.now)) }
     {
-        match self.places.get(place_of(text, self.places.len())) {
-            Some(Some(entry)) => entry.of(text),
-            _ => Ok(None),
+        let mut at = self.newest(place_of(text));
+        for _ in 0..self.entries.len() {
+            let Some(entry) = self.entries.get(at) else {
+                break;
+            };
+            if let Some(reading) = entry.of(text)? {
+                return Ok(Some(reading));
+            }
+            at = entry.before;
         }
+        Ok(None)
     }
 
     /// What is read of a text. It is read only where it isn't kept.
@@ -155,32 +187,47 @@ impl<T: Reading> Shelf<T> {
     {
         let reading = Arc::new(alloc, T::read(alloc, text.as_slice())?)?;
         if text.len() <= self.room {
-            self.keep(Entry::new(alloc, text, &reading)?)?;
+            self.keep(alloc, text, &reading)?;
         }
         Ok(reading)
     }
 
-    /// Keeps a reading in the place of its text. Where there is too little room left for the text, all others are let go.
-    fn keep(&mut self, entry: Entry<T>) -> Result<(), AllocError> {
-        let length = entry.text.len();
-        if self.left < length {
+    /// Keeps what was read of a text: the newest entry of its place.
+    fn keep(&mut self, alloc: Global, text: &Bytes, reading: &Arc<T>) -> Result<(), AllocError>
+        requires { arc_value reading.now ≡ T.read_of text.now }
+    {
+        self.make_room(alloc, text.len())?;
+        let place = place_of(text.as_slice());
+        let before = self.newest(place);
+        let entry = Entry::new(alloc, text, reading, before)?;
+        let at = self.entries.len();
+        self.entries.push(entry)?;
+        self.left = self.left.saturating_sub(text.len());
+        if let Some(newest) = self.places.get_mut(place) {
+            *newest = at;
+        }
+        Ok(())
+    }
+
+    /// Where a text of this length would be one too many, all others are let go of. There are places then.
+    fn make_room(&mut self, alloc: Global, length: usize) -> Result<(), AllocError> {
+        if self.left < length || self.entries.len() >= self.count {
+            self.entries.clear();
             self.places.clear();
             self.left = self.room;
         }
         if self.places.is_empty() {
-            for _ in 0..self.count {
-                self.places.push(None)?;
-            }
-        }
-        let place = place_of(entry.text.as_slice(), self.places.len());
-        if let Some(slot) = self.places.get_mut(place) {
-            let before = match slot {
-                Some(old) => old.text.len(),
-                None => 0,
-            };
-            self.left = self.left.saturating_add(before).saturating_sub(length);
-            *slot = Some(entry);
+            self.places = places(alloc)?;
         }
         Ok(())
     }
+}
+
+/// Places without an entry.
+fn places(alloc: Global) -> Result<Vec<usize>, AllocError> {
+    let mut places = Vec::with_capacity(alloc, PLACES)?;
+    for _ in 0..PLACES {
+        places.push(END)?;
+    }
+    Ok(places)
 }

@@ -2,7 +2,7 @@
 use crate::progress::Progress;
 use dg_bench::RunTests;
 use dg_gate::{Asker, GateFault};
-use dg_live::{LiveFault, run_live};
+use dg_live::{LiveFault, Readings, run_live_with};
 use dg_pipes::{Fresh, PipeGate};
 use dg_records::Record;
 use dg_transcript::Transcript;
@@ -41,10 +41,11 @@ where
         alloc: Global,
         _worker: usize,
         test: TestId,
+        readings: &mut Readings,
         asker: &mut A,
     ) -> Result<(Record, Transcript), LiveFault> {
         let mut gate = PipeGate::new(self.rt, alloc, self.opener);
-        let run = run_live(alloc, test, &mut gate, asker);
+        let run = run_live_with(alloc, test, readings, &mut gate, asker);
         let _accounts = gate.stop();
         run
     }

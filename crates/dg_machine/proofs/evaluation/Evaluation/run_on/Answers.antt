@@ -15,5 +15,5 @@ returns-in-AtQuestion c =
 pub returns-in_ok-reads-in-AtEnd : goal.returns-in_ok-reads-in-AtEnd
 returns-in_ok-reads-in-AtEnd c =
     let came = rw c.in-AtEnd.is at c.in_ok-ask.ensures in
-    rw (← c.self.view_is, c.in_ok-reads-in-AtEnd.ensures, c.steps-steps.ensures, c.board_steps-board_steps.ensures, c.into_state-state.ensures, c.into_inner-verdict.ensures, c.into_inner.ensures)
+    rw (← c.self.view_is, c.in_ok-reads-in-AtEnd.ensures, c.steps-steps.ensures, c.board_steps-board_steps.ensures, c.into_parts-state.ensures, c.into_inner-verdict.ensures, c.into_inner.ensures)
     (ends _ _ _ c.run_on.new.self c.self.invariant came, refl, came.1)

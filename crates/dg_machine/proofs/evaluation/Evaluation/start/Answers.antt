@@ -4,8 +4,11 @@ use Rattle.dg_machine.proofs.EvaluationLemmas.{starts}
 use Rattle.dg_machine.proofs.evaluation.Evaluation.start.Goals as goal
 
 pub invariant_of-result : goal.invariant_of-result
-invariant_of-result c = rw (c.in_ok-machine.ensures, c.new.ensures, c.new-2.ensures, c.in_ok-copy.ensures, c.in_ok-push.ensures, c.new-stack.ensures) (starts _ _ refl)
+invariant_of-result c =
+    let m = c.new-machine.ensures in
+    rw c.in_ok-machine.ensures
+    (starts _ _ (rw (m.state, c.new-state.ensures, c.in_ok-copy.ensures) refl) (rw (m.stack, c.in_ok-push.ensures, c.new-stack.ensures) refl) m.control)
 
 pub returns : goal.returns
 unfolding fresh
-returns c = rw (c.in_ok-machine.ensures, c.new.ensures) refl
+returns c = rw (c.in_ok-machine.ensures, c.new-machine.ensures.state, c.new-state.ensures) refl

@@ -1,5 +1,5 @@
 use Rattle.dg_live.proofs.Going.{Going}
-use Rattle.dg_live.proofs.run.run_live.Given as goal
+use Rattle.dg_live.proofs.run.run_live_with.Given as goal
 
 abbrev pub invariant-turns : goal.invariant-turns
 invariant-turns g l =

@@ -1,6 +1,6 @@
 use Rattle.std.proofs.lemmas.Result.{IfOk-weaker}
 use Rattle.dg_live.proofs.Going.{going-first, going-room, going-on, ends-kept, ends-live, live-as}
-use Rattle.dg_live.proofs.run.run_live.Goals as goal
+use Rattle.dg_live.proofs.run.run_live_with.Goals as goal
 
 pub turns-init : goal.turns-init
 turns-init g c =
