@@ -21,13 +21,13 @@ use std::thread::{Promise, PromisedHandle, Threads};
 use std::time::Clock;
 
 /// How many items a ring holds.
-const SLOTS: usize = 2048;
+const SLOTS: usize = 65_536;
 /// How long a stop waits for the next item of what is left of an output, in milliseconds.
 const PATIENCE: u32 = 250;
 /// How long it waits for all of it, in milliseconds.
 const LONGEST: u32 = 2000;
 /// The most items that a stop takes: more than a ring and a pipe hold.
-const MOST_LEFT: usize = 4096;
+const MOST_LEFT: usize = 131_072;
 
 /// The ring that the thread was given.
 #[derive(Drop)]
