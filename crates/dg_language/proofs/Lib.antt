@@ -3,6 +3,7 @@ pub mod Once
 pub mod Asking
 pub mod Places
 pub mod ReadsLemmas
+pub mod RowLemmas
 pub mod CallLemmas
 pub mod TouchLemmas
 pub mod StateLemmas

@@ -17,7 +17,7 @@ use Rattle.dg_world.specs.contracts.question.QuestionPartialEq.TheImpl as derive
 use Rattle.dg_world.specs.Question.{same_machine, same_question}
 use Rattle.indexmap.specs.IndexMap.{insert_entry}
 use Rattle.dg_language.specs.Play.{lookup}
-use Rattle.dg_language.specs.Reads.{are_new}
+use Rattle.dg_language.specs.Row.{are_new}
 use Rattle.dg_language.proofs.Asking.{lookup-learned, lookup-more}
 use Rattle.dg_language.proofs.Places.{equal_place}
 

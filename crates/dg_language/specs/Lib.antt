@@ -1,4 +1,5 @@
 pub mod Play
+pub mod Row
 pub mod Reads
 pub mod State
 pub mod Evaluation

@@ -14,6 +14,7 @@ mod law;
 mod procedure;
 mod queue;
 mod reads;
+mod row;
 mod search;
 mod state;
 mod substitution;

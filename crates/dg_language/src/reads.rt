@@ -3,9 +3,11 @@ ghost use Rattle.std.specs.Prelude.{◌≡◌, ◌++◌, ◌∷◌, [], None, So
 ghost use Rattle.std.specs.List.{find};
 ghost use Rattle.std.specs.Option.{option_copied, option_map};
 ghost use Rattle.dg_language.specs.Play.{lookup};
-ghost use Rattle.dg_language.specs.Reads.{are_new, reads_of};
+ghost use Rattle.dg_language.specs.Row.{are_new};
+ghost use Rattle.dg_language.specs.Reads.{is_once, reads_held, reads_of};
 ghost use Rattle.dg_world.specs.Question.{same_question};
 
+use crate::row::Row;
 use dg_bytes::Seq;
 use dg_transcript::Entry;
 use dg_world::{Answer, Question, Read, TestId};
@@ -20,8 +22,10 @@ const NEAR: usize = 16;
 /// What is kept of the answers.
 #[derive(Drop)]
 enum Form {
-    /// At most 16, in a row.
+    /// At most 16.
     Few(Vec<Read>),
+    /// More, which end with the entries of a session in a row.
+    Row(Row),
     /// More, found by the hashes of their questions.
     Many(IndexMap<Question, Answer>),
 }
@@ -51,7 +55,7 @@ impl Model for Reads {
 }
 
 /// The first answer to a question among reads.
-fn answer_among<'a>(reads: &'a [Read], question: &Question) -> Option<&'a Answer>
+pub(crate) fn answer_among<'a>(reads: &'a [Read], question: &Question) -> Option<&'a Answer>
     ensures { option_copied result ≡ option_map (λ read. read.answer) (find (λ read. same_question read.question question.now) reads.now) }
 {
     let read = reads.iter().find(|read| read.question.is(question))?;
@@ -118,6 +122,33 @@ fn listed(answers: IndexMap<Question, Answer>) -> Result<Seq<Read>, AllocError>
     Ok(Seq::from_vec(reads))
 }
 
+/// As many reads as are looked through one by one, and one more: where that is of an entry, a row begins with it.
+fn more_than_few(
+    alloc: Global,
+    reads: Vec<Read>,
+    question: Question,
+    answer: Answer,
+) -> Result<Form, AllocError>
+    requires once { IsTrue (are_new [] reads.items) }
+    requires new { lookup question reads.items ≡ None }
+    ensures reads { IfOk result (λ form. reads_held form ≡ reads.items ++ record { question = question; answer = answer } ∷ []) }
+    ensures once { IfOk result (λ form. IsTrue (is_once form)) }
+{
+    match &question {
+        Question::Entry(entry) => {
+            let mut row = Row::after(reads, entry.session, entry.place);
+            match row.add(question, answer)? {
+                None => Ok(Form::Row(row)),
+                Some(Read { question, answer }) => {
+                    let answers = hashed_with(alloc, row.into_reads(), question, answer)?;
+                    Ok(Form::Many(answers))
+                }
+            }
+        }
+        _ => Ok(Form::Many(hashed_with(alloc, reads, question, answer)?)),
+    }
+}
+
 impl Reads {
     /// No questions.
     pub fn new(alloc: Global) -> Reads
@@ -134,6 +165,7 @@ impl Reads {
     {
         match &self.form {
             Form::Few(reads) => answer_among(reads.as_slice(), question),
+            Form::Row(row) => row.answer_to(question),
             Form::Many(answers) => answers.get(question),
         }
     }
@@ -145,6 +177,10 @@ impl Reads {
         match &self.form {
             Form::Few(reads) => {
                 let last = reads.last()?;
+                Some((&last.question, &last.answer))
+            }
+            Form::Row(row) => {
+                let last = row.as_slice().last()?;
                 Some((&last.question, &last.answer))
             }
             Form::Many(answers) => answers.get_index(answers.len().saturating_sub(1)),
@@ -181,7 +217,14 @@ impl Reads {
             Form::Few(reads) => {
                 let alloc = *reads.allocator();
                 let few = mem::replace(reads, Vec::new(alloc));
-                self.form = Form::Many(hashed_with(alloc, few, question, answer)?);
+                self.form = more_than_few(alloc, few, question, answer)?;
+            }
+            Form::Row(row) => {
+                if let Some(Read { question, answer }) = row.add(question, answer)? {
+                    let alloc = row.allocator();
+                    let row = mem::replace(row, Row::after(Vec::new(alloc), 0, 0));
+                    self.form = Form::Many(hashed_with(alloc, row.into_reads(), question, answer)?);
+                }
             }
             Form::Many(answers) => add(answers, question, answer)?,
         }
@@ -195,6 +238,7 @@ impl Reads {
         let Reads { form } = self;
         match form {
             Form::Few(reads) => Ok(Seq::from_vec(reads)),
+            Form::Row(row) => Ok(Seq::from_vec(row.into_reads())),
             Form::Many(answers) => listed(answers),
         }
     }

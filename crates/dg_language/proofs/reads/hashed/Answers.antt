@@ -1,6 +1,7 @@
 use Rattle.std.proofs.Common.{◌≡◌, List, ◌++◌, ◌∷◌, [], length, ◌∙◌, ap, sym, refl, append-nil, arith}
 use Rattle.dg_world.specs.declared.question.Read.{Read}
-use Rattle.dg_language.specs.Reads.{are_new, reads_of}
+use Rattle.dg_language.specs.Row.{are_new}
+use Rattle.dg_language.specs.Reads.{reads_of}
 use Rattle.dg_language.proofs.ReadsLemmas.{next-new}
 use Rattle.dg_language.proofs.reads.hashed.Goals as goal
 

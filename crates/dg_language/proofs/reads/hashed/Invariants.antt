@@ -1,5 +1,6 @@
 use Rattle.std.proofs.Common.{◌≡◌, ◌++◌, IsTrue}
-use Rattle.dg_language.specs.Reads.{are_new, reads_of}
+use Rattle.dg_language.specs.Row.{are_new}
+use Rattle.dg_language.specs.Reads.{reads_of}
 use Rattle.dg_language.proofs.reads.hashed.Given as goal
 
 abbrev pub invariant-loop-question : goal.invariant-loop-question

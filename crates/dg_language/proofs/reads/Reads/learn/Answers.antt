@@ -1,6 +1,7 @@
 use Rattle.std.proofs.Common.{◌≡◌, ◌∙◌, [], ap, sym, true}
 use Rattle.dg_language.specs.Play.{lookup}
-use Rattle.dg_language.specs.Reads.{are_new, is_once, reads_held}
+use Rattle.dg_language.specs.Row.{are_new}
+use Rattle.dg_language.specs.Reads.{is_once, reads_held}
 use Rattle.dg_language.proofs.ReadsLemmas.{are_new-push}
 use Rattle.dg_language.proofs.reads.Reads.learn.Goals as goal
 
