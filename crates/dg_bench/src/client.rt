@@ -107,7 +107,7 @@ impl<'a, B: Room, R: Wait> Client<'a, B, R> {
     ) -> Result<Record, LiveFault>
         ensures { IfOk result (λ r. r.test ≡ test) }
     {
-        let read = mem::replace(readings, Readings::new(self.alloc));
+        let read = mem::replace(readings, Readings::new());
         let Ok(mut job) = Job::start_with(self.alloc, test, read) else {
             return Err(LiveFault::Memory);
         };

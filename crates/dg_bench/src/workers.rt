@@ -101,7 +101,7 @@ impl<'a, B: Room, M: RunTests, R: Wait> Crew<'a, B, M, R> {
         requires ready { M.is_ready self.now.maker.now }
     {
         let mut client = Client::new(self.rt, self.alloc, self.bench, pass);
-        let mut readings = Readings::new(self.alloc);
+        let mut readings = Readings::new();
         for test in self.tests.iter().skip(worker).step_by(self.workers) {
             self.judge(&mut client, &mut readings, worker, test)?;
         }

@@ -1,5 +1,5 @@
 -- A job that is told what a world answers, whose book may grow meanwhile.
-use Rattle.std.proofs.Common.{◌≡◌, ◌<◌, ◌≤◌, Bool, true, false, List, [], ◌∷◌, ◌++◌, true≢false, refl, ap, sym, ◌∙◌, subst, arith}
+use Rattle.std.proofs.Common.{◌≡◌, ◌⊎◌, inl, inr, ◌<◌, ◌≤◌, Bool, true, false, List, [], ◌∷◌, ◌++◌, true≢false, refl, ap, sym, ◌∙◌, subst, arith}
 use Rattle.std.proofs.lemmas.List.{append_assoc, append-nil}
 use Rattle.std.specs.Prelude.{Option, Some, None}
 use Rattle.dg_world.specs.World.{FitsQuestion, WorldView, look, IsAsked}
@@ -18,13 +18,16 @@ use Rattle.dg_records.specs.Truth.{RecordView, answers_of}
 use Rattle.dg_records.proofs.HoldsLemmas.{heard-look}
 use Rattle.dg_eval.specs.Truth.{JobView}
 use Rattle.dg_eval.specs.Evaluating.{NeedsNext, HasEnded}
-use Rattle.dg_eval.specs.Advance.{started, Advances, Tells, Halts, Refuses}
+use Rattle.dg_eval.specs.Advance.{started, Advances, AdvancesAlong, GoesAlong, HaltsAlong, Tells, Halts, Refuses}
+use Rattle.dg_eval.specs.Arriving.{AreGiven}
+use Rattle.dg_eval.specs.declared.job.Turn.{Turn}
 use Rattle.dg_eval.specs.declared.job.Turn.TheVariants.{Need, Done}
 use Rattle.dg_eval.specs.declared.job.JobFault.{JobFault}
 use Rattle.dg_eval.specs.declared.job.JobFault.TheVariants.{NotAsked, WrongKind, PatternLost, Memory, Failed}
 use Rattle.dg_index.specs.Kept.{KeptView, IsAskedOf}
 use Rattle.dg_core.specs.Core.{record_in, lines_or_none}
 use Rattle.dg_core.specs.Turns.{left_of, bound, over_answers, turns_left}
+use Rattle.dg_core.specs.Turning.{AsksInTurn}
 use Rattle.dg_core.specs.Asking.{all_reads, IsTold, IsToldMore, Stops, Ends as EndsWith, Judges, Fails}
 use Rattle.dg_core.proofs.Turning.{asks-append}
 use Rattle.dg_core.proofs.Growing.{asked-grown, grown-gives, bound-grown}
@@ -202,3 +205,98 @@ pub stops-fails : (before : KeptView) (w : WorldView) (old mid new : JobView) (q
     → IsAsked before.world w q.question a → Refuses mid new a f → Fails w old.test f
 stops-fails before w old mid new q a f s asked h =
     subst (λ t. Fails w t f) s.same (refuses-fails before.world w s.last mid new q a f (subst (λ t. IsTold before.world t s.last) (sym s.same) s.told) s.advances asked h)
+
+-- what a source gives, one list after another
+gives-both : (source : Source) (xs ys : List Read) → Gives source xs → Gives source ys → Gives source (xs ++ ys)
+gives-both source [] ys g h = h
+gives-both source (x ∷ xs) ys g h = (g.0, gives-both source xs ys g.1 h)
+
+gives-given : (source : Source) (holds : Question → Answer → Type 0) (rs : List Read) → AreGiven source holds rs → Gives source rs
+gives-given source holds [] g = tt
+gives-given source holds (r ∷ rs) g = (g.0, gives-given source holds rs g.2)
+
+-- answers that a world has were asked in turn, which changes nothing of it
+asks-given : (k : KeptView) (rs : List Read) → AreGiven (answers_of k.world) FitsQuestion rs → AsksInTurn k rs k
+asks-given k [] g = refl
+asks-given k (r ∷ rs) g = (k, asked-looked k r.question r.answer (sym (heard-look k.world r.question) ∙ g.0) g.1, asks-given k rs g.2)
+
+-- answers leave at most as many questions
+bound-along : {A : Type 0} (w : WorldView) (p : Play A) (rs : List Read) (rest : Play A) → Leads p rs rest → Gives (answers_of w) rs → bound w rest ≤ bound w p
+bound-along w p [] rest l g = let e = ap (bound w) l in omega (arith, e)
+bound-along w (Ends a) (r ∷ rs) rest l g = absurd l
+bound-along w (Asks q k) (r ∷ rs) rest l g =
+    let e : look w q.question ≡ Some r.answer = subst (λ x. look w x ≡ Some r.answer) (sym l.0) (sym (heard-look w r.question) ∙ g.0) in
+    let told : over_answers (look w q.question) (λ b. bound w (k b)) ≡ bound w (k r.answer) = ap (λ o. over_answers o (λ b. bound w (k b))) e in
+    let less = bound-along w (k r.answer) rs rest l.2 g.1 in
+    omega (arith, told, less)
+
+-- where the first reads lead to, the others go on from
+leads-behind : {A : Type 0} (p : Play A) (rs more : List Read) (mid rest : Play A) → Leads p rs mid → Leads p (rs ++ more) rest → Leads mid more rest
+leads-behind p [] more mid rest l m = subst (λ x. Leads x more rest) l m
+leads-behind (Ends a) (r ∷ rs) more mid rest l m = absurd l
+leads-behind (Asks q k) (r ∷ rs) more mid rest l m = leads-behind (k r.answer) rs more mid rest l.2 m.2
+
+-- turns that are told in a row leave at most as many
+fewer-along : (w : WorldView) (t : TestId) (reads more : List Read) (mid rest : Play Ending) → Leads (judge t) reads mid → Leads (judge t) (reads ++ more) rest
+    → Gives (answers_of w) more → turns_left w t (reads ++ more) ≤ turns_left w t reads
+unfolding turns_left
+fewer-along w t reads more mid rest l m g =
+    let here = ap (bound w) (left-along (judge t) reads mid l) in
+    let next = ap (bound w) (left-along (judge t) (reads ++ more) rest m) in
+    let less = bound-along w mid more rest (leads-behind (judge t) reads more mid rest l m) g in
+    omega (arith, here, next, less)
+
+-- a job that was told answers of a world, and what these were
+record IsToldOn (k : KeptView) (old mid : JobView) : Type 0 where
+  told : IsTold k.world old.test mid
+  same : mid.test ≡ old.test
+  fewer : turns_left k.world old.test mid.reads ≤ turns_left k.world old.test old.reads
+  more : List Read
+  asked : AsksInTurn k more k
+  reads : mid.reads ≡ old.reads ++ more
+
+told-along : (k : KeptView) (old mid : JobView) → IsTold k.world old.test old → GoesAlong (answers_of k.world) FitsQuestion old mid → IsToldOn k old mid
+told-along k old mid t (inl e) =
+    record {
+      told = subst (λ j. IsTold k.world old.test j) (sym e) t;
+      same = ap (λ (j : JobView). j.test) e;
+      fewer = let same = ap (λ (j : JobView). turns_left k.world old.test j.reads) e in omega (arith, same);
+      more = [];
+      asked = refl;
+      reads = ap (λ (j : JobView). j.reads) e ∙ sym (append-nil old.reads);
+    }
+told-along k old mid t (inr m) =
+    let reads : mid.reads ≡ old.reads ++ m.more = ap (λ (j : JobView). j.reads) m.is in
+    let leads : Leads (judge old.test) (old.reads ++ m.more) m.rest = subst (λ rs. Leads (judge old.test) rs m.rest) reads m.leads in
+    let given = gives-given (answers_of k.world) FitsQuestion m.more m.given in
+    record {
+      told = subst (λ j. IsTold k.world old.test j) (sym m.is)
+          (record {
+            test = refl;
+            live = refl;
+            failed = refl;
+            asked = refl;
+            gives = gives-both (answers_of k.world) old.reads m.more t.gives given;
+            rest = m.rest;
+            leads = leads;
+          });
+      same = ap (λ (j : JobView). j.test) m.is;
+      fewer = subst (λ rs. turns_left k.world old.test rs ≤ turns_left k.world old.test old.reads) (sym reads)
+          (fewer-along k.world old.test old.reads m.more t.rest m.rest t.leads leads given);
+      more = m.more;
+      asked = asks-given k m.more m.given;
+      reads = reads;
+    }
+
+-- a turn behind what a job was told in a row
+pub along-stops : (k : KeptView) (old new : JobView) (turn : Turn) → IsTold k.world old.test old → AdvancesAlong (answers_of k.world) FitsQuestion old new turn
+    → Stops k old new turn
+along-stops k old new turn t a =
+    let on = told-along k old a.0 t a.1 in
+    record { last = a.0; told = on.told; same = on.same; fewer = on.fewer; more = on.more; asked = on.asked; reads = on.reads; advances = a.2 }
+
+pub along-fails : (k : KeptView) (old new : JobView) (f : JobFault) → IsTold k.world old.test old → HaltsAlong (answers_of k.world) FitsQuestion old new f
+    → Fails k.world old.test f
+along-fails k old new f t h =
+    let on = told-along k old h.0 t h.1 in
+    subst (λ u. Fails k.world u f) on.same (halts-fails k.world h.0 new f (subst (λ u. IsTold k.world u h.0) (sym on.same) on.told) h.2)

@@ -57,11 +57,6 @@ pub record Stops (k : KeptView) (old new : JobView) (turn : Turn) : Type 0 where
   pub reads : last.reads ≡ old.reads ++ more
   pub advances : Advances last new turn
 
--- the answer that a world has was told, or a turn came to this
-abbrev pub LooksUp : KeptView → JobView → JobView → Option Turn → Type 0
-LooksUp k old new None = IsToldMore k k old new
-LooksUp k old new (Some turn) = Advances old new turn
-
 -- the record of a test in a world, where its judging comes to its end
 pub record Judges (w : WorldView) (t : TestId) (r : RecordView) : Type 0 where
   pub made : r ≡ record_in w t

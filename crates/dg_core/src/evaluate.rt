@@ -1,19 +1,19 @@
 //! The evaluation of a test in a world, whose book takes up each new pattern.
-ghost use Rattle.std.specs.Prelude.{◌≡◌, List, IfOk, IfSome, OnErr, MatchResult, option_and_then, option_copied};
+ghost use Rattle.std.specs.Prelude.{◌≡◌, List, IfOk, OnErr, MatchResult, option_and_then, option_copied};
 ghost use Rattle.dg_transcript.specs.Sessions.{entry_at};
-ghost use Rattle.dg_world.specs.World.{FitsQuestion, look, transcript_of};
 ghost use Rattle.dg_world.specs.declared.question.Read.{Read};
-ghost use Rattle.dg_core.specs.Asking.{IsTold, LooksUp, Stops, Takes, Judges, Fails};
+ghost use Rattle.dg_core.specs.Asking.{IsTold, Stops, Takes, Judges, Fails};
 ghost use Rattle.dg_core.specs.Grown.{IsGrown};
 ghost use Rattle.dg_core.specs.Turning.{AsksInTurn};
 
 use dg_bytes::TryCopy;
-use dg_eval::{Job, JobFault, Readings, Turn};
+use dg_eval::{Answers, Job, JobFault, Readings, Turn};
 use dg_index::Kept;
 use dg_records::Record;
 use dg_transcript::{Entry, Transcript};
 use dg_world::{Answer, EntryPlace, Question, TestId, World};
 use std::alloc::{AllocError, Global};
+use std::marker::Model;
 use std::mem;
 
 /// The entry at a place of a transcript, if there is one.
@@ -26,53 +26,59 @@ fn entry_in<'a>(transcript: Option<&'a Transcript>, place: &EntryPlace) -> Optio
     }
 }
 
-/// What a world answers to a question, if it has an answer, with the transcript of a test, which was looked for before: its
-/// entries are not sought by their test.
-fn answer_with(
-    alloc: Global,
-    world: &World,
-    test: &TestId,
-    transcript: Option<&Transcript>,
-    question: &Question,
-) -> Result<Option<Answer>, AllocError>
-    requires { option_copied transcript ≡ transcript_of world.now test.now }
-    ensures looked { IfOk result (λ a. a ≡ look world.now question.now) }
-    ensures fits { IfOk result (λ a. IfSome a (FitsQuestion question.now)) }
-{
-    match question {
-        Question::Entry(place) if place.test.is(test) => match entry_in(transcript, place) {
-            Some(entry) => Ok(Some(Answer::Entry(entry.copy(alloc)?))),
-            None => Ok(Some(Answer::Ended)),
-        },
-        _ => world.answer(alloc, question),
+/// What a world answers to the questions of a test, whose transcript was looked for before: its entries are not sought by
+/// their test.
+#[derive(Drop)]
+struct Looking<'a> {
+    world: &'a World,
+    test: &'a TestId,
+    transcript: Option<&'a Transcript>,
+}
+
+impl<'a> Model for Looking<'a> {
+    ghost use Rattle.std.specs.Prelude.{◌≡◌};
+    ghost use Rattle.std.specs.Option.{option_copied};
+    ghost use Rattle.dg_world.specs.World.{WorldView, transcript_of};
+
+    ghost Value = { WorldView };
+
+    ghost view = { λ l. l.world.now };
+
+    ghost invariant = { λ l. option_copied l.transcript ≡ transcript_of l.world.now l.test.now };
+}
+
+impl<'a> Looking<'a> {
+    /// The answers of a world to the questions of a test.
+    fn new(world: &'a World, test: &'a TestId) -> Looking<'a>
+        ensures { result ≡ world.now }
+    {
+        let transcript = world.transcript(test);
+        Looking {
+            world,
+            test,
+            transcript,
+        }
     }
 }
 
-/// Tells a job what the world answers to its next question, where it has an answer; else gives the question, or the record.
-/// All that it was told so far are this world's answers.
-#[tactic(none)]
-fn look_up(
-    alloc: Global,
-    kept: &Kept,
-    test: &TestId,
-    transcript: Option<&Transcript>,
-    job: &mut Job,
-) -> Result<Option<Turn>, JobFault>
-    requires told { IsTold kept.now.world job.old.test job.old }
-    requires transcript { option_copied transcript ≡ transcript_of kept.now.world test.now }
-    ensures { MatchResult result (LooksUp kept.now job.old job.new) (Fails kept.now.world job.old.test) }
-{
-    let ask = match job.advance(alloc) {
-        Ok(Turn::Need(ask)) => ask,
-        Ok(Turn::Done(record)) => return Ok(Some(Turn::Done(record))),
-        Err(fault) => return Err(fault),
-    };
-    let Some(told) = answer_with(alloc, kept.world(), test, transcript, &ask.question)? else {
-        return Ok(Some(Turn::Need(ask)));
-    };
-    match job.answer(told) {
-        Ok(()) => Ok(None),
-        Err(fault) => Err(fault),
+impl<'a> Answers for Looking<'a> {
+    ghost use Rattle.dg_records.specs.Truth.{answers_of};
+    ghost use Rattle.dg_world.specs.World.{FitsQuestion};
+
+    ghost source = { λ w. answers_of w };
+
+    ghost holds = { FitsQuestion };
+
+    fn answer_to(&self, alloc: Global, question: &Question) -> Result<Option<Answer>, AllocError> {
+        match question {
+            Question::Entry(place) if place.test.is(self.test) => {
+                match entry_in(self.transcript, place) {
+                    Some(entry) => Ok(Some(Answer::Entry(entry.copy(alloc)?))),
+                    None => Ok(Some(Answer::Ended)),
+                }
+            }
+            _ => self.world.answer(alloc, question),
+        }
     }
 }
 
@@ -81,12 +87,8 @@ fn look_up_all(alloc: Global, kept: &Kept, test: &TestId, job: &mut Job) -> Resu
     requires { IsTold kept.now.world job.old.test job.old }
     ensures { MatchResult result (Stops kept.now job.old job.new) (Fails kept.now.world job.old.test) }
 {
-    let transcript = kept.world().transcript(test);
-    'turns: loop {
-        if let Some(turn) = look_up(alloc, kept, test, transcript, job)? {
-            return Ok(turn);
-        }
-    }
+    let looking = Looking::new(kept.world(), test);
+    job.advance_along(alloc, &looking)
 }
 
 /// Tells a job what the world answers to its next questions, with the first that is new to the world, or gives its record.
@@ -130,7 +132,7 @@ pub(crate) fn evaluate(
     ensures asked { IfOk result (λ r. AsksInTurn kept.old r.reads kept.new) }
     ensures stopped { OnErr result ((reads : List Read) × AsksInTurn kept.old reads kept.new) }
 {
-    let read = mem::replace(readings, Readings::new(alloc));
+    let read = mem::replace(readings, Readings::new());
     let mut job = Job::start_with(alloc, test.copy(alloc)?, read)?;
     'turns: loop {
         if let Some(record) = take_turns(alloc, kept, test, &mut job)? {

@@ -400,7 +400,7 @@ impl Core {
     {
         let _begun = self.evaluations();
         let pending = self.pending(alloc, lineup)?;
-        let mut readings = Readings::new(alloc);
+        let mut readings = Readings::new();
         for test in pending.as_slice() {
             self.judge(alloc, test, &mut readings)?;
         }

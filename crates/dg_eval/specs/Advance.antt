@@ -1,13 +1,19 @@
 -- What the turns of a job come to.
-use Rattle.std.specs.Prelude.{◌≡◌, ℕ, Bool, true, false, List, [], ◌∷◌, ◌++◌, Option, Some, None}
+use Rattle.std.specs.Prelude.{◌≡◌, ◌⊎◌, ℕ, Bool, true, false, List, [], ◌∷◌, ◌++◌, Option, Some, None}
 use Rattle.dg_language.specs.declared.ask.Ask.{Ask}
 use Rattle.dg_language.specs.Evaluation.{Ending}
+use Rattle.dg_language.specs.Judge.{judge}
+use Rattle.dg_language.specs.Play.{Play, Source, Leads}
 use Rattle.dg_world.specs.declared.question.Answer.{Answer}
+use Rattle.dg_world.specs.declared.question.Question.{Question}
 use Rattle.dg_world.specs.declared.question.Read.{Read}
 use Rattle.dg_world.specs.declared.test_id.TestId.{TestId}
 use Rattle.dg_world.specs.Question.{fits}
 use Rattle.dg_results.specs.declared.verdict.Line.{Line}
-use Rattle.dg_machine.specs.Evaluating.{NeedsNext, HasEnded}
+use Rattle.dg_machine.specs.Evaluating.{EvaluationView, NeedsNext, HasEnded}
+use Rattle.dg_machine.specs.Arriving.{AreGiven, Arrives}
+use Rattle.dg_machine.specs.declared.evaluation.Arrival.{Arrival}
+use Rattle.dg_machine.specs.declared.evaluation.Arrival.TheVariants.{AtQuestion, AtEnd, Lost}
 use Rattle.dg_machine.specs.Lost.{HasReadPattern}
 use Rattle.dg_eval.specs.declared.job.Turn.{Turn}
 use Rattle.dg_eval.specs.declared.job.Turn.TheVariants.{Need, Done}
@@ -82,3 +88,48 @@ Refuses old new a WrongKind = IsOfKind old.asked a false × (new ≡ old)
 Refuses old new a PatternLost = ⊥
 Refuses old new a Memory = IsOfKind old.asked a true × HasFailed old new
 Refuses old new a Failed = (old.failed ≡ true) × (new ≡ old)
+
+-- a job was told more answers of a source: those that its judging asks for next
+pub record IsToldMore (look : Source) (holds : Question → Answer → Type 0) (old mid : JobView) : Type 0 where
+  pub more : List Read
+  pub given : AreGiven look holds more
+  pub asked : old.asked ≡ None
+  pub live : old.live ≡ true
+  pub is : mid ≡ going old (old.reads ++ more)
+  pub rest : Play Ending
+  pub leads : Leads (judge old.test) mid.reads rest
+
+-- the job stays as it was, or is told more
+abbrev pub GoesAlong : Source → (Question → Answer → Type 0) → JobView → JobView → Type 0
+GoesAlong look holds old mid = (mid ≡ old) ⊎ IsToldMore look holds old mid
+
+-- a question stood before, or the source has no answer to the one that is needed
+abbrev pub IsUnanswered : Source → JobView → Turn → Type 0
+IsUnanswered look old (Need ask) = ((stood : Ask) × (old.asked ≡ Some stood)) ⊎ (look ask.question ≡ None)
+IsUnanswered look old (Done r) = Unit {0}
+
+-- What a turn comes to along a source: the job is told its answers as long as there are such, and then advances.
+abbrev pub AdvancesAlong : Source → (Question → Answer → Type 0) → JobView → JobView → Turn → Type 0
+AdvancesAlong look holds old new turn = (mid : JobView) × GoesAlong look holds old mid × Advances mid new turn × IsUnanswered look old turn
+
+-- or it comes to nothing behind some of them
+abbrev pub HaltsAlong : Source → (Question → Answer → Type 0) → JobView → JobView → JobFault → Type 0
+HaltsAlong look holds old new fault = (mid : JobView) × GoesAlong look holds old mid × Halts mid new fault
+
+-- an evaluation of the test has arrived at this
+abbrev pub HasArrived : TestId → Arrival → Type 0
+HasArrived test arrival = (e : EvaluationView) × (e.test ≡ test) × Arrives e arrival
+
+-- the turn tells where the evaluation has arrived
+abbrev pub IsTurnOf : Arrival → Turn → Type 0
+IsTurnOf (AtQuestion a) (Need ask) = ask ≡ a.ask
+IsTurnOf (AtEnd e) (Done r) = Unit {0}
+IsTurnOf arrival turn = ⊥
+
+-- what a turn comes to, whose evaluation has arrived at this
+abbrev pub Meets : JobView → JobView → Arrival → Turn → Type 0
+Meets old new arrival turn =
+    ((e : EvaluationView) → e.test ≡ old.test → Arrives e arrival → Advances (going old e.reads) new turn) × IsTurnOf arrival turn
+
+abbrev pub Misses : JobView → JobView → Arrival → JobFault → Type 0
+Misses old new arrival fault = (e : EvaluationView) → e.test ≡ old.test → Arrives e arrival → Halts (going old e.reads) new fault

@@ -1,10 +1,10 @@
 //! Jobs: evaluations that stop at each question and go on from there.
 ghost use Rattle.std.specs.Prelude.{◌≡◌, true, IfOk, MatchResult};
-ghost use Rattle.dg_eval.specs.Advance.{Advances, Halts, HasFailed, Tells, Refuses, started, going};
+ghost use Rattle.dg_eval.specs.Advance.{Advances, AdvancesAlong, Halts, HaltsAlong, HasArrived, HasFailed, Meets, Misses, Tells, Refuses, started, going};
 
 use crate::stage::Stage;
 use dg_language::Ask;
-use dg_machine::{Arrival, Evaluation, Readings};
+use dg_machine::{Answers, Arrival, Evaluation, Readings};
 use dg_records::Record;
 use dg_world::{Answer, TestId};
 use std::alloc::{AllocError, Global};
@@ -76,7 +76,7 @@ impl Job {
     pub fn start(alloc: Global, test: TestId) -> Result<Job, AllocError>
         ensures { IfOk result (λ j. j ≡ started test) }
     {
-        Job::start_with(alloc, test, Readings::new(alloc))
+        Job::start_with(alloc, test, Readings::new())
     }
 
     /// Begins the judging of a test, with what the evaluations of other jobs read of texts.
@@ -130,13 +130,47 @@ impl Job {
         }
     }
 
+    /// Goes on to the next question that these don't answer, or to the end: each question before that is told their answer.
+    /// While a question stands it is given again.
+    ///
+    /// # Errors
+    /// As `advance`.
+    pub fn advance_along<A: Answers>(
+        &mut self,
+        alloc: Global,
+        answers: &A,
+    ) -> Result<Turn, JobFault>
+        ensures { MatchResult result (AdvancesAlong (A.source answers.now) A.holds self.old self.new) (HaltsAlong (A.source answers.now) A.holds self.old self.new) }
+    {
+        match mem::replace(&mut self.stage, Stage::Failed) {
+            Stage::Running(evaluation) => match evaluation.run_along(alloc, answers) {
+                Ok(arrival) => self.arrive(alloc, arrival),
+                Err(AllocError) => Err(JobFault::Memory),
+            },
+            stage => {
+                self.stage.set(stage);
+                self.advance(alloc)
+            }
+        }
+    }
+
     /// The evaluation moves up to a question, or to the end, or fails.
     fn go_on(&mut self, alloc: Global, evaluation: Evaluation) -> Result<Turn, JobFault>
         requires test { evaluation.test ≡ self.old.test }
         requires failed { HasFailed self.old self.old }
         ensures { MatchResult result (Advances (going self.old evaluation.reads) self.new) (Halts (going self.old evaluation.reads) self.new) }
     {
-        match evaluation.run_on(alloc)? {
+        let arrival = evaluation.run_on(alloc)?;
+        self.arrive(alloc, arrival)
+    }
+
+    /// The evaluation has come to a question, to the end, or to a pattern that can't be built.
+    fn arrive(&mut self, alloc: Global, arrival: Arrival) -> Result<Turn, JobFault>
+        requires arrived { HasArrived self.old.test arrival }
+        requires failed { HasFailed self.old self.old }
+        ensures { MatchResult result (Meets self.old self.new arrival) (Misses self.old self.new arrival) }
+    {
+        match arrival {
             Arrival::AtQuestion(asking) => {
                 let copy = asking.ask().copy(alloc)?;
                 self.steps = asking.steps();

@@ -129,7 +129,7 @@ pub fn run_live<G: Gate, A: Asker>(
     ensures run { IfOk result (λ p. IsLiveRun G.step A.step test gate.old asker.old gate.new asker.new p.0 p.1) }
     ensures fault { IfErr result CanFail }
 {
-    let mut readings = Readings::new(alloc);
+    let mut readings = Readings::new();
     run_live_with(alloc, test, &mut readings, gate, asker)
 }
 
@@ -150,7 +150,7 @@ pub fn run_live_with<G: Gate, A: Asker>(
     ensures run { IfOk result (λ p. IsLiveRun G.step A.step test gate.old asker.old gate.new asker.new p.0 p.1) }
     ensures fault { IfErr result CanFail }
 {
-    let read = mem::replace(readings, Readings::new(alloc));
+    let read = mem::replace(readings, Readings::new());
     let mut job = match Job::start_with(alloc, test, read) {
         Ok(job) => job,
         Err(_) => return Err(LiveFault::Job(JobFault::Memory)),

@@ -33,6 +33,7 @@ use Rattle.dg_machine.specs.contracts.frame.Rounds as Rounds
 use Rattle.dg_machine.specs.contracts.machine.Machine as Machine
 use Rattle.dg_machine.specs.contracts.patterns.Prepared as Prepared
 use Rattle.dg_machine.specs.contracts.readings.Readings as Readings
+use Rattle.dg_machine.specs.contracts.readings.Shelves as Shelves
 use Rattle.dg_compiled.proofs.Crosses.{Read-send, Read-sync, Formula-send, Formula-sync, Listing-send, Listing-sync, Script-send, Body-send, Calculation-send, Condition-send}
 
 Elements-send : IsSend Elements.the_row
@@ -134,8 +135,15 @@ Machine-send =
     let frames = stack.the_send Frame.the_row Frame-send in
     search (sendable, state.the_send, control.the_field_send, Programs-send, shelf.the_send, Read-send, Read-sync, Formula-send, Formula-sync, Elements-send, Elements-sync, Listing-send, Listing-sync) depth 20
 
-pub Readings-send : IsSend Readings.the_row
-Readings-send = search (sendable, Programs-send, shelf.the_send, Read-send, Read-sync, Formula-send, Formula-sync, Elements-send, Elements-sync, Listing-send, Listing-sync) depth 20
+Shelves-send : IsSend Shelves.the_row
+Shelves-send = search (sendable, Programs-send, shelf.the_send, Read-send, Read-sync, Formula-send, Formula-sync, Elements-send, Elements-sync, Listing-send, Listing-sync) depth 20
+
+Kept-shelves-send : IsSend (Boxed.the_field Shelves.the_row).row
+Kept-shelves-send = boxed.the_send Shelves.the_row Shelves-send
+
+-- as a field of a value that crosses
+pub Readings-send : IsSend Readings.the_field.row
+Readings-send = search (sendable, Kept-shelves-send) depth 20
 
 Kept-machine-send : IsSend (Boxed.the_row Machine.the_row)
 Kept-machine-send = let machine : IsSend Machine.the_row = search (recorded_send, Machine-send) depth 20 in boxed.the_send Machine.the_row machine

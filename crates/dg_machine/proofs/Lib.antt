@@ -12,6 +12,7 @@ pub mod OpeningLemmas
 pub mod BoardLemmas
 pub mod CompletingLemmas
 pub mod EvaluationLemmas
+pub mod AlongLemmas
 pub mod Crosses
 pub mod ActingLemmas
 pub mod SessionLemmas

@@ -3,7 +3,9 @@ ghost use Rattle.std.specs.Prelude.{◌≡◌, ◌-◌, ◌<◌, None, IfOk, OnO
 ghost use Rattle.dg_machine.specs.declared.frame.Stage.{Stage as TheStage};
 ghost use Rattle.dg_language.specs.Play.{lookup};
 ghost use Rattle.dg_machine.specs.Meaning.{told, ComesTo};
+ghost use Rattle.dg_machine.specs.Arriving.{ComesAlong};
 
+use crate::answers::Answers;
 use crate::frame::{Repetition, Stage, Stop};
 use crate::machine::Machine;
 use dg_world::{Answer, Question};
@@ -54,6 +56,13 @@ impl Boxed<Machine> {
         ensures { IfOk result (ComesTo self.old self.new) }
     {
         self.inner.run_on(alloc)
+    }
+
+    /// Moves until a question stands that these don't answer, or all is over.
+    pub fn run_along<A: Answers>(&mut self, alloc: Global, answers: &A) -> Result<Stop, AllocError>
+        ensures { IfOk result (ComesAlong (A.source answers.now) A.holds self.old self.new) }
+    {
+        self.inner.run_along(alloc, answers)
     }
 
     /// Notes the answer to a question that had none.

@@ -1,7 +1,9 @@
 //! Evaluations, which stop at each question: the machine behind a door that is cheap to pass.
 ghost use Rattle.std.specs.Prelude.{◌≡◌, true, IfOk};
 ghost use Rattle.dg_world.specs.Question.{fits};
+ghost use Rattle.dg_machine.specs.Arriving.{ComesAs, HasCome};
 
+use crate::answers::Answers;
 use crate::boxed::Boxed;
 use crate::frame::{Closing, Frame, Opening, Stop};
 use crate::machine::Machine;
@@ -101,7 +103,7 @@ pub enum Arrival {
 
 impl Evaluation {
     ghost use Rattle.dg_machine.specs.Evaluating.{begun};
-    ghost use Rattle.dg_machine.specs.Arriving.{Arrives};
+    ghost use Rattle.dg_machine.specs.Arriving.{Arrives, ArrivesAlong};
 
     /// The judging of a test begins, with what other evaluations read of texts.
     pub fn start(alloc: Global, test: TestId, readings: Readings) -> Result<Evaluation, AllocError>
@@ -122,25 +124,48 @@ impl Evaluation {
         ensures { IfOk result (Arrives self) }
     {
         let Evaluation { test, mut machine } = self;
-        match machine.run_on(alloc)? {
-            Stop::AtQuestion(ask) => Ok(Arrival::AtQuestion(Asking { test, ask, machine })),
-            Stop::Lost => Ok(Arrival::Lost),
-            Stop::AtEnd(closing) => {
-                let Closing { verdict, close } = closing.into_inner();
-                let (state, readings) = machine.into_inner().into_parts();
-                let board_steps = state.board_steps();
-                let steps = state.steps();
-                let reads = state.into_reads()?;
-                Ok(Arrival::AtEnd(Ended {
-                    test,
-                    reads,
-                    verdict,
-                    close,
-                    board_steps,
-                    steps,
-                    readings,
-                }))
-            }
+        let stop = machine.run_on(alloc)?;
+        arrive(alloc, test, machine, stop)
+    }
+
+    /// Goes on until a question stands that these don't answer, or all is over. Each question before that is told their answer.
+    pub fn run_along<A: Answers>(self, alloc: Global, answers: &A) -> Result<Arrival, AllocError>
+        ensures { IfOk result (ArrivesAlong (A.source answers.now) A.holds self) }
+    {
+        let Evaluation { test, mut machine } = self;
+        let stop = machine.run_along(alloc, answers)?;
+        arrive(alloc, test, machine, stop)
+    }
+}
+
+/// What the judging of a test has come to, whose machine has stopped.
+fn arrive(
+    alloc: Global,
+    test: TestId,
+    machine: Boxed<Machine>,
+    stop: Stop,
+) -> Result<Arrival, AllocError>
+    requires { HasCome test machine stop }
+    ensures { IfOk result (ComesAs test machine stop) }
+{
+    match stop {
+        Stop::AtQuestion(ask) => Ok(Arrival::AtQuestion(Asking { test, ask, machine })),
+        Stop::Lost => Ok(Arrival::Lost),
+        Stop::AtEnd(closing) => {
+            let Closing { verdict, close } = closing.into_inner();
+            let (state, shelves) = machine.into_inner().into_parts();
+            let board_steps = state.board_steps();
+            let steps = state.steps();
+            let reads = state.into_reads()?;
+            Ok(Arrival::AtEnd(Ended {
+                test,
+                reads,
+                verdict,
+                close,
+                board_steps,
+                steps,
+                readings: Readings::of(alloc, shelves),
+            }))
         }
     }
 }

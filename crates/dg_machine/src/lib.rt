@@ -2,6 +2,7 @@
 #![tactic(auto)]
 
 mod acting;
+mod answers;
 mod boxed;
 mod choices;
 mod control;
@@ -28,5 +29,6 @@ mod step;
 mod targets;
 mod variables;
 
+pub use crate::answers::Answers;
 pub use crate::evaluation::{Arrival, Asking, Ended, Evaluation};
 pub use crate::readings::Readings;

@@ -12,7 +12,7 @@ ghost use Rattle.dg_compiled.specs.Making.{making_on};
 
 use crate::boxed::Boxed;
 use crate::frame::{Closing, Control, Frame, Pace, plain_ask};
-use crate::readings::Readings;
+use crate::readings::Shelves;
 use dg_bytes::{Bytes, TryCopy};
 use dg_compiled::{Begun, Commands, Formula, KEPT, Listing, Making, Script, Stack};
 use dg_forms::{Elements, wrong_count};
@@ -59,19 +59,19 @@ impl Drop for Machine {
 
 impl Machine {
     /// A machine that is about to go on with these frames, and with what was read of texts.
-    pub(crate) fn new(state: State, stack: Stack<Frame>, readings: Readings) -> Machine
+    pub(crate) fn new(state: State, stack: Stack<Frame>, shelves: Shelves) -> Machine
         ensures state { result.state ≡ state }
         ensures stack { result.stack ≡ stack }
         ensures control { result.control ≡ Control.Go }
     {
-        let Readings {
+        let Shelves {
             programs,
             scripts,
             formulas,
             pairs,
             lists,
             served,
-        } = readings;
+        } = shelves;
         Machine {
             state,
             stack,
@@ -86,7 +86,7 @@ impl Machine {
     }
 
     /// What was made so far, without the frames, and what was read of texts.
-    pub(crate) fn into_parts(self) -> (State, Readings)
+    pub(crate) fn into_parts(self) -> (State, Shelves)
         ensures { result.0 ≡ self.state }
     {
         let Machine {
@@ -100,7 +100,7 @@ impl Machine {
             lists,
             served,
         } = self;
-        let readings = Readings {
+        let shelves = Shelves {
             programs,
             scripts,
             formulas,
@@ -108,7 +108,7 @@ impl Machine {
             lists,
             served: served.saturating_add(1),
         };
-        (state, readings)
+        (state, shelves)
     }
 
     /// A limit ends the evaluation as an error does.

@@ -1,4 +1,5 @@
 //! What was read of texts, which one evaluation hands on to the next.
+use crate::boxed::Boxed;
 use dg_compiled::{Commands, Formula, Listing};
 use dg_forms::Elements;
 use dg_match::Programs;
@@ -12,26 +13,59 @@ const TEXTS: usize = 1_024;
 const ROOM: usize = 262_144;
 /// How many long lists are kept beside their texts, which have as many bytes together as a value may have.
 const LISTS: usize = 256;
-/// To how many evaluations in a row what was read is handed on.
+/// How many evaluations in a row use what was read, the one that read it among them; the next begins with nothing.
 const HEIRS: u32 = 64;
 
 /// What was read of texts lately: scripts, expressions, the pairs of `switch` and long lists, and the `-re` patterns that were
 /// built. It is the same in every evaluation, so what one has read serves the next. No contract says what stands in it.
 #[derive(Drop)]
 pub struct Readings {
-    pub(crate) programs: Programs,
-    pub(crate) scripts: Shelf<Commands>,
-    pub(crate) formulas: Shelf<Formula>,
-    pub(crate) pairs: Shelf<Elements>,
-    pub(crate) lists: Shelf<Listing>,
-    /// How many evaluations had them.
-    pub(crate) served: u32,
+    /// In a block, so that what holds them is moved by moving a pointer; none where nothing was read.
+    kept: Option<Boxed<Shelves>>,
+}
+
+/// Where an evaluation keeps what it reads of texts.
+#[derive(Drop)]
+pub(crate) struct Shelves {
+    pub programs: Programs,
+    pub scripts: Shelf<Commands>,
+    pub formulas: Shelf<Formula>,
+    pub pairs: Shelf<Elements>,
+    pub lists: Shelf<Listing>,
+    /// How many evaluations had them before.
+    pub served: u32,
 }
 
 impl Readings {
     /// Nothing was read yet.
-    pub fn new(alloc: Global) -> Readings {
-        Readings {
+    pub fn new() -> Readings {
+        Readings { kept: None }
+    }
+
+    /// What an evaluation has read. Where there is no room for a block it is let go of.
+    pub(crate) fn of(alloc: Global, shelves: Shelves) -> Readings {
+        match Boxed::new(alloc, shelves) {
+            Ok(shelves) => Readings {
+                kept: Some(shelves),
+            },
+            Err(_) => Readings::new(),
+        }
+    }
+
+    /// What the next evaluation begins with: these, or none once enough of them had them, so that what is not needed any more
+    /// is let go of.
+    pub(crate) fn for_next(self, alloc: Global) -> Shelves {
+        match self.kept {
+            Some(kept) if kept.get().served < HEIRS => kept.into_inner(),
+            _ => Shelves::new(alloc),
+        }
+    }
+}
+
+impl Shelves {
+    /// Nothing was read yet.
+    fn new(alloc: Global) -> Shelves {
+        Shelves {
             programs: Programs::new(alloc),
             scripts: Shelf::new(alloc, TEXTS, ROOM),
             formulas: Shelf::new(alloc, TEXTS, ROOM),
@@ -39,14 +73,5 @@ impl Readings {
             lists: Shelf::new(alloc, LISTS, LONGEST_VALUE),
             served: 0,
         }
-    }
-
-    /// What the next evaluation begins with: these, or none once enough of them had them, so that what is not needed any more
-    /// is let go of.
-    pub(crate) fn for_next(self, alloc: Global) -> Readings {
-        if self.served >= HEIRS {
-            return Readings::new(alloc);
-        }
-        self
     }
 }

@@ -5,8 +5,10 @@ ghost use Rattle.dg_language.specs.Language.{sequence, evaluate};
 ghost use Rattle.dg_language.specs.Judge.{finish, close};
 ghost use Rattle.dg_language.specs.State.{departed};
 ghost use Rattle.dg_machine.specs.declared.frame.Control.{Control};
+ghost use Rattle.dg_machine.specs.Arriving.{ComesAlong};
 ghost use Rattle.dg_machine.specs.Meaning.{all_back, back, go, rest, weight_of, budget, frame_weight, ends_with, looping, next_round, making_with, outside_code, outside_value, Comes, ComesTo, Goes};
 
+use crate::answers::Answers;
 use crate::boxed::Boxed;
 use crate::frame::{Closing, Control, Frame, Pace, Rounds, Stop};
 use crate::machine::Machine;
@@ -308,6 +310,23 @@ impl Machine {
                 Pace::Stands(ask) => return Ok(Stop::AtQuestion(ask)),
                 Pace::Over(closing) => return Ok(Stop::AtEnd(closing)),
                 Pace::Lost => return Ok(Stop::Lost),
+            }
+        }
+    }
+
+    /// Moves until a question stands that these don't answer, or all is over. Each question before that is told their answer.
+    pub fn run_along<A: Answers>(&mut self, alloc: Global, answers: &A) -> Result<Stop, AllocError>
+        ensures { IfOk result (ComesAlong (A.source answers.now) A.holds self.old self.new) }
+    {
+        'questions: loop {
+            let ask = match self.run_on(alloc)? {
+                Stop::AtQuestion(ask) => ask,
+                Stop::AtEnd(closing) => return Ok(Stop::AtEnd(closing)),
+                Stop::Lost => return Ok(Stop::Lost),
+            };
+            match answers.answer_to(alloc, &ask.get().question)? {
+                Some(answer) => self.state.learn(ask.into_inner().question, answer)?,
+                None => return Ok(Stop::AtQuestion(ask)),
             }
         }
     }
