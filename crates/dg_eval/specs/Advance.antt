@@ -13,7 +13,7 @@ use Rattle.dg_results.specs.declared.verdict.Line.{Line}
 use Rattle.dg_machine.specs.Evaluating.{EvaluationView, NeedsNext, HasEnded}
 use Rattle.dg_machine.specs.Arriving.{AreGiven, Arrives}
 use Rattle.dg_machine.specs.declared.evaluation.Arrival.{Arrival}
-use Rattle.dg_machine.specs.declared.evaluation.Arrival.TheVariants.{AtQuestion, AtEnd, Lost}
+use Rattle.dg_machine.specs.declared.evaluation.Arrival.TheVariants.{AtQuestion, AtEnd}
 use Rattle.dg_machine.specs.Lost.{HasReadPattern}
 use Rattle.dg_eval.specs.declared.job.Turn.{Turn}
 use Rattle.dg_eval.specs.declared.job.Turn.TheVariants.{Need, Done}

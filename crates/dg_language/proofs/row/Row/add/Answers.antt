@@ -1,7 +1,6 @@
 use Rattle.std.proofs.Common.{◌≡◌, ◌≤◌, ◌∙◌, ◌+◌, ◌++◌, ◌∷◌, [], None, true, length, drop, ap, sym, subst, arith}
 use Rattle.std.proofs.lemmas.List.{drop-append-le, length-append, length-drop}
 use Rattle.std.proofs.lemmas.Bool.{and_from, eq-eqb}
-use Rattle.dg_world.specs.declared.question.Question.TheVariants.{Entry}
 use Rattle.dg_world.specs.declared.question.Read.{Read}
 use Rattle.dg_language.specs.Play.{lookup}
 use Rattle.dg_language.specs.Row.{are_in_row, are_new, asks_at}
