@@ -8,7 +8,7 @@ use Rattle.dg_world.specs.declared.question.Read.{Read}
 use Rattle.dg_world.specs.declared.test_id.TestId.{TestId}
 use Rattle.dg_world.specs.Question.{fits}
 use Rattle.dg_language.specs.declared.ask.Ask.{Ask}
-use Rattle.dg_language.specs.Play.{Source, heard, reads_in, read_on}
+use Rattle.dg_language.specs.Play.{Source, heard}
 use Rattle.dg_language.specs.State.{learn}
 use Rattle.dg_machine.specs.declared.machine.Machine.{Machine}
 use Rattle.dg_machine.specs.declared.evaluation.Arrival.{Arrival}
@@ -19,10 +19,6 @@ use Rattle.dg_machine.specs.Evaluating.{EvaluationView, IsLeft}
 use Rattle.dg_machine.specs.Meaning.{rest, told, ComesTo}
 use Rattle.dg_machine.specs.Arriving.{AreGiven, ArrivesAlong, ComesAlong, ComesAs, IsSameStop, IsTold, IsUnanswered, StandsUnanswered, evaluation_of}
 use Rattle.dg_machine.proofs.EvaluationLemmas.{stands, learned}
-
--- nothing was told
-pub told-none : (look : Source) (holds : Question → Answer → Type 0) (m : Machine) → IsTold look holds m m
-told-none look holds m = record { more = []; given = tt; known = sym (append-nil m.state.known); left = λ t k. k }
 
 heard-given : (look : Source) (q : Question) (a : Answer) → look q ≡ Some a → fits q a ≡ true → heard q (look q) ≡ Some a
 heard-given look q a e f = ap (heard q) e ∙ ap (λ b. elim b as (λ _. Option Answer) [ true ↦ Some a | false ↦ None ]) f
@@ -45,13 +41,6 @@ told-one look holds first old new ask a k c e f h =
       known = ap (λ rs. rs ++ read ∷ []) (c.1 ∙ k.known) ∙ append_assoc first.state.known k.more (read ∷ []);
       left = λ t l. learned t ask a new (stands t ask old new (k.left t l) c) f;
     }
-
--- and fewer are left to be told
-pub fewer-left : (look : Source) (old new : Machine) (ask : Ask) (a : Answer) → ComesTo old new (AtQuestion ask) → look ask.question ≡ Some a
-    → fits ask.question a ≡ true → length (reads_in look (rest (told ask.question a new))) < length (reads_in look (rest old))
-fewer-left look old new ask a c e f =
-    let left = ap (reads_in look) c.0 ∙ ap (λ o. read_on ask.question o (λ x. reads_in look (rest (told ask.question x new)))) (heard-given look ask.question a e f) in
-    omega (arith, ap length left)
 
 -- where it stops, the source has no answer
 unanswered : (look : Source) (stop : Stop) (a : Arrival) → StandsUnanswered look stop → IsSameStop stop a → IsUnanswered look a
