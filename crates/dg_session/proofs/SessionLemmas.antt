@@ -1,11 +1,11 @@
 -- How far a session is.
 use Rattle.std.proofs.Common.{◌≡◌, ℕ, ◌+◌, ◌-◌, ◌<◌, ◌≤◌, List, [], ◌∷◌, ◌++◌, ◌⊎◌, inl, inr, map, length, Option, None, Some, IfSome, refl, sym, ap, subst, cond, Bool, true, false, ◌==◌, ◌∙◌, arith, length-append, true≢false, Result, Ok, Err, OnErr}
 use Rattle.std.proofs.lemmas.List.{append_assoc, append-nil}
-use Rattle.std.proofs.KnownBytes.{Appends-nil, Appends-trans}
+use Rattle.std.proofs.KnownBytes.{Appends-kept, Appends-nil, Appends-trans}
 use Rattle.std.proofs.BufReadLemmas.{take_through-nil, take_through_nonempty}
 use Rattle.std.specs.Result.{result_unwrap_or}
 use Rattle.std.specs.Io.BufRead.{take_through, drop_through, DropsThrough}
-use Rattle.std.specs.Io.KnownBytes.{Appends, IsAtEnd}
+use Rattle.std.specs.Io.KnownBytes.{Appends, IsAtEnd, Keeps}
 use Rattle.bstr.specs.Records.{trim_record}
 use Rattle.bstr.proofs.lemmas.RecordLemmas.{records-nil, records-step}
 use Rattle.dg_session.specs.declared.answer.LineAnswer.{LineAnswer}
@@ -139,6 +139,13 @@ next_of line rest read some =
     let nonempty : 0 < length rest = take_through_nonempty 10 rest (subst (λ k. 0 < length k) read some) in
     requests_of-step rest nonempty ∙ ap (λ l. request_of (trim_record 10 l) ∷ requests_of (drop_through 10 rest)) (sym read)
 
+-- a flush leaves what was written
+pub flushed : (input now out written wrote : Option (List ℕ)) (first core : CoreView) (limit left : ℕ) (was : Bool) → Progress input now out written first core limit left was → Keeps written wrote → Progress input now out wrote first core limit left was
+flushed None now out written wrote first core limit left was p k = tt
+flushed (Some xs) now out written wrote first core limit left was p k =
+    let (done, rest, at, grew, so_far, count, ended) = p in
+    (done, rest, at, Appends-kept out written wrote done grew k, so_far, count, ended)
+
 -- a line was read and answered
 pub goes_on : (input now later out written wrote : Option (List ℕ)) (first core new : CoreView) (line : List ℕ) (limit left next : ℕ) (was : Bool) → Progress input now out written first core limit left was →
     IfSome now (λ xs. line ≡ take_through 10 xs) → DropsThrough now later 10 → AnswersLine core new line written wrote →
@@ -246,3 +253,8 @@ past (Some xs) now out written first core limit left was p h =
 pub at_err : {A E : Type 0} (r : Result A E) (P : Type 0) → P → OnErr r P
 at_err (Ok x) P p = tt
 at_err (Err e) P p = p
+
+-- what holds after an error, and what that tells
+pub err_is : {A E : Type 0} (r : Result A E) (P Q : Type 0) → (P → Q) → OnErr r P → OnErr r Q
+err_is (Ok x) P Q f p = tt
+err_is (Err e) P Q f p = f p

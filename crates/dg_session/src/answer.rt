@@ -74,7 +74,7 @@ impl LineAnswer {
     }
 }
 
-/// Writes an answer and flushes, so that who waits for it has it, or writes a front of it.
+/// Writes an answer, or a front of it.
 pub fn write_answer<W: Write>(
     writer: &mut W,
     first_line: &[u8],
@@ -86,9 +86,5 @@ pub fn write_answer<W: Write>(
     ensures kind { IfErr result (λ e. e ≡ SessionFault.WriteFault) }
 {
     write_whole(writer, first_line)?;
-    write_whole(writer, answer.report())?;
-    match writer.flush() {
-        Ok(()) => Ok(()),
-        Err(_) => Err(SessionFault::WriteFault),
-    }
+    write_whole(writer, answer.report())
 }

@@ -2,13 +2,14 @@
 ghost use Rattle.std.specs.Prelude.{◌≡◌, ◌≢◌, ◌++◌, ◌≤◌, ◌<◌, ◌+◌, ◌-◌, [], ℕ, List, All, Err, Some, length, take, true, vec_len, IfOk, IfErr, IfSome, OnOk, OnErr, OnSome};
 ghost use Rattle.std.specs.Io.{StopsAt, IsEmptyOrEndsWith};
 ghost use Rattle.std.specs.Io.BufRead.{take_through, DropsThrough};
-ghost use Rattle.std.specs.Io.KnownBytes.{Consumes, IsAtEnd};
+ghost use Rattle.std.specs.Io.KnownBytes.{Consumes, IsAtEnd, Keeps};
 ghost use Rattle.bstr.specs.Records.{trim_record};
 
 use crate::fault::{SessionFault, fault_of_read};
+use crate::writing::flush;
 use memchr::memchr;
 use std::io;
-use std::io::BufRead;
+use std::io::{BufRead, Write};
 
 /// The length up to and including the first line feed, or the whole length.
 fn length_through(bytes: &[u8]) -> usize
@@ -23,11 +24,13 @@ fn length_through(bytes: &[u8]) -> usize
 }
 
 /// Adds what the reader has at hand of its line to what the line has so far, and answers whether
-/// the line or the input ended there. A line that would grow past the limit stays as it was.
+/// the line or the input ended there. A line that would grow past the limit stays as it was. Whether more than that piece was
+/// at hand is noted.
 fn append_piece<R: BufRead>(
     reader: &mut R,
     limit: usize,
     line: &mut Vec<u8>,
+    has_more: &mut bool,
 ) -> Result<bool, SessionFault>
     requires { vec_len line.old ≤ limit }
     ensures held { vec_len line.new ≤ limit }
@@ -54,27 +57,37 @@ fn append_piece<R: BufRead>(
         return Err(SessionFault::TooLong);
     }
     line.extend_from_slice(&available[..end])?;
+    let is_all = end == available.len();
     let is_done = end == 0 || available[end - 1] == b'\n';
     reader.consume(end);
+    *has_more = !is_all;
     Ok(is_done)
 }
 
 /// Reads a line with its line feed into an empty vector: at the end of the input nothing. It never
-/// holds more than the limit, whatever the reader gives.
-pub fn read_line<R: BufRead>(
+/// holds more than the limit, whatever the reader gives. Before the reader may wait the writer is flushed, so that whoever is
+/// waited for has all answers so far; while more than the line before was at hand it can't wait. Answers whether more than
+/// this line was at hand.
+pub fn read_line<R: BufRead, W: Write>(
     reader: &mut R,
+    writer: &mut W,
     limit: usize,
     line: &mut Vec<u8>,
-) -> Result<(), SessionFault>
+    mut has_more: bool,
+) -> Result<bool, SessionFault>
     requires { line.old.items ≡ [] }
+    ensures kept { Keeps (W.contents writer.old) (W.contents writer.new) }
     ensures held { vec_len line.new ≤ limit }
     ensures bytes { OnOk result (IfSome (R.remaining reader.old) (λ xs. line.new.items ≡ take_through 10 xs)) }
     ensures rest { OnOk result (DropsThrough (R.remaining reader.old) (R.remaining reader.new) 10) }
     ensures too_long { result ≡ Err SessionFault.TooLong → IfSome (R.remaining reader.old) (λ xs. limit < length (take_through 10 xs)) }
 {
     for _ in 0..u64::MAX {
-        if append_piece(reader, limit, line)? {
-            return Ok(());
+        if !has_more {
+            flush(writer)?;
+        }
+        if append_piece(reader, limit, line, &mut has_more)? {
+            return Ok(has_more);
         }
     }
     Err(SessionFault::ReadFault)

@@ -142,10 +142,11 @@ pub fn serve<R: BufRead, W: Write>(
     let mut line = Vec::new(alloc);
     let mut first_line = Vec::with_capacity(alloc, FIRST_LINE)?;
     let mut left = limit;
+    let mut has_more = false;
     let mut is_done = false;
     while !is_done {
         line.clear();
-        read_line(reader, left, &mut line)?;
+        has_more = read_line(reader, writer, left, &mut line, has_more)?;
         if line.is_empty() {
             is_done = true;
         } else {
@@ -156,7 +157,7 @@ pub fn serve<R: BufRead, W: Write>(
     Ok(())
 }
 
-/// Answers every line of the input, in order, and flushes after each answer. Where memory runs out
+/// Answers every line of the input, in order, and flushes before it waits for more of the input. Where memory runs out
 /// in a put, a transcript, a selection or a report the line is answered `refused 8` or `fault 2`, and the session goes on.
 pub fn run_session<R: BufRead, W: Write>(
     alloc: Global,

@@ -1,6 +1,6 @@
 //! Writes of which a front is known when they fail.
 ghost use Rattle.std.specs.Prelude.{◌≡◌, OnOk, OnErr, IfErr};
-ghost use Rattle.std.specs.Io.KnownBytes.{Appends};
+ghost use Rattle.std.specs.Io.KnownBytes.{Appends, Keeps};
 ghost use Rattle.dg_session.specs.Session.{AppendsFront};
 
 use crate::fault::SessionFault;
@@ -29,4 +29,15 @@ pub fn write_whole<W: Write>(writer: &mut W, bytes: &[u8]) -> Result<(), Session
         }
     }
     Err(SessionFault::WriteFault)
+}
+
+/// Flushes a writer, so that who waits for what was written has it.
+pub fn flush<W: Write>(writer: &mut W) -> Result<(), SessionFault>
+    ensures kept { Keeps (W.contents writer.old) (W.contents writer.new) }
+    ensures kind { IfErr result (λ e. e ≡ SessionFault.WriteFault) }
+{
+    match writer.flush() {
+        Ok(()) => Ok(()),
+        Err(_) => Err(SessionFault::WriteFault),
+    }
 }

@@ -12,8 +12,9 @@ const ANSWER: &[u8] =
 /// How many reads of three bytes the input takes, the last of which finds its end.
 const READS: usize = 23;
 
-/// How many writes of three bytes and flushes the answer takes.
-const WRITES: usize = 117;
+/// How many writes of three bytes the answer takes, and flushes: one before each read, unless the line before leaves some of
+/// its piece.
+const WRITES: usize = 113 + 20;
 
 /// What was written, and how the session ended.
 type Outcome = (Vec<u8>, Result<(), SessionFault>);
