@@ -1,11 +1,13 @@
 -- An index: the places of the records that read a topic.
-use Rattle.std.specs.Prelude.{ℕ, suc, Bool, List, [], ◌∷◌, ◌≡◌, false, Option, None, Some, IsTrue, MatchOption, nat_eq, unwrap_or}
+use Rattle.std.specs.Prelude.{ℕ, suc, Bool, List, [], ◌∷◌, ◌≡◌, ◌⊎◌, true, false, Option, None, Some, IsTrue, MatchOption, nat_eq, unwrap_or}
 use Rattle.std.specs.Borrow.{Bor}
 use Rattle.std.specs.List.{list_any, IsDistinct}
 use Rattle.std.specs.Map.{lookup}
 use Rattle.dg_world.specs.declared.question.Read.{Read}
 use Rattle.dg_world.specs.declared.test_id.TestId.{TestId}
+use Rattle.dg_index.specs.declared.index.Named.{Named}
 use Rattle.dg_index.specs.declared.topic.Topic.{Topic}
+use Rattle.dg_index.specs.declared.topic.Topic.TheVariants as topic
 use Rattle.dg_index.specs.Marks.{MarkedView, reads_on}
 use Rattle.dg_index.specs.Topic.{same_topic, topic_of}
 
@@ -25,10 +27,18 @@ is_among places place = list_any (nat_eq place) places
 abbrev pub NamesMore : IndexView → IndexView → Type 0
 NamesMore few more = (t : Topic) (place : ℕ) → IsTrue (is_among (readers_of few t) place) → IsTrue (is_among (readers_of more t) place)
 
--- the index names a place for a topic, where there is one
-abbrev pub IsNamed : IndexView → ℕ → Option Topic → Type 0
-IsNamed index place None = Unit {0}
-IsNamed index place (Some t) = IsTrue (is_among (readers_of index t) place)
+-- a topic is one of those that are told: the selection, or the last of the others
+abbrev pub IsOneOf : Named → Topic → Type 0
+IsOneOf told t = ((t ≡ topic.Selection) × (told.selection ≡ true)) ⊎ (told.last ≡ Some t)
+
+-- one topic more
+abbrev pub with_topic : Named → Topic → Named
+with_topic told topic.Selection = record told { selection = true }
+with_topic told t = record told { last = Some t }
+
+-- the index names a place for each topic that is told
+abbrev pub AreNamed : IndexView → ℕ → Named → Type 0
+AreNamed index place told = (t : Topic) → IsOneOf told t → IsTrue (is_among (readers_of index t) place)
 
 -- the index names a place for the topic of each read
 abbrev pub NamesReads : IndexView → ℕ → List Read → Type 0

@@ -1,6 +1,6 @@
 //! The index: the places of the records that read a topic.
-ghost use Rattle.std.specs.Prelude.{◌≡◌, [], true, false, IfOk, IsTrue, OnOk, Some};
-ghost use Rattle.dg_index.specs.Index.{is_among, readers_of, Finds, IsNamed, NamesMore, NamesReads};
+ghost use Rattle.std.specs.Prelude.{◌≡◌, [], true, false, IfOk, IsTrue, None, OnOk, Some};
+ghost use Rattle.dg_index.specs.Index.{is_among, readers_of, with_topic, AreNamed, Finds, IsOneOf, NamesMore, NamesReads};
 ghost use Rattle.dg_index.specs.Topic.{topic_of, touched};
 
 use crate::topic::Topic;
@@ -34,13 +34,46 @@ impl Model for Index {
     ghost view = { λ i. map (λ e. (e.0, e.1.keys)) i.readers.entries };
 }
 
-/// Whether a question is on a topic, where there is one.
-fn is_on(topic: &Option<Topic>, question: &Question) -> bool
-    ensures { IsTrue result → topic.now ≡ Some (topic_of question.now) }
-{
-    match topic {
-        Some(topic) => topic.covers(question),
-        None => false,
+/// For which topics a place was named: whether for the selection, to which questions come back, and the last of the others.
+#[derive(Drop)]
+struct Named {
+    selection: bool,
+    last: Option<Topic>,
+}
+
+impl Named {
+    /// For none.
+    fn none() -> Named
+        ensures { result ≡ record { selection = false; last = None } }
+    {
+        Named {
+            selection: false,
+            last: None,
+        }
+    }
+
+    /// Whether the topic of a question is one of these.
+    fn covers(&self, question: &Question) -> bool
+        ensures { IsTrue result → IsOneOf self.now (topic_of question.now) }
+    {
+        match question {
+            Question::Tool | Question::Triplet(_) | Question::Variable(_) => self.selection,
+            _ => match &self.last {
+                Some(topic) => topic.covers(question),
+                None => false,
+            },
+        }
+    }
+
+    /// Takes a topic in.
+    fn add(&mut self, topic: Topic)
+        ensures { self.new ≡ with_topic self.old topic }
+    {
+        if matches!(&topic, Topic::Selection) {
+            self.selection = true;
+        } else {
+            self.last = Some(topic);
+        }
     }
 }
 
@@ -133,29 +166,30 @@ impl Index {
         Ok(topic)
     }
 
-    /// Names a place for the topic of a question, unless that is the topic for which it was named last. All that was named
-    /// before is named in any case.
+    /// Names a place for the topic of a question, unless that is one for which it was just named. All that was named before
+    /// is named in any case.
     fn name_next(
         &mut self,
         alloc: Global,
-        last: &mut Option<Topic>,
+        named: &mut Named,
         question: &Question,
         place: usize,
     ) -> Result<(), AllocError>
-        requires { IsNamed self.old place last.old }
+        requires { AreNamed self.old place named.old }
         ensures named { OnOk result (IsTrue (is_among (readers_of self.new (topic_of question.now)) place)) }
-        ensures last { OnOk result (IsNamed self.new place last.new) }
+        ensures last { OnOk result (AreNamed self.new place named.new) }
         ensures stays { NamesMore self.old self.new }
     {
-        if is_on(last, question) {
+        if named.covers(question) {
             return Ok(());
         }
-        *last = Some(self.name_question(alloc, question, place)?);
+        let topic = self.name_question(alloc, question, place)?;
+        named.add(topic);
         Ok(())
     }
 
-    /// Names a place for the topic of each read. All that was named before is named in any case. Of reads on one topic that
-    /// follow one another, as those of a transcript do, only the first looks for it.
+    /// Names a place for the topic of each read. All that was named before is named in any case. Of reads of the selection,
+    /// and of those on another topic with none but such between them, as those of a transcript, only the first looks for it.
     pub fn name_reads(
         &mut self,
         alloc: Global,
@@ -165,9 +199,9 @@ impl Index {
         ensures named { OnOk result (NamesReads self.new place reads.now) }
         ensures stays { NamesMore self.old self.new }
     {
-        let mut last = None;
+        let mut named = Named::none();
         for read in reads {
-            self.name_next(alloc, &mut last, &read.question, place)?;
+            self.name_next(alloc, &mut named, &read.question, place)?;
         }
         Ok(())
     }

@@ -9,6 +9,6 @@ loop-read-preserved c =
     record {
       named = names-next c.name_next.new.self c.args.place reads i c.read-item.result c.loop-read-test.true c.read-item.is
           (names-more c.loop-read.self c.name_next.new.self c.args.place (take i reads) c.name_next.ensures.stays c.loop-read.invariant.named) c.in_ok-name_next.ensures.named;
-      last = c.in_ok-name_next.ensures.last;
+      told = c.in_ok-name_next.ensures.last;
       stays = λ t p h. c.name_next.ensures.stays t p (c.loop-read.invariant.stays t p h);
     }
