@@ -67,7 +67,7 @@ agree-reads_in w (Asks q k) =
     step None e rest = refl
     step (Some a) e rest = and_from (is_given (look w q.question) a) (all_given w (reads_in (answers_of w) (k a))) (true-given (look w q.question) a e) (rest a)
 
-record_in-holds : (w : WorldView) (t : TestId) → holds w (record_in w t) ≡ true
+pub record_in-holds : (w : WorldView) (t : TestId) → holds w (record_in w t) ≡ true
 unfolding record_in
 record_in-holds w t = agree-reads_in w (judge t)
 

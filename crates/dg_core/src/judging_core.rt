@@ -358,7 +358,7 @@ impl Core {
             Err(JobFault::Memory) => return Err(CoreFault::Memory),
             Err(JobFault::NotAsked | JobFault::WrongKind | JobFault::Failed) => unreachable!(),
         };
-        match self.kept.commit(alloc, judged) {
+        match self.kept.commit_held(alloc, judged) {
             Ok(()) => Ok(()),
             Err(_) => Err(CoreFault::Memory),
         }

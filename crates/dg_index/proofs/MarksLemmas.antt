@@ -1,19 +1,35 @@
 -- What looking again makes of the marks of reads.
 use Rattle.std.proofs.Common.{◌≡◌, ◌↔◌, ◌∙◌, ◌<◌, ◌+◌, ℕ, zero, suc, Bool, true, false, cond, List, [], ◌∷◌, length, take, get_or, refl, ap, sym, arith, add-one, IsTrue}
-use Rattle.std.specs.Prelude.{Some, not, slice_set}
+use Rattle.std.specs.Prelude.{Option, Some, not, replicate, slice_set}
+use Rattle.std.specs.List.{list_all}
+use Rattle.std.proofs.lemmas.Bool.{and_parts}
 use Rattle.std.proofs.lemmas.Bool.Decides.{same_from_decides}
 use Rattle.dg_world.specs.World.{WorldView, look}
 use Rattle.dg_world.specs.declared.question.Read.{Read}
-use Rattle.dg_records.specs.Truth.{is_given}
+use Rattle.dg_records.specs.Truth.{RecordView, holds, is_given}
 use Rattle.dg_records.proofs.HoldsLemmas.{given-true, true-given}
 use Rattle.dg_index.specs.Topic.{is_on}
-use Rattle.dg_index.specs.Marks.{is_stale, marks_in, looked_again}
+use Rattle.dg_index.specs.Marks.{MarkedView, is_stale, marks_in, looked_again}
 use Rattle.dg_index.specs.declared.topic.Topic.{Topic}
 
 -- the test of a read tells whether it is stale
 pub told-stale : (b : Bool) (w : WorldView) (read : Read) → IsTrue b ↔ (look w read.question ≡ Some read.answer) → not b ≡ is_stale w read
 told-stale b w read h =
     ap not (same_from_decides b (is_given (look w read.question) read.answer) h (given-true (look w read.question) read.answer, true-given (look w read.question) read.answer))
+
+-- no read is stale where each has the world's answer
+none-stale : (w : WorldView) (rs : List Read) → list_all (λ read. is_given (look w read.question) read.answer) rs ≡ true → replicate (length rs) false ≡ marks_in w rs
+none-stale w [] h = refl
+none-stale w (r ∷ rs) h =
+    let p = and_parts _ _ h in
+    λ i. ap not (sym p.0) i ∷ none-stale w rs p.1 i
+
+-- a record without a raised mark is marked as the world is, where it holds there
+pub marked-held : (w : WorldView) (m : MarkedView) (r : RecordView) (numbers : List (Option ℕ)) → m ≡ record { record_of = r; marks = replicate (length r.reads) false; numbers = numbers }
+    → holds w r ≡ true → m ≡ record m { marks = marks_in w m.record_of.reads }
+marked-held w m r numbers e h =
+    e ∙ (λ i. record { record_of = r; marks = none-stale w r.reads h i; numbers = numbers })
+    ∙ sym (ap (λ (x : MarkedView). record x { marks = marks_in w x.record_of.reads }) e)
 
 -- the marks once the first reads were compared with the world
 abbrev pub looked_at : WorldView → List Read → List Bool → List Bool

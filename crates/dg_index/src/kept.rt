@@ -1,18 +1,18 @@
 //! A world with its kept records, of which an edit compares only the reads that it touches.
-ghost use Rattle.std.specs.Prelude.{◌≡◌, ◌⊎◌, Ok, Err, None, IfOk, IfErr, IfSome, OnOk, OnErr, IsTrue, length, option_map, slice_get};
+ghost use Rattle.std.specs.Prelude.{◌≡◌, ◌⊎◌, Ok, Err, None, true, IfOk, IfErr, IfSome, OnOk, OnErr, IsTrue, length, option_map, slice_get};
 ghost use Rattle.dg_index.specs.Index.{is_among};
 ghost use Rattle.dg_index.specs.Kept.{committed, committed_live, edited_kept, holds_if_kept, new_kept, place_of, IsAskedOf};
 ghost use Rattle.dg_index.specs.Marks.{judged_of};
 ghost use Rattle.dg_index.specs.Topic.{touched};
 ghost use Rattle.dg_index.specs.Touching.{OnlyTheseRead};
-ghost use Rattle.dg_records.specs.Truth.{IsTrueRecord};
+ghost use Rattle.dg_records.specs.Truth.{holds, IsTrueRecord};
 ghost use Rattle.dg_world.specs.World.{look, takes_memory};
 
 use crate::index::Index;
 use crate::looking::{look_again, look_at_readers};
 use crate::marked::Marked;
 use crate::numbers::Now;
-use crate::placing::{give_back, make_room, place};
+use crate::placing::{give_back, make_room, place, place_marked};
 use crate::topic::Topic;
 use crate::touching::places_touched;
 use dg_bytes::TryCopy;
@@ -210,6 +210,31 @@ impl Kept {
             test,
             marked,
             &self.world,
+            self.compared,
+        );
+        Ok(())
+    }
+
+    /// The same with a record that holds in the world, as one does whose reads the world has just answered: its reads count
+    /// as compared, and none is.
+    pub fn commit_held(&mut self, alloc: Global, newest: Record) -> Result<(), Record>
+        requires { holds self.old.world newest ≡ true }
+        ensures ok { OnOk result (self.new ≡ committed self.old newest) }
+        ensures err { OnErr result (self.new ≡ self.old) }
+        ensures back { IfErr result (λ r. r ≡ newest) }
+    {
+        let (test, marked) = make_room(
+            alloc,
+            &mut self.records,
+            &mut self.index,
+            &mut self.contents,
+            newest,
+        )?;
+        self.compared = place_marked(
+            &mut self.records,
+            &mut self.contents,
+            test,
+            marked,
             self.compared,
         );
         Ok(())

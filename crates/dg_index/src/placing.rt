@@ -115,6 +115,26 @@ pub fn place(
     ensures count { result ≡ counted compared (length marked.record_of.reads) }
 {
     marked.look(world);
+    place_marked(records, contents, test, marked, compared)
+}
+
+/// Keeps a record as it is marked, where there is room for it and what it was given is held. What the record was given that
+/// its test had before is let go. It adds to a count how many reads it has.
+pub fn place_marked(
+    records: &mut IndexMap<TestId, Marked>,
+    contents: &mut Contents,
+    test: TestId,
+    marked: Marked,
+    compared: u64,
+) -> u64
+    requires room { 0 < spare records.old }
+    requires numbered { IsNumbered contents.old records.old.entries }
+    requires numbers { marked.numbers ≡ numbers_in contents.old marked.record_of.reads }
+    requires held { HoldsMore contents.old records.old.entries marked.record_of.reads }
+    ensures entries { records.new.entries ≡ insert_entry same_test records.old.entries test marked }
+    ensures numbered { IsNumbered contents.new records.new.entries }
+    ensures count { result ≡ counted compared (length marked.record_of.reads) }
+{
     let reads = marked.kept().reads().len() as u64;
     match records.insert(test, marked) {
         Ok(previous) => let_go(contents, previous),
