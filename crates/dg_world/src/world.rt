@@ -171,7 +171,7 @@ impl World {
     fn lacks_room(&self, test: &TestId) -> bool
         ensures { result ≡ lacks_room self.now test.now }
     {
-        !self.transcripts.contains_key(test) && self.transcripts.len() >= MAX_TRANSCRIPTS
+        self.transcripts.len() >= MAX_TRANSCRIPTS && !self.transcripts.contains_key(test)
     }
 
     /// Makes this the transcript of a test, for which there is room, or wants memory and changes nothing.
