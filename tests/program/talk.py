@@ -1,4 +1,4 @@
-"""Tries that a session answers each line before it reads the next one: talk.py PROGRAM."""
+"""Tries that a session has answered each line before it waits for more: talk.py PROGRAM."""
 import os
 import select
 import subprocess
@@ -27,6 +27,8 @@ TALK = [
     ("rep", ""),
     ("ort\n", f"sum 0 {len(EMPTY)} 0\n{EMPTY}"),
     ("remove u/a.exp\nremove u/a.exp\n", "ok\nrefused 4\n"),
+    ("remove u/a.exp\nremove u/", "refused 4\n"),
+    ("a.exp\n", "refused 4\n"),
     ("", ""),
     ("\n", "unknown\n"),
     ("report ", ""),
