@@ -1,5 +1,5 @@
 -- An index: the places of the records that read a topic.
-use Rattle.std.specs.Prelude.{ℕ, suc, Bool, List, [], ◌∷◌, ◌≡◌, ◌⊎◌, true, false, Option, None, Some, IsTrue, MatchOption, nat_eq, unwrap_or}
+use Rattle.std.specs.Prelude.{ℕ, suc, Bool, List, [], ◌∷◌, ◌≡◌, ◌⊎◌, true, false, Option, Some, IsTrue, MatchOption, nat_eq, unwrap_or}
 use Rattle.std.specs.Borrow.{Bor}
 use Rattle.std.specs.List.{list_any, IsDistinct}
 use Rattle.std.specs.Map.{lookup}
