@@ -12,43 +12,30 @@ const NEAR: usize = 16;
 pub(crate) fn order(one: &[u8], other: &[u8]) -> Ordering
     ensures { result ≡ slice_cmp nat_cmp one.now other.now }
 {
-    let mut rest = one;
-    let mut behind = other;
-    for _ in 0..NEAR {
-        match (rest.split_first(), behind.split_first()) {
-            (Some((a, further)), Some((b, later))) => {
-                if *a != *b {
-                    return a.cmp(b);
-                }
-                rest = further;
-                behind = later;
-            }
-            (None, None) => return Ordering::Equal,
-            (None, Some(_)) => return Ordering::Less,
-            (Some(_), None) => return Ordering::Greater,
+    let near = one.len().min(other.len()).min(NEAR);
+    for at in 0..near {
+        if one[at] != other[at] {
+            return one[at].cmp(&other[at]);
         }
     }
-    rest.cmp(behind)
+    if near < NEAR {
+        return one.len().cmp(&other.len());
+    }
+    one[near..].cmp(&other[near..])
 }
 
 /// Whether two texts are the same. Short ones are compared in fewer steps than slices are.
 pub fn is_same(one: &[u8], other: &[u8]) -> bool
     ensures { result ≡ pointwise nat_eq one.now other.now }
 {
-    let mut rest = one;
-    let mut behind = other;
-    for _ in 0..NEAR {
-        match (rest.split_first(), behind.split_first()) {
-            (Some((a, further)), Some((b, later))) => {
-                if *a != *b {
-                    return false;
-                }
-                rest = further;
-                behind = later;
-            }
-            (None, None) => return true,
-            _ => return false,
+    if one.len() != other.len() {
+        return false;
+    }
+    let near = one.len().min(NEAR);
+    for at in 0..near {
+        if one[at] != other[at] {
+            return false;
         }
     }
-    rest == behind
+    near < NEAR || one[near..] == other[near..]
 }
