@@ -1,14 +1,13 @@
 -- What an index names.
-use Rattle.std.proofs.Common.{◌≡◌, ◌∙◌, ◌||◌, ℕ, Bool, true, false, cond, List, [], ◌∷◌, ◌++◌, map, refl, ap, sym, subst, IsTrue, ◌<◌, ◌+◌, length, get_or, take}
+use Rattle.std.proofs.Common.{◌≡◌, ◌∙◌, ◌||◌, ℕ, Bool, true, false, cond, List, [], ◌∷◌, ◌++◌, refl, ap, sym, subst, IsTrue, ◌<◌, ◌+◌, length, get_or, take}
 use Rattle.std.proofs.lemmas.List.{take_more}
-use Rattle.std.specs.Prelude.{Option, Some, None, Result, Ok, Err, OnOk, nat_eq, unwrap_or, option_map}
+use Rattle.std.specs.Prelude.{Option, Some, Result, Ok, Err, OnOk, nat_eq, unwrap_or}
 use Rattle.std.specs.List.{list_any}
 use Rattle.std.specs.Map.{lookup, lookup_key}
 use Rattle.std.specs.Cmp.Lexicographic.{bytes_decides}
 use Rattle.std.proofs.lemmas.Bool.{and_parts, and_from, eq-eqb}
 use Rattle.std.proofs.lemmas.List.Folds.{list_any-append}
-use Rattle.std.proofs.lemmas.Map.Made.{lookup-map_values}
-use Rattle.indexmap.specs.IndexSet.{IndexSet, insert_key}
+use Rattle.indexmap.specs.IndexSet.{insert_key}
 use Rattle.dg_index.specs.contracts.topic.TopicPartialEq.TheImpl as topics
 use Rattle.dg_index.specs.Index.{IndexView, readers_of, is_among, NamesMore, NamesReads}
 use Rattle.dg_index.specs.Topic.{same_topic, topic_of}
@@ -55,69 +54,53 @@ among-stays places place p h = step (list_any (nat_eq place) places)
     step true = h
     step false = list_any-append (nat_eq p) places (place ∷ []) ∙ ap (λ b. b || list_any (nat_eq p) (place ∷ [])) h
 
-abbrev pub Sets : Type 0 → Type 0
-Sets S = List (Topic × IndexSet ℕ S)
-
 -- what holds anyway holds where a call goes well
 pub if_well : {A B : Type 0} (r : Result A B) (P : Type 0) → P → OnOk r P
 if_well (Ok a) P h = h
 if_well (Err b) P h = tt
 
-module _ {S : Type 0} where
-  -- the places of each topic
-  abbrev pub shown : Sets S → IndexView
-  shown es = map (λ e. (e.0, e.1.keys)) es
+-- the new entries have these places at one topic, and at each other what the old ones have
+abbrev pub Updated : IndexView → IndexView → Topic → List ℕ → Type 0
+Updated old new t places = (q : Topic) → lookup (topics.ghosts.eq q) new ≡ cond (topics.ghosts.eq t q) (Some places) (lookup (topics.ghosts.eq q) old)
 
-  -- the new entries have these places at one topic, and at each other what the old ones have
-  abbrev pub Updated : Sets S → Sets S → Topic → IndexSet ℕ S → Type 0
-  Updated old new t s = (q : Topic) → lookup (topics.ghosts.eq q) new ≡ cond (topics.ghosts.eq t q) (Some s) (lookup (topics.ghosts.eq q) old)
+-- the places of a topic, by the code's test
+pub readers-by : (es : IndexView) (t : Topic) → readers_of es t ≡ unwrap_or (lookup (topics.ghosts.eq t) es) []
+readers-by es t = ap (λ (test : Topic → Bool). unwrap_or (lookup test es) []) (sym (λ i q. topic_eq t q i))
 
-  pub updated-along : (old same new : Sets S) (t : Topic) (s : IndexSet ℕ S) → same ≡ old → Updated same new t s → Updated old new t s
-  updated-along old same new t s e u = subst (λ (es : Sets S). Updated es new t s) e u
+-- where they are found
+pub readers-found : (es : IndexView) (t : Topic) (o : Option (List ℕ)) → o ≡ lookup (topics.ghosts.eq t) es → readers_of es t ≡ unwrap_or o []
+readers-found es t o h = readers-by es t ∙ ap (λ x. unwrap_or x []) (sym h)
 
-  -- the places of a topic, by the code's test
-  pub readers-shown : (es : Sets S) (t : Topic) → readers_of (shown es) t ≡ unwrap_or (option_map (λ s. s.keys) (lookup (topics.ghosts.eq t) es)) []
-  readers-shown es t =
-      ap (λ o. unwrap_or o []) (ap (λ (test : Topic → Bool). lookup test (shown es)) (sym (λ i q. topic_eq t q i)) ∙ lookup-map_values (λ s. s.keys) (topics.ghosts.eq t) es)
+-- the topic that is found is the one that is looked for
+pub found-topic : (es : IndexView) (t k : Topic) → Some k ≡ lookup_key (topics.ghosts.eq t) es → k ≡ t
+found-topic [] t k h = cc
+found-topic (e ∷ es) t k h = step (topics.ghosts.eq t e.0) refl h (found-topic es t k)
+  where
+    step : (b : Bool) → topics.ghosts.eq t e.0 ≡ b → Some k ≡ cond b (Some e.0) (lookup_key (topics.ghosts.eq t) es) → (Some k ≡ lookup_key (topics.ghosts.eq t) es → k ≡ t) → k ≡ t
+    step true b g ih = let same : k ≡ e.0 = cc in same ∙ sym (same_topic-true t e.0 (sym (topic_eq t e.0) ∙ b))
+    step false b g ih = ih g
 
-  -- where they are found
-  pub readers-found : (es : Sets S) (t : Topic) (o : Option (IndexSet ℕ S)) → o ≡ lookup (topics.ghosts.eq t) es → readers_of (shown es) t ≡ unwrap_or (option_map (λ s. s.keys) o) []
-  readers-found es t o h = readers-shown es t ∙ ap (λ x. unwrap_or (option_map (λ s. s.keys) x) []) (sym h)
+-- after an update at a topic its places are these
+pub readers-updated : (old new : IndexView) (t : Topic) (places : List ℕ) → Updated old new t places → readers_of new t ≡ places
+readers-updated old new t places u =
+    readers-by new t ∙ ap (λ o. unwrap_or o []) (u t ∙ ap (λ b. cond b (Some places) (lookup (topics.ghosts.eq t) old)) (topic_eq t t ∙ same_topic-refl t))
 
-  -- the topic that is found is the one that is looked for
-  pub found-topic : (es : Sets S) (t k : Topic) → Some k ≡ lookup_key (topics.ghosts.eq t) es → k ≡ t
-  found-topic [] t k h = cc
-  found-topic (e ∷ es) t k h = step (topics.ghosts.eq t e.0) refl h (found-topic es t k)
-    where
-      step : (b : Bool) → topics.ghosts.eq t e.0 ≡ b → Some k ≡ cond b (Some e.0) (lookup_key (topics.ghosts.eq t) es) → (Some k ≡ lookup_key (topics.ghosts.eq t) es → k ≡ t) → k ≡ t
-      step true b g ih = let same : k ≡ e.0 = cc in same ∙ sym (same_topic-true t e.0 (sym (topic_eq t e.0) ∙ b))
-      step false b g ih = ih g
-
-  -- after an update at a topic its places are these
-  pub readers-updated : (old new : Sets S) (t : Topic) (s : IndexSet ℕ S) → Updated old new t s → readers_of (shown new) t ≡ s.keys
-  readers-updated old new t s u =
-      readers-shown new t ∙ ap (λ o. unwrap_or (option_map (λ x. x.keys) o) []) (u t ∙ ap (λ b. cond b (Some s) (lookup (topics.ghosts.eq t) old)) (topic_eq t t ∙ same_topic-refl t))
-
-  -- a topic that nothing reads
-  pub readers-none : (es : Sets S) (t : Topic) → None ≡ lookup (topics.ghosts.eq t) es → readers_of (shown es) t ≡ []
-  readers-none es t h = readers-found es t None h
-
-  -- and where these have all that it had, each place that was named is
-  pub names-updated : (old new : Sets S) (t : Topic) (s : IndexSet ℕ S) → Updated old new t s
-      → ((p : ℕ) → IsTrue (is_among (readers_of (shown old) t) p) → IsTrue (is_among s.keys p))
-      → (q : Topic) (p : ℕ) → IsTrue (is_among (readers_of (shown old) q) p) → IsTrue (is_among (readers_of (shown new) q) p)
-  names-updated old new t s u more q p h = step (topics.ghosts.eq t q) refl
-    where
-      step : (b : Bool) → topics.ghosts.eq t q ≡ b → is_among (readers_of (shown new) q) p ≡ true
-      step true e =
-          let same : t ≡ q = same_topic-true t q (sym (topic_eq t q) ∙ e) in
-          ap (λ l. is_among l p) (readers-shown new q ∙ ap (λ o. unwrap_or (option_map (λ x. x.keys) o) []) (u q ∙ ap (λ b. cond b (Some s) (lookup (topics.ghosts.eq q) old)) e))
-          ∙ more p (subst (λ x. is_among (readers_of (shown old) x) p ≡ true) (sym same) h)
-      step false e =
-          ap (λ l. is_among l p) (
-          readers-shown new q ∙ ap (λ o. unwrap_or (option_map (λ x. x.keys) o) []) (u q ∙ ap (λ b. cond b (Some s) (lookup (topics.ghosts.eq q) old)) e)
-          ∙ sym (readers-shown old q)
-          ) ∙ h
+-- and where these have all that it had, each place that was named is
+pub names-updated : (old new : IndexView) (t : Topic) (places : List ℕ) → Updated old new t places
+    → ((p : ℕ) → IsTrue (is_among (readers_of old t) p) → IsTrue (is_among places p))
+    → NamesMore old new
+names-updated old new t places u more q p h = step (topics.ghosts.eq t q) refl
+  where
+    step : (b : Bool) → topics.ghosts.eq t q ≡ b → is_among (readers_of new q) p ≡ true
+    step true e =
+        let same : t ≡ q = same_topic-true t q (sym (topic_eq t q) ∙ e) in
+        ap (λ l. is_among l p) (readers-by new q ∙ ap (λ o. unwrap_or o []) (u q ∙ ap (λ b. cond b (Some places) (lookup (topics.ghosts.eq q) old)) e))
+        ∙ more p (subst (λ x. is_among (readers_of old x) p ≡ true) (sym same) h)
+    step false e =
+        ap (λ l. is_among l p) (
+        readers-by new q ∙ ap (λ o. unwrap_or o []) (u q ∙ ap (λ b. cond b (Some places) (lookup (topics.ghosts.eq q) old)) e)
+        ∙ sym (readers-by old q)
+        ) ∙ h
 
 -- an index that names more names the topics of the same reads
 pub names-more : (few more : IndexView) (place : ℕ) (rs : List Read) → NamesMore few more → NamesReads few place rs → NamesReads more place rs

@@ -3,10 +3,11 @@ ghost use Rattle.std.specs.Prelude.{◌≡◌, [], true, false, IfOk, IsTrue, No
 ghost use Rattle.dg_index.specs.Index.{is_among, readers_of, with_topic, AreNamed, Finds, IsOneOf, NamesMore, NamesReads};
 ghost use Rattle.dg_index.specs.Topic.{topic_of, touched};
 
+use crate::places::Places;
 use crate::topic::Topic;
 use dg_bytes::Bytes;
 use dg_world::{Edit, Question, Read};
-use indexmap::{IndexMap, IndexSet};
+use indexmap::IndexMap;
 use std::alloc::{AllocError, Global};
 use std::marker::Model;
 
@@ -16,7 +17,7 @@ pub type Readers<'a> = (&'a Topic, &'a [usize]);
 /// For each topic the places of the records that may read it. A place may be named for longer than its record reads the
 /// topic, since whoever goes there sees what is read.
 pub struct Index {
-    readers: IndexMap<Topic, IndexSet<usize>>,
+    readers: IndexMap<Topic, Places>,
 }
 
 impl Drop for Index {
@@ -26,12 +27,11 @@ impl Drop for Index {
 }
 
 impl Model for Index {
-    ghost use Rattle.std.specs.Prelude.{map};
     ghost use Rattle.dg_index.specs.Index.{IndexView};
 
     ghost Value = { IndexView };
 
-    ghost view = { λ i. map (λ e. (e.0, e.1.keys)) i.readers.entries };
+    ghost view = { λ i. i.readers.entries };
 }
 
 /// For which topics a place was named: whether for the selection, to which questions come back, and the last of the others.
@@ -77,22 +77,6 @@ impl Named {
     }
 }
 
-/// A topic with the one place that is named for it.
-fn first_reader(
-    alloc: Global,
-    topic: &Topic,
-    place: usize,
-) -> Result<(Topic, IndexSet<usize>), AllocError>
-    ensures topic { IfOk result (λ r. r.0 ≡ topic.now) }
-    ensures place { IfOk result (λ r. IsTrue (is_among r.1.keys place)) }
-{
-    let mut readers = IndexSet::new(alloc);
-    match readers.insert(place) {
-        Ok(_) => Ok((topic.copy(alloc)?, readers)),
-        Err(_) => Err(AllocError),
-    }
-}
-
 impl Index {
     /// An index that names nothing.
     pub fn new(alloc: Global) -> Index
@@ -108,21 +92,26 @@ impl Index {
         ensures named { OnOk result (IsTrue (is_among (readers_of self.new topic.now) place)) }
         ensures stays { NamesMore self.old self.new }
     {
-        if self.name_again(topic, place)? {
+        if self.name_again(alloc, topic, place)? {
             return Ok(());
         }
         self.name_first(alloc, topic, place)
     }
 
     /// Names a place for a topic that has some, and tells whether it has.
-    fn name_again(&mut self, topic: &Topic, place: usize) -> Result<bool, AllocError>
+    fn name_again(
+        &mut self,
+        alloc: Global,
+        topic: &Topic,
+        place: usize,
+    ) -> Result<bool, AllocError>
         ensures named { IfOk result (λ found. found ≡ true → IsTrue (is_among (readers_of self.new topic.now) place)) }
         ensures none { IfOk result (λ found. found ≡ false → readers_of self.new topic.now ≡ []) }
         ensures stays { NamesMore self.old self.new }
     {
         match self.readers.get_mut(topic) {
             Some(readers) => {
-                readers.insert(place)?;
+                readers.insert(alloc, place)?;
                 return Ok(true);
             }
             None => return Ok(false),
@@ -135,8 +124,8 @@ impl Index {
         ensures named { OnOk result (IsTrue (is_among (readers_of self.new topic.now) place)) }
         ensures stays { NamesMore self.old self.new }
     {
-        let (topic, readers) = first_reader(alloc, topic, place)?;
-        match self.readers.insert(topic, readers) {
+        let topic = topic.copy(alloc)?;
+        match self.readers.insert(topic, Places::one(place)) {
             Ok(_) => Ok(()),
             Err(_) => Err(AllocError),
         }

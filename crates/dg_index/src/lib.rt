@@ -7,6 +7,7 @@ mod looking;
 mod marked;
 mod marks;
 mod numbers;
+mod places;
 mod placing;
 mod topic;
 mod touching;

@@ -1,5 +1,4 @@
-use Rattle.std.proofs.Common.{◌∙◌, None, Some, ap, sym, subst, nat_eq}
-use Rattle.std.specs.List.{IsDistinct}
+use Rattle.std.proofs.Common.{◌∙◌, None, Some, ap, sym}
 use Rattle.dg_index.specs.Index.{readers_of}
 use Rattle.dg_index.proofs.IndexLemmas.{readers-found, found-topic}
 use Rattle.dg_index.proofs.index.Index.find.Goals as goal
@@ -12,7 +11,7 @@ returns-in_err-topic c =
 pub returns : goal.returns
 returns c = (
   found-topic c.self.inside.readers.entries c.args.topic.now c.in_ok-topic.topic.now c.in_ok-topic.ensures.key,
-  c.as_slice.ensures.keys
+  c.as_slice.ensures.places
       ∙ sym (ap (λ v. readers_of v c.args.topic.now) (sym c.self.view_is) ∙ readers-found c.self.inside.readers.entries c.args.topic.now (Some c.in_ok-topic.readers.now) c.in_ok-topic.ensures.value),
-  subst (IsDistinct nat_eq) (sym c.as_slice.ensures.keys) c.as_slice.ensures.unique,
+  c.as_slice.ensures.distinct,
 )
