@@ -1,6 +1,7 @@
 -- An evaluation, running or asking, may go to another thread.
 use denote.Enum.Declared.{shape, variants}
 use denote.Param.Send.{EachSend, IsSend, IsSync, enum_send, recorded_send, sendable}
+use Rattle.std.proofs.Crossing.{Box-send}
 use Rattle.dg_bytes.proofs.bytes.Bytes.TheSendSync as bytes
 use Rattle.dg_bytes.proofs.seq.Seq.TheSendSync as seq
 use Rattle.dg_forms.specs.contracts.elements.Elements as Elements
@@ -130,20 +131,17 @@ Frames-send = (
 Frame-send : IsSend Frame.the_row
 Frame-send = let each = enum_send (shape Frame.the_type) Frames-send in search (recorded_send) depth 20
 
-Machine-send : IsSend Machine.the_field.row
-Machine-send =
-    let frames = stack.the_send Frame.the_row Frame-send in
-    search (sendable, state.the_send, control.the_field_send, Programs-send, shelf.the_send, Read-send, Read-sync, Formula-send, Formula-sync, Elements-send, Elements-sync, Listing-send, Listing-sync) depth 20
-
 Shelves-send : IsSend Shelves.the_row
 Shelves-send = search (sendable, Programs-send, shelf.the_send, Read-send, Read-sync, Formula-send, Formula-sync, Elements-send, Elements-sync, Listing-send, Listing-sync) depth 20
 
-Kept-shelves-send : IsSend (Boxed.the_field Shelves.the_row).row
-Kept-shelves-send = boxed.the_send Shelves.the_row Shelves-send
+Machine-send : IsSend Machine.the_field.row
+Machine-send =
+    let frames = stack.the_send Frame.the_row Frame-send in
+    search (sendable, state.the_send, control.the_field_send, Box-send, Shelves-send) depth 20
 
 -- as a field of a value that crosses
 pub Readings-send : IsSend Readings.the_field.row
-Readings-send = search (sendable, Kept-shelves-send) depth 20
+Readings-send = search (sendable, Box-send, Shelves-send) depth 20
 
 Kept-machine-send : IsSend (Boxed.the_row Machine.the_row)
 Kept-machine-send = let machine : IsSend Machine.the_row = search (recorded_send, Machine-send) depth 20 in boxed.the_send Machine.the_row machine

@@ -59,7 +59,7 @@ impl Machine {
             otherwise,
             depth,
         };
-        let formula = self.formulas.reading(alloc, &condition)?;
+        let formula = self.shelves.formulas.reading(alloc, &condition)?;
         let Some(mut calculation) = Calculation::of(alloc, formula, depth) else {
             return Ok(self.no_expression(alloc, &condition)?);
         };
@@ -152,7 +152,7 @@ impl Machine {
         requires { self.old.control ≡ Control.Go }
         ensures { IfOk result (GoesAs (do_switch (evaluate depth) args.now) 4 self.old self.new) }
     {
-        match switched(alloc, &mut self.pairs, args)? {
+        match switched(alloc, &mut self.shelves.pairs, args)? {
             Ok(body) => Ok(self.otherwise(alloc, body, depth)?),
             Err(message) => Ok(self.fail(alloc, message)?),
         }

@@ -120,14 +120,14 @@ impl Machine {
             let message = Bytes::from_slice(alloc, b"foreach varlist is empty")?;
             return Ok(self.fail(alloc, message)?);
         }
-        let values = with_elements(alloc, &mut self.lists, values.copy(alloc)?)?;
+        let values = with_elements(alloc, &mut self.shelves.lists, values.copy(alloc)?)?;
         let values = match elements_held(alloc, &values)? {
             Ok(values) => Queue::new(values.into_vec()),
             Err(message) => return Ok(self.fail(alloc, message)?),
         };
         let rounds = Rounds {
             names,
-            body: Body::new(alloc, &mut self.scripts, body)?,
+            body: Body::new(alloc, &mut self.shelves.scripts, body)?,
             values,
             given: None,
             left: STEPS,

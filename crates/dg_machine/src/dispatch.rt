@@ -135,7 +135,7 @@ impl Machine {
         requires { self.old.control ≡ Control.Go }
         ensures { IfOk result (λ p. Comes (command (evaluate depth) words self.old.state (all_back self.old.stack)) self.old.state.known (weight_of self.old + 2 ^ 250) self.new p) }
     {
-        let words = with_lists(alloc, &mut self.lists, words)?;
+        let words = with_lists(alloc, &mut self.shelves.lists, words)?;
         let pace = self.command(alloc, words.as_slice(), depth)?;
         if let Pace::Stands(_) = &pace {
             self.stack.push(Frame::Running { words, depth })?;

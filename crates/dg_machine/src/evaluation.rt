@@ -109,12 +109,13 @@ impl Evaluation {
     pub fn start(alloc: Global, test: TestId, readings: Readings) -> Result<Evaluation, AllocError>
         ensures { IfOk result (λ e. e ≡ begun test) }
     {
+        let shelves = readings.for_next(alloc)?;
         let mut stack = Stack::new(alloc);
         stack.push(Frame::Opening {
             what: Opening::Board,
         })?;
         let state = State::new(alloc, test.copy(alloc)?);
-        let machine = Machine::new(state, stack, readings.for_next(alloc));
+        let machine = Machine::new(state, stack, shelves);
         let machine = Boxed::new(alloc, machine)?;
         Ok(Evaluation { test, machine })
     }
@@ -164,7 +165,7 @@ fn arrive(
                 close,
                 board_steps,
                 steps,
-                readings: Readings::of(alloc, shelves),
+                readings: Readings::of(shelves),
             }))
         }
     }

@@ -200,7 +200,7 @@ impl Machine {
             limit,
             depth,
         } = compiling;
-        let Some(pairs) = Prepared::new(alloc, &mut self.programs, pairs)? else {
+        let Some(pairs) = Prepared::new(alloc, &mut self.shelves.programs, pairs)? else {
             return Ok(Pace::Lost);
         };
         let wait = Wait {

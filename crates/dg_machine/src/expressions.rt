@@ -138,7 +138,7 @@ impl Machine {
             let closing = self.cut(alloc, b"value too long")?;
             return Ok(Pace::Over(closing));
         }
-        let formula = self.formulas.reading(alloc, &text)?;
+        let formula = self.shelves.formulas.reading(alloc, &text)?;
         let Some(mut calculation) = Calculation::of(alloc, formula, depth) else {
             return Ok(self.no_expression(alloc, &text)?);
         };

@@ -14,12 +14,10 @@ use crate::boxed::Boxed;
 use crate::frame::{Closing, Control, Frame, Pace, plain_ask};
 use crate::readings::Shelves;
 use dg_bytes::{Bytes, TryCopy};
-use dg_compiled::{Begun, Commands, Formula, KEPT, Listing, Making, Script, Stack};
-use dg_forms::{Elements, wrong_count};
+use dg_compiled::{Begun, Commands, KEPT, Making, Script, Stack};
+use dg_forms::wrong_count;
 use dg_language::{Close, Code, State, Touch};
-use dg_match::Programs;
 use dg_scope::LONGEST_VALUE;
-use dg_shelf::Shelf;
 use dg_words::fault_text;
 use std::alloc::{AllocError, Global};
 use std::sync::Arc;
@@ -29,15 +27,8 @@ pub(crate) struct Machine {
     pub state: State,
     pub stack: Stack<Frame>,
     pub control: Control,
-    /// The `-re` patterns that were built.
-    pub programs: Programs,
-    /// The scripts, the expressions, the pairs of `switch` and the long lists that were read lately.
-    pub scripts: Shelf<Commands>,
-    pub formulas: Shelf<Formula>,
-    pub pairs: Shelf<Elements>,
-    pub lists: Shelf<Listing>,
-    /// How many evaluations had what was read before this one.
-    pub served: u32,
+    /// What was read of texts, in a block that one evaluation hands on to the next.
+    pub shelves: Box<Shelves>,
 }
 
 /// Written by hand, and so one call for whoever lets a machine go.
@@ -47,67 +38,36 @@ impl Drop for Machine {
             state: _,
             stack: _,
             control: _,
-            programs: _,
-            scripts: _,
-            formulas: _,
-            pairs: _,
-            lists: _,
-            served: _,
+            shelves: _,
         } = self;
     }
 }
 
 impl Machine {
     /// A machine that is about to go on with these frames, and with what was read of texts.
-    pub(crate) fn new(state: State, stack: Stack<Frame>, shelves: Shelves) -> Machine
+    pub(crate) fn new(state: State, stack: Stack<Frame>, shelves: Box<Shelves>) -> Machine
         ensures state { result.state ≡ state }
         ensures stack { result.stack ≡ stack }
         ensures control { result.control ≡ Control.Go }
     {
-        let Shelves {
-            programs,
-            scripts,
-            formulas,
-            pairs,
-            lists,
-            served,
-        } = shelves;
         Machine {
             state,
             stack,
             control: Control::Go,
-            programs,
-            scripts,
-            formulas,
-            pairs,
-            lists,
-            served,
+            shelves,
         }
     }
 
     /// What was made so far, without the frames, and what was read of texts.
-    pub(crate) fn into_parts(self) -> (State, Shelves)
+    pub(crate) fn into_parts(self) -> (State, Box<Shelves>)
         ensures { result.0 ≡ self.state }
     {
         let Machine {
             state,
             stack: _,
             control: _,
-            programs,
-            scripts,
-            formulas,
-            pairs,
-            lists,
-            served,
+            shelves,
         } = self;
-        let shelves = Shelves {
-            programs,
-            scripts,
-            formulas,
-            pairs,
-            lists,
-            served: served.saturating_add(1),
-        };
         (state, shelves)
     }
 
@@ -409,7 +369,7 @@ impl Machine {
         if text.len() > KEPT {
             return Ok(Script::new(text));
         }
-        let commands = self.scripts.reading(alloc, &text)?;
+        let commands = self.shelves.scripts.reading(alloc, &text)?;
         Ok(Script::kept(commands))
     }
 

@@ -1,11 +1,10 @@
 //! What was read of texts, which one evaluation hands on to the next.
-use crate::boxed::Boxed;
 use dg_compiled::{Commands, Formula, Listing};
 use dg_forms::Elements;
 use dg_match::Programs;
 use dg_scope::LONGEST_VALUE;
 use dg_shelf::Shelf;
-use std::alloc::Global;
+use std::alloc::{AllocError, Global};
 
 /// How many scripts, expressions and pairs of `switch` are kept at most, of each.
 const TEXTS: usize = 1_024;
@@ -20,20 +19,22 @@ const HEIRS: u32 = 64;
 /// built. It is the same in every evaluation, so what one has read serves the next. No contract says what stands in it.
 #[derive(Drop)]
 pub struct Readings {
-    /// In a block, so that what holds them is moved by moving a pointer; none where nothing was read.
-    kept: Option<Boxed<Shelves>>,
+    /// In a block, which an evaluation takes over as it is; none where nothing was read.
+    kept: Option<Box<Shelves>>,
 }
 
 /// Where an evaluation keeps what it reads of texts.
 #[derive(Drop)]
 pub(crate) struct Shelves {
+    /// The `-re` patterns that were built.
     pub programs: Programs,
+    /// The scripts, the expressions, the pairs of `switch` and the long lists that were read lately.
     pub scripts: Shelf<Commands>,
     pub formulas: Shelf<Formula>,
     pub pairs: Shelf<Elements>,
     pub lists: Shelf<Listing>,
-    /// How many evaluations had them before.
-    pub served: u32,
+    /// How many evaluations had them, the one that has them now among them.
+    served: u32,
 }
 
 impl Readings {
@@ -42,22 +43,22 @@ impl Readings {
         Readings { kept: None }
     }
 
-    /// What an evaluation has read. Where there is no room for a block it is let go of.
-    pub(crate) fn of(alloc: Global, shelves: Shelves) -> Readings {
-        match Boxed::new(alloc, shelves) {
-            Ok(shelves) => Readings {
-                kept: Some(shelves),
-            },
-            Err(_) => Readings::new(),
+    /// What an evaluation has read.
+    pub(crate) fn of(shelves: Box<Shelves>) -> Readings {
+        Readings {
+            kept: Some(shelves),
         }
     }
 
     /// What the next evaluation begins with: these, or none once enough of them had them, so that what is not needed any more
     /// is let go of.
-    pub(crate) fn for_next(self, alloc: Global) -> Shelves {
+    pub(crate) fn for_next(self, alloc: Global) -> Result<Box<Shelves>, AllocError> {
         match self.kept {
-            Some(kept) if kept.get().served < HEIRS => kept.into_inner(),
-            _ => Shelves::new(alloc),
+            Some(mut kept) if kept.served < HEIRS => {
+                kept.served += 1;
+                Ok(kept)
+            }
+            _ => Ok(Box::new(alloc, Shelves::new(alloc))?),
         }
     }
 }
@@ -71,7 +72,7 @@ impl Shelves {
             formulas: Shelf::new(alloc, TEXTS, ROOM),
             pairs: Shelf::new(alloc, TEXTS, ROOM),
             lists: Shelf::new(alloc, LISTS, LONGEST_VALUE),
-            served: 0,
+            served: 1,
         }
     }
 }

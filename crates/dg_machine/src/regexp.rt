@@ -58,7 +58,7 @@ impl Machine {
         requires read { AreRead (search.pattern ∷ []) self.old.state.known }
         ensures { IfOk result (λ p. Goes (write_found search (regex_match search.pattern search.text) self.old.state (all_back self.old.stack)) self.old.state.known (weight_of self.old + 6 + 4 * length search.names) self.new p) }
     {
-        let built = match self.programs.build(alloc, &search.pattern) {
+        let built = match self.shelves.programs.build(alloc, &search.pattern) {
             Ok(Pattern::Regex(built)) => built,
             Ok(Pattern::Glob(_) | Pattern::Exact(_)) => unreachable!(),
             Err(PatternFault::Memory) => return Err(AllocError),

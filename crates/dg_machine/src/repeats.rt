@@ -56,7 +56,7 @@ impl Machine {
         ensures { IfOk result (λ p. Comes (calculate (evaluate repetition.depth) repetition.test self.old.state (repeating repetition Stage.Test (all_back self.old.stack))) self.old.state.known (weight_of self.old + 2 ^ 139) self.new p) }
     {
         let looped = repetition.get();
-        let formula = looped.test.formula(alloc, &mut self.formulas)?;
+        let formula = looped.test.formula(alloc, &mut self.shelves.formulas)?;
         let Some(mut calculation) = Calculation::of(alloc, formula, looped.depth) else {
             return Ok(self.no_expression(alloc, looped.test.text())?);
         };
@@ -300,9 +300,9 @@ impl Machine {
         };
         let repetition = Repetition {
             stage: Stage::Start,
-            test: Condition::new(alloc, &mut self.formulas, test)?,
+            test: Condition::new(alloc, &mut self.shelves.formulas, test)?,
             next: None,
-            body: Body::new(alloc, &mut self.scripts, body)?,
+            body: Body::new(alloc, &mut self.shelves.scripts, body)?,
             left: STEPS,
             depth,
         };
@@ -328,9 +328,9 @@ impl Machine {
         };
         let repetition = Repetition {
             stage: Stage::Start,
-            test: Condition::new(alloc, &mut self.formulas, test)?,
-            next: Some(Body::new(alloc, &mut self.scripts, next)?),
-            body: Body::new(alloc, &mut self.scripts, body)?,
+            test: Condition::new(alloc, &mut self.shelves.formulas, test)?,
+            next: Some(Body::new(alloc, &mut self.shelves.scripts, next)?),
+            body: Body::new(alloc, &mut self.shelves.scripts, body)?,
             left: STEPS,
             depth,
         };

@@ -203,7 +203,7 @@ impl Machine {
         if depth == 0 || script.len() > KEPT || !begins_expr(script) {
             return Ok(None);
         }
-        let commands = self.scripts.reading(alloc, script)?;
+        let commands = self.shelves.scripts.reading(alloc, script)?;
         if commands.count() != 1 {
             return Ok(None);
         }

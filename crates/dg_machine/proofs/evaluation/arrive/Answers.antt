@@ -1,5 +1,5 @@
 use Rattle.std.proofs.Common.{refl, subst}
-use Rattle.dg_machine.specs.Evaluating.{HasEnded, NeedsNext}
+use Rattle.dg_machine.specs.Evaluating.{NeedsNext}
 use Rattle.dg_machine.proofs.EvaluationLemmas.{stands, needs, ends}
 use Rattle.dg_machine.proofs.evaluation.arrive.Goals as goal
 
