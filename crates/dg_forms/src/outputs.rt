@@ -7,18 +7,25 @@ ghost use Rattle.dg_sessions.specs.Views.{session_at};
 ghost use Rattle.dg_language.specs.State.{assigned};
 ghost use Rattle.dg_language.specs.Expecting.{group_text, out_name, with_groups};
 
-use crate::values::joined;
 use dg_bytes::Bytes;
 use dg_expr::decimal;
 use dg_language::State;
 use dg_match::Span;
 use std::alloc::{AllocError, Global};
 
+/// Room for the name of a variable that `expect` writes: the longest has 20 bytes.
+const ROOM: usize = 24;
+
 /// The name of a variable of `expect_out`.
+#[tactic(auto, using(std::proofs::Common::append_assoc))]
 fn out_name(alloc: Global, index: &[u8]) -> Result<Bytes, AllocError>
     ensures { IfOk result (λ n. n ≡ out_name index.now) }
 {
-    joined(alloc, b"expect_out(", index, b")")
+    let mut name = Vec::with_capacity(alloc, ROOM)?;
+    name.extend_from_slice(b"expect_out(")?;
+    name.extend_from_slice(index)?;
+    name.extend_from_slice(b")")?;
+    Ok(Bytes::from_vec(name))
 }
 
 /// Writes a variable of `expect_out`.
