@@ -23,6 +23,9 @@ use std::{env, io};
 /// The status after a fault.
 const FAULT: u8 = 2;
 
+/// How many bytes of a session's input and output are read and written at a time: as many as a pipe holds.
+const PIPE: usize = 65_536;
+
 /// The plan of the command line.
 fn read_plan(rt: &HostRuntime) -> Result<Plan, ProgramFault> {
     let alloc = rt.alloc();
@@ -49,10 +52,10 @@ fn read_plan(rt: &HostRuntime) -> Result<Plan, ProgramFault> {
 /// Answers the lines of standard input on standard output, beginning with what a plan selects.
 fn serve_standard(rt: &HostRuntime, plan: Plan) -> Result<(), SessionFault> {
     let alloc = rt.alloc();
-    let Ok(mut reader) = BufReader::new(alloc, rt.reader()) else {
+    let Ok(mut reader) = BufReader::with_capacity(alloc, PIPE, rt.reader()) else {
         return Err(SessionFault::Memory);
     };
-    let Ok(mut writer) = BufWriter::new(alloc, io::writer(rt)) else {
+    let Ok(mut writer) = BufWriter::with_capacity(alloc, PIPE, io::writer(rt)) else {
         return Err(SessionFault::Memory);
     };
     let mut core = Core::new(alloc)?;
