@@ -1,5 +1,5 @@
 //! The answers that an evaluation has had.
-ghost use Rattle.std.specs.Prelude.{◌≡◌, ◌++◌, ◌∷◌, [], None, Some, OnOk, IfOk, IfSome, IsTrue};
+ghost use Rattle.std.specs.Prelude.{◌≡◌, ◌++◌, ◌∷◌, [], None, Some, OnErr, OnOk, IfOk, IfSome, IsTrue};
 ghost use Rattle.std.specs.List.{find};
 ghost use Rattle.std.specs.Option.{option_copied, option_map};
 ghost use Rattle.dg_language.specs.Play.{lookup};
@@ -60,6 +60,18 @@ pub(crate) fn answer_among<'a>(reads: &'a [Read], question: &Question) -> Option
 {
     let read = reads.iter().find(|read| read.question.is(question))?;
     Some(&read.answer)
+}
+
+/// Adds a read behind a few others. The first makes room for as many as there may be.
+fn push(reads: &mut Vec<Read>, read: Read) -> Result<(), AllocError>
+    ensures ok { OnOk result (reads.new.items ≡ reads.old.items ++ read ∷ []) }
+    ensures err { OnErr result (reads.new.items ≡ reads.old.items) }
+{
+    if reads.is_empty() {
+        reads.reserve(NEAR)?;
+    }
+    reads.push(read)?;
+    Ok(())
 }
 
 /// Notes the answer to a question that had none.
@@ -212,7 +224,7 @@ impl Reads {
     {
         match &mut self.form {
             Form::Few(reads) if reads.len() < NEAR => {
-                reads.push(Read { question, answer })?;
+                push(reads, Read { question, answer })?;
             }
             Form::Few(reads) => {
                 let alloc = *reads.allocator();

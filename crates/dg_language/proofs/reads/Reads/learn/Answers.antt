@@ -11,4 +11,4 @@ invariant_of-self-then-len-lt-NEAR c =
     let q = c.args.question in
     let new : are_new [] reads ≡ true = ap is_once (sym c.in-Few.is) ∙ c.self.invariant in
     let none = ap (λ f. lookup q (reads_held f)) (sym c.in-Few.is) ∙ ap (lookup q) c.self.view_is ∙ c.requires in
-    ap (are_new []) c.in_ok-push-in-Few.ensures.items ∙ are_new-push [] reads (record { question = q; answer = c.args.answer }) new none
+    ap (are_new []) c.in_ok-push-in-Few.ensures.ok ∙ are_new-push [] reads (record { question = q; answer = c.args.answer }) new none
