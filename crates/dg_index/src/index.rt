@@ -99,12 +99,7 @@ impl Index {
     }
 
     /// Names a place for a topic that has some, and tells whether it has.
-    fn name_again(
-        &mut self,
-        alloc: Global,
-        topic: &Topic,
-        place: usize,
-    ) -> Result<bool, AllocError>
+    fn name_again(&mut self, alloc: Global, topic: &Topic, place: usize) -> Result<bool, AllocError>
         ensures named { IfOk result (λ found. found ≡ true → IsTrue (is_among (readers_of self.new topic.now) place)) }
         ensures none { IfOk result (λ found. found ≡ false → readers_of self.new topic.now ≡ []) }
         ensures stays { NamesMore self.old self.new }
