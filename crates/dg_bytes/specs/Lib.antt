@@ -1,4 +1,5 @@
 pub mod Few
+pub mod Fronts
 pub mod Forms
 pub mod Canonical
 pub mod Added
