@@ -21,6 +21,9 @@ use std::alloc::{AllocError, Global};
 use std::marker::Model;
 use std::mem;
 
+/// For how many lines or entries room is made at once: many transcripts have no more.
+const NEAR: usize = 16;
+
 /// The lines that were read so far. A contract sees the list of what they say.
 #[derive(Drop)]
 struct Lines {
@@ -142,6 +145,18 @@ fn next_of(line: &Line, sessions: u32, entries: u32) -> (Place, u32, u32)
     }
 }
 
+// Adds a line behind others. The first makes room for some more.
+fn push_line(lines: &mut Vec<Line>, line: Line) -> Result<(), AllocError>
+    ensures ok { OnOk result (lines.new.items ≡ lines.old.items ++ line ∷ []) }
+    ensures err { OnErr result (lines.new.items ≡ lines.old.items) }
+{
+    if lines.is_empty() {
+        lines.reserve(NEAR)?;
+    }
+    lines.push(line)?;
+    Ok(())
+}
+
 impl Lines {
     fn new(alloc: Global) -> Lines
         ensures { result ≡ [] }
@@ -175,7 +190,7 @@ impl Lines {
     {
         let line = line_at(alloc, self.place, self.sessions, self.entries, text)?;
         let (place, sessions, entries) = next_of(&line, self.sessions, self.entries);
-        self.lines.push(line)?;
+        push_line(&mut self.lines, line)?;
         self.place = place;
         self.sessions = sessions;
         self.entries = entries;
@@ -227,13 +242,14 @@ fn end_session(
 fn sessions_of(alloc: Global, lines: Vec<Line>) -> Result<Seq<Seq<Entry>>, AllocError>
     ensures { IfOk result (λ s. s ≡ sessions_in lines.items) }
 {
+    let near = lines.len().min(NEAR);
     let mut done = Vec::new(alloc);
     let mut open = Vec::new(alloc);
     let mut begun = false;
     for line in lines {
         match line {
             Line::Session(_) => {
-                let entries = mem::replace(&mut open, Vec::new(alloc));
+                let entries = mem::replace(&mut open, Vec::with_capacity(alloc, near)?);
                 end_session(&mut done, entries, begun)?;
                 begun = true;
             }

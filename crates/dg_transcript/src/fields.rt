@@ -1,9 +1,11 @@
 //! The fields of a line, read one by one.
-ghost use Rattle.std.specs.Prelude.{◌≡◌, ◌∷◌, length, min, option_copied, true, position};
+ghost use Rattle.std.specs.Prelude.{◌≡◌, ◌≤◌, ◌*◌, ◌/◌, ◌∷◌, IfOk, MatchResult, false, length, min, option_copied, true, position};
 ghost use Rattle.std.specs.List.{slice_split, list_all};
+ghost use Rattle.std.specs.Result.{result_ok};
 ghost use Rattle.std.specs.Char.{is_ascii_digit};
 ghost use Rattle.std.specs.Str.Parse.{digits_value};
 ghost use Rattle.dg_transcript.specs.Fields.{Gives, is_space, is_numeral, number_of, within, code_of, hex_of, bytes_of, word_of, words_of, only_field, no_field, first_field};
+ghost use Rattle.hex.specs.Hex.{decode_of};
 ghost use Rattle.dg_transcript.specs.Spaced.{behind};
 ghost use Rattle.dg_transcript.specs.Small.{is_small};
 
@@ -12,10 +14,13 @@ use crate::code::Code;
 use crate::limits::MAX_WORDS;
 use dg_bytes::{Bytes, Seq};
 use hex::FromHexError;
-use std::alloc::Global;
+use std::alloc::{AllocError, Global};
 
 /// A number past every limit.
 const PAST: u32 = 10_000_000;
+
+/// How many bytes are decoded in place.
+const FEW: usize = 16;
 
 fn space_at(text: &[u8]) -> Option<usize>
     ensures { result ≡ position is_space text.now }
@@ -146,18 +151,51 @@ fn is_small(text: &[u8]) -> bool
     small
 }
 
+/// Decodes hexadecimal into room for all of its bytes, and tells whether the text is that.
+fn decode_whole(text: &[u8], room: &mut [u8]) -> bool
+    requires { length room.old ≡ length text.now / 2 }
+    ensures { MatchResult (decode_of text.now) (λ bytes. (result ≡ true) × (room.new ≡ bytes)) (λ _. result ≡ false) }
+{
+    hex::decode_to_slice(text, room).is_ok()
+}
+
+/// The bytes that a short text stands for, if it is hexadecimal. They need no block.
+fn decode_few(alloc: Global, text: &[u8]) -> Result<Option<Bytes>, AllocError>
+    requires { length text.now ≤ 2 * FEW }
+    ensures { IfOk result (λ o. o ≡ result_ok (decode_of text.now)) }
+{
+    let count = text.len() / 2;
+    let mut held = [0; FEW];
+    if !decode_whole(text, &mut held[..count]) {
+        return Ok(None);
+    }
+    Ok(Some(Bytes::from_slice(alloc, &held[..count])?))
+}
+
+/// The bytes that a text stands for, if it is hexadecimal.
+fn decode(alloc: Global, text: &[u8]) -> Result<Option<Bytes>, AllocError>
+    ensures { IfOk result (λ o. o ≡ result_ok (decode_of text.now)) }
+{
+    if text.len() <= 2 * FEW {
+        return decode_few(alloc, text);
+    }
+    match hex::decode(alloc, text) {
+        Ok(bytes) => Ok(Some(Bytes::from_vec(bytes))),
+        Err(FromHexError::OutOfMemory) => Err(AllocError),
+        Err(_) => Ok(None),
+    }
+}
+
 /// The bytes, at least one, that lower-case hexadecimal stands for.
 #[tactic(auto, using(crate::proofs::SmallDigits::spelled_again), unfolding(crate::specs::Fields::hex_of))]
 pub(crate) fn hex_of(alloc: Global, text: &[u8]) -> Result<Bytes, Cause>
     ensures { Gives (λ b. b) result (hex_of text.now) }
 {
-    let bytes = match hex::decode(alloc, text) {
-        Ok(bytes) => bytes,
-        Err(FromHexError::OutOfMemory) => return Err(Cause::Memory),
-        Err(_) => return Err(Cause::Field),
+    let Some(bytes) = decode(alloc, text)? else {
+        return Err(Cause::Field);
     };
     if is_small(text) && !bytes.is_empty() {
-        Ok(Bytes::from_vec(bytes))
+        Ok(bytes)
     } else {
         Err(Cause::Field)
     }
