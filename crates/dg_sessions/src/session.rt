@@ -55,7 +55,8 @@ pub fn id_of(alloc: Global, number: u32) -> Result<Bytes, AllocError>
     ensures { IfOk result (λ id. id ≡ id_of number) }
 {
     let mut id = Bytes::from_slice(alloc, b"exp")?;
-    id.extend(number.to_string(alloc)?.as_bytes())?;
+    let mut digits = itoa::Buffer::new();
+    id.extend(digits.format(number).as_bytes())?;
     id.keep(alloc)?;
     Ok(id)
 }
