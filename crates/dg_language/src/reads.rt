@@ -10,7 +10,7 @@ ghost use Rattle.dg_world.specs.Question.{same_question};
 use crate::row::Row;
 use dg_bytes::Seq;
 use dg_transcript::Entry;
-use dg_world::{Answer, Question, Read, TestId};
+use dg_world::{Answer, EntryPlace, Question, Read, TestId};
 use indexmap::IndexMap;
 use std::alloc::{AllocError, Global};
 use std::marker::Model;
@@ -58,7 +58,20 @@ impl Model for Reads {
 pub(crate) fn answer_among<'a>(reads: &'a [Read], question: &Question) -> Option<&'a Answer>
     ensures { option_copied result ≡ option_map (λ read. read.answer) (find (λ read. same_question read.question question.now) reads.now) }
 {
-    let read = reads.iter().find(|read| read.question.is(question))?;
+    match question {
+        Question::Entry(place) => entry_among(reads, place),
+        _ => {
+            let read = reads.iter().find(|read| read.question.is(question))?;
+            Some(&read.answer)
+        }
+    }
+}
+
+/// The same where the question is for an entry.
+fn entry_among<'a>(reads: &'a [Read], place: &EntryPlace) -> Option<&'a Answer>
+    ensures { option_copied result ≡ option_map (λ read. read.answer) (find (λ read. same_question read.question (Question.Entry place.now)) reads.now) }
+{
+    let read = reads.iter().find(|read| read.question.is_for(place))?;
     Some(&read.answer)
 }
 

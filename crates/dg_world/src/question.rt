@@ -110,6 +110,7 @@ impl EntryPlace {
     }
 
     /// Whether these are the same place. Most differ in their places, and the names of tests take longest to compare.
+    #[inline(always)]
     fn is(&self, other: &EntryPlace) -> bool
         ensures { result ≡ same_place self.now other.now }
     {
@@ -143,6 +144,17 @@ impl Question {
             (Question::Variable(one), Question::Variable(two)) => *one == *two,
             (Question::Entry(one), Question::Entry(two)) => one.is(two),
             (Question::Pattern(one), Question::Pattern(two)) => *one == *two,
+            _ => false,
+        }
+    }
+
+    /// Whether this is the question for the entry at a place.
+    #[inline(always)]
+    pub fn is_for(&self, place: &EntryPlace) -> bool
+        ensures { result ≡ same_question self.now (Question.Entry place.now) }
+    {
+        match self {
+            Question::Entry(own) => own.is(place),
             _ => false,
         }
     }
