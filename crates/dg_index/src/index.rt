@@ -130,6 +130,9 @@ impl Index {
     pub fn find(&self, topic: &Topic) -> Option<Readers<'_>>
         ensures { Finds self.now topic.now result }
     {
+        if self.readers.is_empty() {
+            return None;
+        }
         let (topic, readers) = self.readers.get_key_value(topic)?;
         Some((topic, readers.as_slice()))
     }
