@@ -14,6 +14,7 @@ use Rattle.dg_compiled.proofs.stack.Stack.TheSendSync as stack
 use Rattle.dg_compiled.specs.contracts.calculation.Calculation as Calculation
 use Rattle.dg_compiled.specs.contracts.instructions.Formula as Formula
 use Rattle.dg_compiled.specs.contracts.lists.Listing as Listing
+use Rattle.dg_compiled.specs.contracts.word_lists.WordList as WordList
 use Rattle.dg_compiled.specs.contracts.instructions.Instructions as Instructions
 use Rattle.dg_compiled.specs.contracts.instructions.Condition as Condition
 use Rattle.dg_compiled.specs.contracts.script.Body as Body
@@ -77,6 +78,12 @@ Read-send = let kept = seq.the_send KeptCommand.the_row KeptCommand-send in sear
 
 pub Read-sync : IsSync Commands.the_row
 Read-sync = let kept = seq.the_sync KeptCommand.the_row KeptCommand-sync in search sendable depth 20
+
+pub WordList-send : IsSend WordList.the_field.row
+WordList-send = let steps = seq.the_send Substitution.the_row Substitution-send in search sendable depth 20
+
+pub WordList-sync : IsSync WordList.the_field.row
+WordList-sync = let steps = seq.the_sync Substitution.the_row Substitution-sync in search sendable depth 20
 
 pub Listing-send : IsSend Listing.the_row
 Listing-send = search (sendable, bytes.the_send) depth 20

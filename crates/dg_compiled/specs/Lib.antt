@@ -8,3 +8,4 @@ pub mod Calculating
 pub mod Computing
 pub mod Wholes
 pub mod Ways
+pub mod WordLists

@@ -13,6 +13,7 @@ mod steps;
 mod texts;
 mod ways;
 mod wholes;
+mod word_lists;
 
 pub use crate::calculation::Calculation;
 pub use crate::computing::{Computed, compute_on};
@@ -23,3 +24,4 @@ pub use crate::script::{Begun, Body, Commands, KEPT, Script, WordSteps};
 pub use crate::stack::Stack;
 pub use crate::texts::{add_text, ends_word, has_room, make_texts, short_text};
 pub use crate::ways::{Way, literal_word};
+pub use crate::word_lists::WordList;

@@ -35,7 +35,7 @@ use Rattle.dg_machine.specs.contracts.machine.Machine as Machine
 use Rattle.dg_machine.specs.contracts.patterns.Prepared as Prepared
 use Rattle.dg_machine.specs.contracts.readings.Readings as Readings
 use Rattle.dg_machine.specs.contracts.readings.Shelves as Shelves
-use Rattle.dg_compiled.proofs.Crosses.{Read-send, Read-sync, Formula-send, Formula-sync, Listing-send, Listing-sync, Script-send, Body-send, Calculation-send, Condition-send}
+use Rattle.dg_compiled.proofs.Crosses.{Read-send, Read-sync, Formula-send, Formula-sync, Listing-send, Listing-sync, WordList-send, WordList-sync, Script-send, Body-send, Calculation-send, Condition-send}
 
 Elements-send : IsSend Elements.the_row
 Elements-send = search (sendable, bytes.the_send, seq.the_send) depth 20
@@ -132,7 +132,7 @@ Frame-send : IsSend Frame.the_row
 Frame-send = let each = enum_send (shape Frame.the_type) Frames-send in search (recorded_send) depth 20
 
 Shelves-send : IsSend Shelves.the_row
-Shelves-send = search (sendable, Programs-send, shelf.the_send, Read-send, Read-sync, Formula-send, Formula-sync, Elements-send, Elements-sync, Listing-send, Listing-sync) depth 20
+Shelves-send = search (sendable, Programs-send, shelf.the_send, Read-send, Read-sync, Formula-send, Formula-sync, Elements-send, Elements-sync, Listing-send, Listing-sync, WordList-send, WordList-sync) depth 20
 
 Machine-send : IsSend Machine.the_field.row
 Machine-send =

@@ -1,7 +1,6 @@
 -- The words and the limit of `expect`.
-use Rattle.std.proofs.Common.{◌≡◌, ℕ, ◌+◌, ◌^◌, ◌<◌, ◌≤◌, ◌⊎◌, inl, inr, List, [], ◌∷◌, length, refl, ap, sym, ◌∙◌, arith}
-use Rattle.std.specs.Prelude.{ℤ, Option, option_map, Some, None, Ok, Err, codes}
-use Rattle.dg_words.specs.Faults.{fault_text}
+use Rattle.std.proofs.Common.{◌≡◌, ℕ, ◌+◌, ◌^◌, ◌<◌, ◌≤◌, List, ◌∷◌, length, refl, ap, sym, ◌∙◌, arith}
+use Rattle.std.specs.Prelude.{ℤ, Option, option_map, Some, None, Result, Ok, Err, codes}
 use Rattle.dg_words.specs.Reading.{words_of}
 use Rattle.dg_words.specs.declared.fault.WordFault.{WordFault}
 use Rattle.dg_words.specs.declared.word.Word.{Word}
@@ -20,12 +19,13 @@ use Rattle.dg_language.specs.Sessions.{on_session, on_words, seek, sought}
 use Rattle.dg_language.specs.ExpectWords.{expect_words, listed}
 use Rattle.dg_language.specs.Expecting.{do_expect, expect_args, expect_list, expect_with, milliseconds, or_ten, with_limit, with_number}
 use Rattle.dg_language.specs.Language.{evaluate}
-use Rattle.dg_language.specs.Words.{gather, substitutions}
 use Rattle.dg_machine.specs.declared.frame.Frame.{Frame}
 use Rattle.dg_machine.specs.declared.frame.Frame.TheVariants.{Gathering}
 use Rattle.dg_machine.specs.declared.frame.Control.TheVariants.{Go}
 use Rattle.dg_machine.specs.declared.frame.Limiting.{Limiting}
 use Rattle.dg_compiled.specs.declared.making.Making.{Making}
+use Rattle.dg_compiled.specs.declared.word_lists.WordList.{WordList}
+use Rattle.dg_compiled.specs.WordLists.{steps_for, word_list_in, words_on}
 use Rattle.dg_machine.specs.declared.frame.Closing.{Closing}
 use Rattle.dg_machine.specs.declared.frame.Fit.TheVariants.{Open}
 use Rattle.dg_machine.specs.declared.frame.Pace.{Pace}
@@ -150,25 +150,23 @@ module _ (words : List (List ℕ)) (d : ℕ) (e : Expectation) (read : Ok e ≡ 
   pub session-moves : Seeks Open e.id old mid (Instead Moved) → rest mid ≡ expect_with (evaluate d) words old.state (all_back old.stack)
   session-moves h = (h with_session).0 ∙ sym (expects words d old.state (all_back old.stack) e read)
 
--- of two facts the one that is left
-pub the-other : {A B : Type 0} → A ⊎ B → (A → ⊥) → B
-the-other (inl a) n = absurd (n a)
-the-other (inr b) n = b
-
 module _ (nested : Nested) (args : List (List ℕ)) (s : State) (k : Then) where
   pub expect-given : None ≡ listed args → do_expect nested args s k ≡ expect_with nested args s k
   unfolding do_expect
   expect-given e = ap (λ o. expect_args nested o args s k) (sym e)
 
-  pub expect-listed : (text : List ℕ) (ws : List Word) → Some text ≡ listed args → words_of text ≡ Ok ws
-      → do_expect nested args s k ≡ gather nested (expect_with nested) [] [] [] (substitutions ws) s k
-  unfolding do_expect
-  expect-listed text ws e h = ap (λ o. expect_args nested o args s k) (sym e) ∙ ap (λ r. expect_list nested r s k) h
+-- the steps that were read of a list come to what its words do
+list-read : (r : Result (List Word) WordFault) (depth : ℕ) (s : State) (k : Then) → words_on (steps_for r) Expect depth s k ≡ expect_list (evaluate depth) r s k
+list-read (Ok words) depth s k = refl
+list-read (Err fault) depth s k = refl
 
-  pub expect-unreadable : (text : List ℕ) (fault : WordFault) → Some text ≡ listed args → words_of text ≡ Err fault
-      → do_expect nested args s k ≡ fail (fault_text fault) s k
-  unfolding do_expect
-  expect-unreadable text fault e h = ap (λ o. expect_args nested o args s k) (sym e) ∙ ap (λ r. expect_list nested r s k) h
+pub expect-listed : (depth : ℕ) (args : List (List ℕ)) (s : State) (k : Then) (text : List ℕ) (list : WordList) → Some text ≡ listed args → list ≡ word_list_in text
+    → do_expect (evaluate depth) args s k ≡ words_on list Expect depth s k
+unfolding do_expect
+expect-listed depth args s k text list e h =
+    ap (λ o. expect_args (evaluate depth) o args s k) (sym e)
+    ∙ sym (list-read (words_of text) depth s k)
+    ∙ ap (λ l. words_on l Expect depth s k) (sym h)
 
 -- the frame that makes the words of `expect`
 pub weight-expecting : (s : State) (m : Making) (d : ℕ) (fs : List Frame) → m.purpose ≡ Expect → length m.left < 2 ^ 64

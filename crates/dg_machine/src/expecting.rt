@@ -21,15 +21,14 @@ use crate::regexp::CANNOT_COMPILE;
 use crate::sessions::sought;
 use crate::variables::push_all;
 use dg_bytes::{Bytes, Seq, TryCopy};
-use dg_compiled::{Making, Stack};
 use dg_forms::{
     action_at, end_action, expect_words, expected_integer, limit_of, listed, not_open, regexes_in,
-    steps_of, timeout_action,
+    timeout_action,
 };
 use dg_language::{Code, Purpose};
 use dg_sessions::id_of;
 use dg_transcript::Action;
-use dg_words::{WordFault, fault_text, parse_words};
+use dg_words::fault_text;
 use std::alloc::{AllocError, Global};
 
 /// The most rounds of an `expect`: each `exp_continue` takes a step.
@@ -356,26 +355,17 @@ impl Machine {
             self.stack.push(Frame::Expecting { words, depth })?;
             return Ok(Pace::Moved);
         };
-        match parse_words(alloc, list.as_slice()) {
-            Ok(words) => {
-                let making = Making {
-                    purpose: Purpose::Expect,
-                    made: Seq::new(alloc),
-                    outer: Stack::new(alloc),
-                    text: Bytes::new(alloc),
-                    left: steps_of(alloc, words.as_slice())?,
-                };
+        let words = self.shelves.word_lists.reading(alloc, list)?;
+        match words.begun(alloc, &self.state, Purpose::Expect)? {
+            Ok(making) => {
                 let _count = making.left.len();
                 self.stack.push(Frame::Gathering { making, depth })?;
                 Ok(Pace::Moved)
             }
-            Err(fault) => match fault {
-                WordFault::Memory => Err(AllocError),
-                fault => {
-                    let message = Bytes::from_slice(alloc, fault_text(fault))?;
-                    Ok(self.fail(alloc, message)?)
-                }
-            },
+            Err(fault) => {
+                let message = Bytes::from_slice(alloc, fault_text(fault))?;
+                Ok(self.fail(alloc, message)?)
+            }
         }
     }
 }

@@ -1,12 +1,12 @@
 //! What was read of texts, which one evaluation hands on to the next.
-use dg_compiled::{Commands, Formula, Listing};
+use dg_compiled::{Commands, Formula, Listing, WordList};
 use dg_forms::Elements;
 use dg_match::Programs;
 use dg_scope::LONGEST_VALUE;
 use dg_shelf::Shelf;
 use std::alloc::{AllocError, Global};
 
-/// How many scripts, expressions and pairs of `switch` are kept at most, of each.
+/// How many scripts, expressions, pairs of `switch` and lists of words are kept at most, of each.
 const TEXTS: usize = 1_024;
 /// How many bytes the texts of each have together at most: what is kept of them takes many times their room.
 const ROOM: usize = 262_144;
@@ -15,8 +15,8 @@ const LISTS: usize = 256;
 /// How many evaluations in a row use what was read, the one that read it among them; the next begins with nothing.
 const HEIRS: u32 = 64;
 
-/// What was read of texts lately: scripts, expressions, the pairs of `switch` and long lists, and the `-re` patterns that were
-/// built. It is the same in every evaluation, so what one has read serves the next. No contract says what stands in it.
+/// What was read of texts lately: scripts, expressions, the pairs of `switch`, the lists of words of `expect` and long lists, and
+/// the `-re` patterns that were built. It is the same in every evaluation, so what one has read serves the next. No contract says what stands in it.
 #[derive(Drop)]
 pub struct Readings {
     /// In a block, which an evaluation takes over as it is; none where nothing was read.
@@ -28,10 +28,11 @@ pub struct Readings {
 pub(crate) struct Shelves {
     /// The `-re` patterns that were built.
     pub programs: Programs,
-    /// The scripts, the expressions, the pairs of `switch` and the long lists that were read lately.
+    /// The scripts, the expressions, the pairs of `switch`, the lists of words and the long lists that were read lately.
     pub scripts: Shelf<Commands>,
     pub formulas: Shelf<Formula>,
     pub pairs: Shelf<Elements>,
+    pub word_lists: Shelf<WordList>,
     pub lists: Shelf<Listing>,
     /// How many evaluations had them, the one that has them now among them.
     served: u32,
@@ -71,6 +72,7 @@ impl Shelves {
             scripts: Shelf::new(alloc, TEXTS, ROOM),
             formulas: Shelf::new(alloc, TEXTS, ROOM),
             pairs: Shelf::new(alloc, TEXTS, ROOM),
+            word_lists: Shelf::new(alloc, TEXTS, ROOM),
             lists: Shelf::new(alloc, LISTS, LONGEST_VALUE),
             served: 1,
         }
