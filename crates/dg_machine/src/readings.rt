@@ -16,7 +16,8 @@ const LISTS: usize = 256;
 const HEIRS: u32 = 64;
 
 /// What was read of texts lately: scripts, expressions, the pairs of `switch`, the lists of words of `expect` and long lists, and
-/// the `-re` patterns that were built. It is the same in every evaluation, so what one has read serves the next. No contract says what stands in it.
+/// the `-re` patterns that were built. It is the same in every evaluation, so what one has read serves the next. No contract says
+/// what stands in it.
 #[derive(Drop)]
 pub struct Readings {
     /// In a block, which an evaluation takes over as it is; none where nothing was read.
