@@ -1,0 +1,64 @@
+"""Times a suite of scripts that talk with cat, live and rejudged, beside a C program that does the same over pipes, in turn.
+
+    python3 live.py RUNTEST LOOP [RUNS]
+
+LOOP is loop.c, built. Shown are the least and the median of RUNS (15) whole runs, in milliseconds."""
+import os
+import statistics
+import subprocess
+import sys
+import tempfile
+import time
+
+SCRIPTS = 100
+ROUNDS = 20
+SCRIPT = """set timeout 10
+spawn cat
+set n 0
+for {set i 0} {$i < %d} {incr i} {
+    send "line $i\\n"
+    expect {
+        "line $i\\n" {incr n}
+        timeout {fail "line $i"}
+        eof {fail "line $i (eof)"}
+    }
+}
+close
+pass "$n lines"
+""" % ROUNDS
+
+
+def timed(words):
+    """The milliseconds of a run, which has to end well."""
+    begun = time.perf_counter()
+    subprocess.run(words, check=True, stdout=subprocess.DEVNULL)
+    return 1000 * (time.perf_counter() - begun)
+
+
+def main(program, loop, runs=15):
+    with tempfile.TemporaryDirectory() as room:
+        os.makedirs(f"{room}/suite/t")
+        for number in range(SCRIPTS):
+            with open(f"{room}/suite/t/s{number:03}.exp", "w") as script:
+                script.write(SCRIPT)
+        run = [program, "--tool", "t", "--srcdir", f"{room}/suite", "--outdir", room]
+        rows = {
+            "the C program": [loop, str(SCRIPTS), str(ROUNDS)],
+            "live": run,
+            "live, 4 jobs": run + ["--jobs", "4"],
+            "rejudged": run + ["--rejudge"],
+        }
+        taken = {name: [] for name in rows}
+        for _ in range(int(runs)):
+            for name, words in rows.items():
+                taken[name].append(timed(words))
+        with open(f"{room}/t.sum") as report:
+            if report.read().count(f"PASS: {ROUNDS} lines\n") != SCRIPTS:
+                sys.exit("not every script passed")
+        print(f"{SCRIPTS} scripts of {ROUNDS} rounds with cat         least   median")
+        for name, times in taken.items():
+            print(f"{name:40} {min(times):8.1f} {statistics.median(times):8.1f}")
+
+
+if __name__ == "__main__":
+    main(*sys.argv[1:])
