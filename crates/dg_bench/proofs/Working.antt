@@ -1,7 +1,8 @@
 -- What a run of workers comes to, by what its first and its last call come to.
-use Rattle.std.proofs.Common.{List, ◌++◌, refl, sym, ap, ◌∙◌, subst, arith}
+use Rattle.std.proofs.Common.{List, Option, ◌++◌, refl, sym, ap, ◌∙◌, subst, arith}
 use mathlib.Core.List.{IsPrefix, append_assoc}
 use Rattle.dg_core.specs.Core.{new_core}
+use Rattle.dg_transcript.specs.declared.entry.Entry.{Entry}
 use Rattle.dg_world.specs.Test.{TestView}
 use Rattle.dg_bench.specs.declared.call.Call.{Call}
 use Rattle.dg_bench.specs.declared.work.Work.{Work}
@@ -11,10 +12,16 @@ use Rattle.dg_bench.specs.History.{Makes}
 use Rattle.dg_bench.specs.Seen.{Seen, Told, Kept}
 use Rattle.dg_bench.specs.Refusals.{SeesMore, IsRefused, never}
 use Rattle.dg_bench.specs.Made.{IsMade}
-use Rattle.dg_bench.specs.Work.{Lists, IsListed}
+use Rattle.dg_bench.specs.Work.{Lists, IsListed, Recalls, IsRecalled}
 
 pub is_listed : (work : Work) (old : Kept) (pass back : Seen) (tests : List TestView) → Lists work old pass back tests → IsListed work pass back tests
 is_listed work old pass back tests l = (
+  subst (SeesMore pass) (sym l.0.1) (refl, refl, l.0.0, l.0.2, l.0.3),
+  (old.core, subst (λ (q : Seen). Makes new_core q.calls old.core) (sym l.0.1) l.2, l.3),
+)
+
+pub is_recalled : (test : TestView) (old : Kept) (pass back : Seen) (sessions : Option (List (List Entry))) → Recalls test old pass back sessions → IsRecalled test pass back sessions
+is_recalled test old pass back sessions l = (
   subst (SeesMore pass) (sym l.0.1) (refl, refl, l.0.0, l.0.2, l.0.3),
   (old.core, subst (λ (q : Seen). Makes new_core q.calls old.core) (sym l.0.1) l.2, l.3),
 )

@@ -3,3 +3,4 @@ pub mod Seen
 pub mod Refusals
 pub mod Made
 pub mod Work
+pub mod Replays

@@ -1,7 +1,8 @@
 -- What workers are told, and what they tell.
-use Rattle.std.specs.Prelude.{◌≡◌, ◌≢◌, ◌⊎◌, false, List}
+use Rattle.std.specs.Prelude.{◌≡◌, ◌≢◌, ◌⊎◌, false, List, Option}
 use Rattle.dg_core.specs.Core.{CoreView, new_core, pending}
-use Rattle.dg_world.specs.World.{selected}
+use Rattle.dg_transcript.specs.declared.entry.Entry.{Entry}
+use Rattle.dg_world.specs.World.{selected, transcript_of}
 use Rattle.dg_world.specs.declared.question.Question.{Question}
 use Rattle.dg_world.specs.declared.question.Answer.{Answer}
 use Rattle.dg_world.specs.Test.{TestView}
@@ -29,6 +30,15 @@ Lists work kept pass later tests = SeesAll kept pass later × (kept.stopped ≡ 
 -- the pass has since seen a legal list, which begins with what it had seen, and the tests are those of the core which that list makes
 abbrev pub IsListed : Work → Seen → Seen → List TestView → Type 0
 IsListed work pass later tests = SeesMore pass later × ((core : CoreView) × Makes new_core later.calls core × (tests ≡ tests_of work core))
+
+-- a bench that runs gives the transcript of a test in its core, if that has one, and the pass has then seen all calls
+abbrev pub Recalls : TestView → Kept → Seen → Seen → Option (List (List Entry)) → Type 0
+Recalls test kept pass later sessions =
+    SeesAll kept pass later × (kept.stopped ≡ false) × Makes new_core kept.calls kept.core × (sessions ≡ transcript_of kept.core.world test)
+
+-- the pass has since seen a legal list, which begins with what it had seen, and the transcript is that of the test in the world which that list makes, if it has one there
+abbrev pub IsRecalled : TestView → Seen → Seen → Option (List (List Entry)) → Type 0
+IsRecalled test pass later sessions = SeesMore pass later × ((core : CoreView) × Makes new_core later.calls core × (sessions ≡ transcript_of core.world test))
 
 -- an answer of the bench, by a call or by a look
 abbrev pub Answers : Seen → Seen → Question → Answer → Type 0

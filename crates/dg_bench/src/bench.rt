@@ -6,7 +6,7 @@ ghost use Rattle.dg_bench.specs.History.{IsLegal};
 ghost use Rattle.dg_bench.specs.Seen.{Begins, seen_all};
 ghost use Rattle.dg_bench.specs.Made.{IsMade, IsLook};
 ghost use Rattle.dg_bench.specs.Refusals.{HasSeenMore, IsRefused, never};
-ghost use Rattle.dg_bench.specs.Work.{IsListed};
+ghost use Rattle.dg_bench.specs.Work.{IsListed, IsRecalled};
 ghost use Rattle.dg_bench.specs.declared.call.Call.TheVariants.{Edit as edited, Ask as asked, Commit as committed, Live as lived, Report as reported};
 
 use crate::call::Call;
@@ -164,6 +164,21 @@ impl<B: Room> Bench<B> {
         ensures refused { IfErr result (λ r. IsRefused never pass r.0 r.1) }
     {
         self.locked.lock(rt).tests(alloc, pass, work)
+    }
+
+    /// The transcript of a test, if it has one: that of the world which the calls make that the pass has then seen. It is no call of
+    /// the history.
+    pub fn transcript(
+        &self,
+        rt: &impl Wait,
+        alloc: Global,
+        pass: Pass<B>,
+        test: &TestId,
+    ) -> Result<(Pass<B>, Option<Transcript>), (Pass<B>, BenchRefusal)>
+        ensures ok { IfOk result (λ r. IsRecalled test.now pass r.0 r.1) }
+        ensures refused { IfErr result (λ r. IsRefused never pass r.0 r.1) }
+    {
+        self.locked.lock(rt).transcript(alloc, pass, test)
     }
 
     /// The call of a receipt, with its reply; none for the receipt of a look. It takes no lock.

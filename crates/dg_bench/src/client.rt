@@ -4,6 +4,7 @@ ghost use Rattle.std.specs.Prelude.{◌≡◌, IfOk, OnOk, IfSome};
 use crate::bench::Bench;
 use crate::pass::Pass;
 use crate::refusal::BenchRefusal;
+use crate::replay::Replay;
 use crate::room::Room;
 use crate::work::WorkFault;
 use dg_eval::{Job, Readings, Turn};
@@ -50,14 +51,9 @@ impl<'a, B: Room, R: Wait> Asker for Client<'a, B, R> {
                 self.pass = pass;
                 Ok(answer)
             }
-            Err((pass, BenchRefusal::Memory)) => {
-                self.pass = pass;
-                Err(AskFault::Memory)
-            }
             Err((pass, refusal)) => {
                 self.pass = pass;
-                self.refusal = Some(refusal);
-                Err(AskFault::Refused)
+                Err(self.refused(refusal))
             }
         }
     }
@@ -75,17 +71,48 @@ impl<'a, B: Room, R: Wait> Client<'a, B, R> {
         }
     }
 
+    /// Why the bench did not answer.
+    fn refused(&mut self, refusal: BenchRefusal) -> AskFault {
+        if refusal == BenchRefusal::Memory {
+            return AskFault::Memory;
+        }
+        self.refusal = Some(refusal);
+        AskFault::Refused
+    }
+
     /// The fault of a judging that gave no record.
     pub(crate) fn fault(&mut self, test: TestId, why: LiveFault) -> WorkFault {
         WorkFault::of_judging(test, why, self.refusal.take())
     }
 
-    /// Tells a job what the bench answers to its next question, or gives its record.
-    fn take_turn(&mut self, job: &mut Job) -> Result<Option<Record>, LiveFault>
+    /// What the transcript of a test answers, which is looked up once.
+    fn replay(&mut self, test: &TestId) -> Result<Replay, LiveFault> {
+        let Ok(own) = test.copy(self.alloc) else {
+            return Err(LiveFault::Memory);
+        };
+        let pass = mem::replace(&mut self.pass, self.bench.pass());
+        match self.bench.transcript(self.rt, self.alloc, pass, test) {
+            Ok((pass, transcript)) => {
+                self.pass = pass;
+                Ok(Replay {
+                    test: own,
+                    transcript,
+                })
+            }
+            Err((pass, refusal)) => {
+                self.pass = pass;
+                Err(LiveFault::Asker(self.refused(refusal)))
+            }
+        }
+    }
+
+    /// Tells a job what its test's transcript answers to its next questions, and the bench to the first other one, or gives its
+    /// record.
+    fn take_turn(&mut self, job: &mut Job, replay: &Replay) -> Result<Option<Record>, LiveFault>
         ensures test { OnOk result (job.new.test ≡ job.old.test) }
         ensures record { IfOk result (λ o. IfSome o (λ r. r.test ≡ job.old.test)) }
     {
-        let ask = match job.advance(self.alloc) {
+        let ask = match job.advance_along(self.alloc, replay) {
             Ok(Turn::Need(ask)) => ask,
             Ok(Turn::Done(record)) => return Ok(Some(record)),
             Err(fault) => return Err(LiveFault::Job(fault)),
@@ -99,20 +126,33 @@ impl<'a, B: Room, R: Wait> Client<'a, B, R> {
         }
     }
 
-    /// Judges a test, whose questions the bench answers, also those about its children. The readings are those of the worker.
-    pub(crate) fn rejudge(
-        &mut self,
-        test: TestId,
-        readings: &mut Readings,
-    ) -> Result<Record, LiveFault>
-        ensures { IfOk result (λ r. r.test ≡ test) }
+    /// A job for a test, with what its worker has read.
+    fn job(&self, test: &TestId, readings: &mut Readings) -> Result<Job, LiveFault>
+        ensures { IfOk result (λ j. j.test ≡ test.now) }
     {
         let read = mem::replace(readings, Readings::new());
-        let Ok(mut job) = Job::start_with(self.alloc, test, read) else {
-            return Err(LiveFault::Memory);
-        };
+        match test.copy(self.alloc) {
+            Ok(own) => match Job::start_with(self.alloc, own, read) {
+                Ok(job) => Ok(job),
+                Err(_) => Err(LiveFault::Memory),
+            },
+            Err(_) => Err(LiveFault::Memory),
+        }
+    }
+
+    /// Judges a test, whose children answer from its transcript as it stands when the judging begins; the bench answers what else is
+    /// asked. The readings are those of the worker.
+    pub(crate) fn rejudge(
+        &mut self,
+        test: &TestId,
+        readings: &mut Readings,
+    ) -> Result<Record, LiveFault>
+        ensures { IfOk result (λ r. r.test ≡ test.now) }
+    {
+        let replay = self.replay(test)?;
+        let mut job = self.job(test, readings)?;
         'turns: for _turn in 0..u64::MAX {
-            if let Some(record) = self.take_turn(&mut job)? {
+            if let Some(record) = self.take_turn(&mut job, &replay)? {
                 job.hand_on(readings);
                 return Ok(record);
             }

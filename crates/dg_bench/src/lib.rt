@@ -16,6 +16,7 @@ mod place;
 mod prepared;
 mod receipt;
 mod refusal;
+mod replay;
 mod room;
 mod work;
 mod workers;

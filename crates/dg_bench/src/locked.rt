@@ -3,14 +3,14 @@ ghost use Rattle.std.specs.Prelude.{ℕ, ◌≡◌, ◌≢◌, ◌<◌, ◌≤�
 ghost use Rattle.once_cell.specs.Once.{cell_name};
 ghost use Rattle.dg_core.specs.Core.{new_core, edited_core, committed_live, IsAskedOf};
 ghost use Rattle.dg_core.specs.Reply.{Replies};
-ghost use Rattle.dg_world.specs.World.{look};
+ghost use Rattle.dg_world.specs.World.{look, transcript_of};
 ghost use Rattle.dg_world.specs.declared.question.Answer.TheVariants.{Reading as read_as};
 ghost use Rattle.dg_bench.specs.declared.refusal.BenchRefusal.TheVariants.{HistoryFull};
 ghost use Rattle.dg_bench.specs.History.{IsLegal, Makes, Steps};
 ghost use Rattle.dg_bench.specs.Made.{Enters, Looks};
 ghost use Rattle.dg_bench.specs.Seen.{Begins, seen_all};
 ghost use Rattle.dg_bench.specs.Refusals.{Refuses, RefusesBegun, SeesAll, never};
-ghost use Rattle.dg_bench.specs.Work.{Lists, tests_of};
+ghost use Rattle.dg_bench.specs.Work.{Lists, Recalls, tests_of};
 ghost use Rattle.dg_bench.specs.declared.call.Call.TheVariants.{Edit as edited, Ask as asked, Commit as committed, Live as lived, Report as reported};
 
 use crate::call::Call;
@@ -22,7 +22,7 @@ use crate::receipt::Receipt;
 use crate::refusal::BenchRefusal;
 use crate::room::Room;
 use crate::work::Work;
-use dg_bytes::Seq;
+use dg_bytes::{Seq, TryCopy};
 use dg_core::{Core, Reply};
 use dg_match::Reading;
 use dg_records::Record;
@@ -458,6 +458,37 @@ impl<B: Room> Locked<B> {
         match self.listed(alloc, work) {
             Ok(tests) => Ok((pass, tests)),
             Err(_) => Err((pass, BenchRefusal::Memory)),
+        }
+    }
+
+    /// The transcript of a test, if it has one, which changes nothing.
+    pub fn transcript(
+        &mut self,
+        alloc: Global,
+        pass: Pass<B>,
+        test: &TestId,
+    ) -> Result<(Pass<B>, Option<Transcript>), (Pass<B>, BenchRefusal)>
+        ensures same { self.new ≡ self.old }
+        ensures ok { IfOk result (λ r. Recalls test.now self.old pass r.0 r.1) }
+        ensures refused { IfErr result (λ r. (limit : ℕ) → Refuses never limit self.old self.new pass r.0 r.1) }
+    {
+        let pass = match self.admit(pass) {
+            Ok(pass) => pass,
+            Err(refused) => return Err(refused),
+        };
+        match self.recalled(alloc, test) {
+            Ok(transcript) => Ok((pass, transcript)),
+            Err(_) => Err((pass, BenchRefusal::Memory)),
+        }
+    }
+
+    /// A copy of the transcript of a test, if it has one.
+    fn recalled(&self, alloc: Global, test: &TestId) -> Result<Option<Transcript>, AllocError>
+        ensures { IfOk result (λ t. t ≡ transcript_of self.now.core.world test.now) }
+    {
+        match self.core.transcript(test) {
+            Some(transcript) => Ok(Some(transcript.copy(alloc)?)),
+            None => Ok(None),
         }
     }
 

@@ -77,8 +77,7 @@ impl<'a, B: Room, M: RunTests, R: Wait> Crew<'a, B, M, R> {
         readings: &mut Readings,
         test: &TestId,
     ) -> Result<(), WorkFault> {
-        let own = test.copy(self.alloc)?;
-        match client.rejudge(own, readings) {
+        match client.rejudge(test, readings) {
             Ok(record) => {
                 self.maker.end(&record);
                 client.commit(record)

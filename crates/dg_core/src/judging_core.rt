@@ -1,5 +1,6 @@
 //! A world with the records that are kept of it.
 ghost use Rattle.std.specs.Prelude.{◌≡◌, ◌⊎◌, ◌++◌, [], List, Ok, Err, Some, true, IfOk, IfErr, OnOk, OnErr, IsTrue};
+ghost use Rattle.std.specs.Option.{option_copied};
 ghost use Rattle.dg_world.specs.declared.question.Read.{Read};
 ghost use Rattle.dg_index.specs.Kept.{is_held, place_of};
 ghost use Rattle.dg_index.specs.Marks.{counted};
@@ -12,7 +13,7 @@ ghost use Rattle.dg_core.specs.Asking.{HasVerdict};
 ghost use Rattle.dg_core.specs.Fault.{Blames, Tells};
 ghost use Rattle.dg_core.specs.Grown.{IsGrown};
 ghost use Rattle.dg_records.specs.Truth.{answers_of};
-ghost use Rattle.dg_world.specs.World.{look, selected, takes_memory};
+ghost use Rattle.dg_world.specs.World.{look, selected, takes_memory, transcript_of};
 
 use crate::evaluate::evaluate;
 use crate::lineup::{Lineup, opened_to};
@@ -127,6 +128,13 @@ impl Core {
         ensures { IfOk result (λ a. a ≡ look self.now.world question.now) }
     {
         self.kept.world().answer(alloc, question)
+    }
+
+    /// The transcript of a test, if it has one.
+    pub fn transcript(&self, test: &TestId) -> Option<&Transcript>
+        ensures { option_copied result ≡ transcript_of self.now.world test.now }
+    {
+        self.kept.world().transcript(test)
     }
 
     /// Keeps a record in the place of the one that its test had, or gives it back and changes nothing where there is no
