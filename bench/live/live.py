@@ -2,8 +2,10 @@
 
     python3 live.py RUNTEST LOOP [RUNS]
 
-LOOP is loop.c, built. Shown are the least and the median of RUNS (15) whole runs, in milliseconds."""
+LOOP is loop.c, built. Shown are the least and the median of RUNS (15) whole runs, in milliseconds. A live run writes the transcripts
+into a folder that isn't there yet, or over those of an earlier run."""
 import os
+import shutil
 import statistics
 import subprocess
 import sys
@@ -35,26 +37,38 @@ def timed(words):
     return 1000 * (time.perf_counter() - begun)
 
 
+def checked(room):
+    """Every script of the run that wrote to this folder passed."""
+    with open(f"{room}/t.sum") as report:
+        if report.read().count(f"PASS: {ROUNDS} lines\n") != SCRIPTS:
+            sys.exit("not every script passed")
+
+
 def main(program, loop, runs=15):
     with tempfile.TemporaryDirectory() as room:
         os.makedirs(f"{room}/suite/t")
         for number in range(SCRIPTS):
             with open(f"{room}/suite/t/s{number:03}.exp", "w") as script:
                 script.write(SCRIPT)
-        run = [program, "--tool", "t", "--srcdir", f"{room}/suite", "--outdir", room]
+        run = [program, "--tool", "t", "--srcdir", f"{room}/suite", "--outdir"]
+        new, old = f"{room}/new", f"{room}/old"
         rows = {
             "the C program": [loop, str(SCRIPTS), str(ROUNDS)],
-            "live": run,
-            "live, 4 jobs": run + ["--jobs", "4"],
-            "rejudged": run + ["--rejudge"],
+            "live": run + [new],
+            "live, 4 jobs": run + [new, "--jobs", "4"],
+            "live, over transcripts": run + [old],
+            "live, 4 jobs, over transcripts": run + [old, "--jobs", "4"],
+            "rejudged": run + [old, "--rejudge"],
         }
+        timed(run + [old])
         taken = {name: [] for name in rows}
         for _ in range(int(runs)):
             for name, words in rows.items():
+                shutil.rmtree(new, ignore_errors=True)
                 taken[name].append(timed(words))
-        with open(f"{room}/t.sum") as report:
-            if report.read().count(f"PASS: {ROUNDS} lines\n") != SCRIPTS:
-                sys.exit("not every script passed")
+                if new in words:
+                    checked(new)
+        checked(old)
         print(f"{SCRIPTS} scripts of {ROUNDS} rounds with cat         least   median")
         for name, times in taken.items():
             print(f"{name:40} {min(times):8.1f} {statistics.median(times):8.1f}")
