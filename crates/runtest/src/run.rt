@@ -1,16 +1,21 @@
 //! A run over a suite's folders.
-ghost use Rattle.std.specs.Prelude.{◌≡◌, map};
+ghost use Rattle.std.specs.Prelude.{◌≡◌, map, IfOk, OnOk};
 ghost use Rattle.once_cell.specs.Once.{cell_name};
+ghost use Rattle.dg_core.specs.declared.reply.Reply.TheVariants.{Sum};
+ghost use Rattle.dg_bench.specs.Work.{IsReported};
+ghost use Rattle.runtest.specs.Runs.{HasSelected, KeepsSelected, IsRun};
 
 use crate::live::Runner;
 use crate::progress::{Counts, Progress};
 use crate::suite::{Suite, pattern_lost, text_of};
 use crate::transcripts::{path_of, write_transcripts};
-use dg_bench::{Bench, Call, Opened, Pass, Room, Work, WorkFault, run_workers};
+use dg_bench::{
+    Bench, Call, Opened, Pass, Room, Work, WorkFault, run_workers, sums_are_from_scratch,
+};
 use dg_bytes::{Bytes, Seq};
 use dg_core::Reply;
 use dg_folders::{
-    Intake, RunFault, read_suite, read_transcript, sum_path, write_in_place, write_with_folders,
+    RunFault, read_suite, read_transcript, sum_path, write_in_place, write_with_folders,
 };
 use dg_line::{Mode, Plan};
 use dg_pipes::Fresh;
@@ -64,7 +69,9 @@ fn take_transcript<B: Room, R: Files + AllocGlobal + Wait>(
     outdir: &str,
     test: &TestId,
     suite: &mut Suite<'_, B, R>,
-) -> Result<bool, RunFault> {
+) -> Result<bool, RunFault>
+    ensures { OnOk result (KeepsSelected suite.old.pass suite.new.pass) }
+{
     let alloc = rt.alloc();
     let path = path_of(alloc, outdir, test)?;
     let Some(text) = read_transcript(rt, path.as_str())? else {
@@ -75,7 +82,7 @@ fn take_transcript<B: Room, R: Files + AllocGlobal + Wait>(
         Bytes::from_slice(alloc, test.script().as_slice())?,
         text,
     );
-    match suite.take(edit) {
+    match suite.put(edit) {
         Ok(()) => Ok(true),
         Err(Refusal::BadTranscript(line, cause)) => {
             Err(RunFault::BadTranscript(path, line, cause_number(cause)))
@@ -91,7 +98,9 @@ fn take_transcripts<B: Room, R: Files + AllocGlobal + Wait>(
     outdir: &str,
     tests: &[TestId],
     suite: &mut Suite<'_, B, R>,
-) -> Result<usize, RunFault> {
+) -> Result<usize, RunFault>
+    ensures { OnOk result (KeepsSelected suite.old.pass suite.new.pass) }
+{
     let mut read = 0usize;
     for test in tests {
         if take_transcript(rt, outdir, test, suite)? {
@@ -101,22 +110,39 @@ fn take_transcripts<B: Room, R: Files + AllocGlobal + Wait>(
     Ok(read)
 }
 
-/// Selects, and reads the files of the suite.
+/// Reads the files of the suite, and then selects.
+#[tactic(auto, using(crate::proofs::Reporting::selected))]
 fn take_suite<B: Room, R: Files + AllocGlobal + Wait + Clone + Drop>(
     rt: &R,
     course: &Course,
     selection: Selection,
     suite: &mut Suite<'_, B, R>,
-) -> Result<(), RunFault> {
-    match suite.take(Edit::Select(selection)) {
-        Ok(()) => {}
-        Err(Refusal::Memory) => return Err(RunFault::Memory),
-        Err(_) => return Err(RunFault::HistoryFull),
-    }
+) -> Result<(), RunFault>
+    ensures { OnOk result (HasSelected selection suite.new.pass) }
+{
     let tool = course.tool.as_bytes();
-    match read_suite(rt, course.srcdir.as_str(), tool, suite) {
+    if let Err(fault) = read_suite(rt, course.srcdir.as_str(), tool, suite) {
+        return Err(suite.fault(fault));
+    }
+    match suite.put(Edit::Select(selection)) {
         Ok(()) => Ok(()),
-        Err(fault) => Err(suite.fault(fault)),
+        Err(Refusal::Memory) => Err(RunFault::Memory),
+        Err(_) => Err(RunFault::HistoryFull),
+    }
+}
+
+/// Reads the transcripts of tests where these are judged by them. Gives how many there are.
+fn take_recorded<B: Room, R: Files + AllocGlobal + Wait>(
+    rt: &R,
+    course: &Course,
+    tests: &[TestId],
+    suite: &mut Suite<'_, B, R>,
+) -> Result<usize, RunFault>
+    ensures { OnOk result (KeepsSelected suite.old.pass suite.new.pass) }
+{
+    match course.mode {
+        Mode::Rejudge => take_transcripts(rt, course.outdir.as_str(), tests, suite),
+        Mode::Run | Mode::Session => Ok(0),
     }
 }
 
@@ -126,16 +152,13 @@ fn gather<B: Room, R: Files + AllocGlobal + Wait + Clone + Drop>(
     bench: &Bench<B>,
     course: &Course,
     selection: Selection,
-) -> Result<(Pass<B>, Seq<TestId>, usize), RunFault> {
+) -> Result<(Pass<B>, Seq<TestId>, usize), RunFault>
+    ensures { IfOk result (λ r. HasSelected selection r.0) }
+{
     let mut suite = Suite::new(rt, rt.alloc(), bench);
     take_suite(rt, course, selection, &mut suite)?;
     let tests = suite.tests()?;
-    let read = match course.mode {
-        Mode::Rejudge => {
-            take_transcripts(rt, course.outdir.as_str(), tests.as_slice(), &mut suite)?
-        }
-        Mode::Run | Mode::Session => 0,
-    };
+    let read = take_recorded(rt, course, tests.as_slice(), &mut suite)?;
     Ok((suite.into_pass(), tests, read))
 }
 
@@ -169,6 +192,7 @@ where
         + Send
         + Sync
         + 'static,
+    ensures { IfOk result (λ r. IsReported pass r.0 (Sum r.1 r.2)) }
 {
     let alloc = rt.alloc();
     let runner = Runner {
@@ -223,6 +247,7 @@ where
         + Sync
         + 'static,
     requires { map cell_name opened.cells.items ≡ B.names }
+    ensures { IfOk result (λ o. IsRun plan.selection o.report o.status) }
 {
     let alloc = rt.alloc();
     let course = Course::of_plan(alloc, &plan)?;
@@ -230,6 +255,7 @@ where
     let (pass, tests, read) = gather(rt, &bench, &course, plan.into_selection())?;
     progress.expect(tests.len());
     let (mut pass, report, status) = judge(rt, &bench, &course, pass, progress)?;
+    sums_are_from_scratch();
     let Ok(history) = bench.into_history(&mut pass) else {
         return Err(RunFault::HistoryFull);
     };
@@ -248,7 +274,8 @@ where
 }
 
 /// Reads the suite of a plan, judges what is selected, live or by the transcripts that an earlier run wrote, and writes the
-/// transcripts of what was run, and the report to `OUTDIR/TOOL.sum`. A run makes OUTDIR where it isn't there.
+/// transcripts of what was run, and the report to `OUTDIR/TOOL.sum`. A run makes OUTDIR where it isn't there. The report and its
+/// status are those of judging every selected test from scratch, on the world that the calls of the run's bench make.
 pub(crate) fn run_plan<R>(rt: &R, plan: Plan, progress: &Progress<R>) -> Result<Outcome, RunFault>
 where
     R: Files
@@ -263,6 +290,7 @@ where
         + Send
         + Sync
         + 'static,
+    ensures { IfOk result (λ o. IsRun plan.selection o.report o.status) }
 {
     let opened = Opened::new(rt.alloc(), CALLS)?;
     run_over::<Brand, R>(rt, opened, plan, progress)

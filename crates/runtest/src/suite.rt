@@ -1,4 +1,8 @@
 //! A bench that a suite's files are put into.
+ghost use Rattle.std.specs.Prelude.{◌≡◌, OnOk};
+ghost use Rattle.dg_bench.specs.Refusals.{SeesMore};
+ghost use Rattle.runtest.specs.Runs.{Adds};
+
 use dg_bench::{Bench, BenchRefusal, Pass, Room, Work};
 use dg_bytes::Seq;
 use dg_folders::{Intake, RunFault};
@@ -30,17 +34,7 @@ impl<B: Room, R: Wait> Drop for Suite<'_, B, R> {
 
 impl<B: Room, R: Wait> Intake for Suite<'_, B, R> {
     fn take(&mut self, edit: Edit) -> Result<(), Refusal> {
-        let pass = mem::replace(&mut self.pass, self.bench.pass());
-        match self.bench.edit(self.rt, self.alloc, pass, edit) {
-            Ok((pass, _receipt)) => {
-                self.pass = pass;
-                Ok(())
-            }
-            Err((pass, refusal)) => {
-                self.pass = pass;
-                Err(self.refusal_of(refusal))
-            }
-        }
+        self.put(edit)
     }
 }
 
@@ -53,6 +47,23 @@ impl<'a, B: Room, R: Wait> Suite<'a, B, R> {
             bench,
             pass: bench.pass(),
             is_full: false,
+        }
+    }
+
+    /// Makes an edit, or changes nothing.
+    pub(crate) fn put(&mut self, edit: Edit) -> Result<(), Refusal>
+        ensures { OnOk result (Adds edit self.old.pass self.new.pass) }
+    {
+        let pass = mem::replace(&mut self.pass, self.bench.pass());
+        match self.bench.edit(self.rt, self.alloc, pass, edit) {
+            Ok((pass, _receipt)) => {
+                self.pass = pass;
+                Ok(())
+            }
+            Err((pass, refusal)) => {
+                self.pass = pass;
+                Err(self.refusal_of(refusal))
+            }
         }
     }
 
@@ -78,7 +89,9 @@ impl<'a, B: Room, R: Wait> Suite<'a, B, R> {
     }
 
     /// The selected tests, in order.
-    pub(crate) fn tests(&mut self) -> Result<Seq<TestId>, RunFault> {
+    pub(crate) fn tests(&mut self) -> Result<Seq<TestId>, RunFault>
+        ensures { OnOk result (SeesMore self.old.pass self.new.pass) }
+    {
         let pass = mem::replace(&mut self.pass, self.bench.pass());
         match self.bench.tests(self.rt, self.alloc, pass, Work::Live) {
             Ok((pass, tests)) => {
@@ -96,7 +109,9 @@ impl<'a, B: Room, R: Wait> Suite<'a, B, R> {
     }
 
     /// A pass that has seen all edits.
-    pub(crate) fn into_pass(self) -> Pass<B> {
+    pub(crate) fn into_pass(self) -> Pass<B>
+        ensures { result ≡ self.entry.pass }
+    {
         let Suite {
             rt: _,
             alloc: _,
