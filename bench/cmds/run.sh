@@ -6,12 +6,12 @@ top=$(cd "$(dirname "$0")/../.." && pwd)
 work=$(mktemp -d)
 trap 'rm -rf "$work"' EXIT
 mkdir -p "$work/crates/cmds_times/src" "$work/crates/cmds_times/specs" "$work/crates/cmds_times/proofs"
-cp -a "$top/crates/dg_bytes" "$top/crates/dg_words" "$top/crates/dg_expr" "$top/crates/dg_glob" "$top/crates/dg_cmds" "$work/crates"
+cp -a "$top/crates/dg_bytes" "$top/crates/dg_lists" "$top/crates/dg_words" "$top/crates/dg_expr" "$top/crates/dg_glob" "$top/crates/dg_cmds" "$work/crates"
 cp "$top/bench/cmds/main.rt.in" "$work/crates/cmds_times/src/main.rt"
 : > "$work/crates/cmds_times/specs/Lib.antt"
 : > "$work/crates/cmds_times/proofs/Lib.antt"
-grep -E '^dg_(bytes|words|expr|glob|cmds):' "$top/crates.txt" > "$work/crates.txt"
-echo 'cmds_times: dg_cmds dg_words' >> "$work/crates.txt"
+grep -E '^dg_(bytes|lists|words|expr|glob|cmds):' "$top/crates.txt" > "$work/crates.txt"
+echo 'cmds_times: dg_bytes dg_cmds' >> "$work/crates.txt"
 echo 'name, microseconds a call, bytes of the value:'
 cd "$work/crates/cmds_times"
 "${RT:-rt}" run 2>/dev/null | grep -E '^[a-z_]+ [0-9]+ [0-9]+$'

@@ -6,12 +6,12 @@ top=$(cd "$(dirname "$0")/../.." && pwd)
 work=$(mktemp -d)
 trap 'rm -rf "$work"' EXIT
 mkdir -p "$work/crates/words_times/src" "$work/crates/words_times/specs" "$work/crates/words_times/proofs"
-cp -r "$top/crates/dg_bytes" "$top/crates/dg_words" "$work/crates"
+cp -r "$top/crates/dg_bytes" "$top/crates/dg_lists" "$top/crates/dg_words" "$work/crates"
 cp "$top/bench/words/main.rt.in" "$work/crates/words_times/src/main.rt"
 : > "$work/crates/words_times/specs/Lib.antt"
 : > "$work/crates/words_times/proofs/Lib.antt"
-grep -E '^dg_(bytes|words):' "$top/crates.txt" > "$work/crates.txt"
-echo 'words_times: dg_words' >> "$work/crates.txt"
+grep -E '^dg_(bytes|lists|words):' "$top/crates.txt" > "$work/crates.txt"
+echo 'words_times: dg_lists dg_words' >> "$work/crates.txt"
 echo 'text, as what, microseconds a call, whether it is read:'
 cd "$work/crates/words_times"
 "${RT:-rt}" run 2>/dev/null | grep -E '^[a-z_]+ [a-z]+ [0-9]+ (true|false)$'

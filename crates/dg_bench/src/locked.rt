@@ -310,6 +310,7 @@ impl<B: Room> Locked<B> {
         ensures refused { IfErr result (λ r. RefusesBegun never self.old self.new r.1) }
         ensures back { IfErr result (λ r. r.0 ≡ newest) }
     {
+        // The call shows the proof which lines these are.
         let _lines = newest.verdict();
         let Ok(call) = Call::of_commit(alloc, &newest) else {
             return Err((newest, BenchRefusal::Memory));
@@ -374,6 +375,7 @@ impl<B: Room> Locked<B> {
         ensures refused { IfErr result (λ r. RefusesBegun (λ core why. committed_live core newest transcript ≡ Err why) self.old self.new r.2) }
         ensures back { IfErr result (λ r. (r.0 ≡ newest) × (r.1 ≡ transcript)) }
     {
+        // The call shows the proof which lines these are.
         let _lines = newest.verdict();
         let Ok(call) = Call::of_live(alloc, &newest, &transcript) else {
             return Err((newest, transcript, BenchRefusal::Memory));

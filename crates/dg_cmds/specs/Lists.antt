@@ -3,10 +3,10 @@ use Rattle.std.specs.Prelude.{ℕ, ◌+◌, Bool, true, false, List, [], ◌∷�
 use Rattle.std.specs.List.{ends_with, join_by, slice_split}
 use Rattle.std.specs.Fmt.{decimal}
 use Rattle.std.specs.Cmp.Lexicographic.{pointwise}
-use Rattle.dg_words.specs.declared.fault.WordFault.{WordFault}
-use Rattle.dg_words.specs.Elements.{elements_of}
-use Rattle.dg_words.specs.Faults.{fault_text}
-use Rattle.dg_words.specs.Canonical.{text_of_list}
+use Rattle.dg_lists.specs.declared.fault.WordFault.{WordFault}
+use Rattle.dg_lists.specs.Elements.{elements_of}
+use Rattle.dg_lists.specs.Faults.{fault_text}
+use Rattle.dg_lists.specs.Canonical.{text_of_list}
 use Rattle.dg_cmds.specs.declared.fault.CmdFault.{CmdFault}
 use Rattle.dg_cmds.specs.declared.fault.CmdFault.TheVariants.{Tcl}
 use Rattle.dg_cmds.specs.declared.lists.Search.{Search}

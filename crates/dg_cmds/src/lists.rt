@@ -1,7 +1,7 @@
 //! The commands on lists, by Tcl(n).
 ghost use Rattle.std.specs.Prelude.{◌≡◌, IfOk, [], ◌∷◌, ◌++◌, filter, map, position};
 ghost use Rattle.std.specs.List.{flat_map, slice_split};
-ghost use Rattle.dg_words.specs.Canonical.{text_of_list};
+ghost use Rattle.dg_lists.specs.Canonical.{text_of_list};
 ghost use Rattle.dg_cmds.specs.Answers.{Adds, Gives, GivesIfNamed, given_by, limited};
 ghost use Rattle.dg_cmds.specs.Bytes.{member};
 ghost use Rattle.dg_cmds.specs.Lists.{concat_of, count_of, element_at, is_some_text, join_of, joined, lindex_of, list_commands, list_of, llength_of, lrange_of, lsearch_of, parts_of, passes, read_list, search_named, search_of, split_of, without_blanks};
@@ -11,8 +11,8 @@ use crate::bytes::{BLANKS, set_of, trimmed_left, trimmed_right};
 use crate::fault::CmdFault;
 use crate::index::{part, read_index};
 use crate::places::glob_matches;
-use dg_bytes::{Bytes, Seq};
-use dg_words::{Text, WordFault, fault_text, kept_elements, list_elements, list_fits, list_text};
+use dg_bytes::{Bytes, Seq, Text};
+use dg_lists::{WordFault, fault_text, kept_elements, list_elements, list_fits, list_text};
 use std::alloc::{AllocError, Global};
 
 /// The elements of a list.

@@ -3,7 +3,7 @@ use Rattle.std.proofs.Common.{◌≡◌, ◌≢◌, ◌≤◌, ◌==◌, ℕ, tr
 use Rattle.std.proofs.lemmas.Bool.{eqb-true}
 use Rattle.std.proofs.lemmas.List.{nil_from_length}
 use Rattle.dg_words.specs.declared.word.Word.{Word}
-use Rattle.dg_words.specs.declared.fault.WordFault.{WordFault}
+use Rattle.dg_lists.specs.declared.fault.WordFault.{WordFault}
 use Rattle.dg_words.specs.Reading.{command_at}
 use Rattle.dg_language.specs.declared.command.Command.TheVariants.{Words, Unreadable}
 use Rattle.dg_language.specs.Language.{commands_at, and_commands}

@@ -1,9 +1,9 @@
 -- Words that are made of a list in one argument.
 use Rattle.std.specs.Prelude.{ℕ, List, [], Result, Ok, Err}
-use Rattle.dg_words.specs.declared.fault.WordFault.{WordFault}
+use Rattle.dg_lists.specs.declared.fault.WordFault.{WordFault}
 use Rattle.dg_words.specs.declared.word.Word.{Word}
 use Rattle.dg_words.specs.Reading.{words_of}
-use Rattle.dg_words.specs.Faults.{fault_text}
+use Rattle.dg_lists.specs.Faults.{fault_text}
 use Rattle.dg_language.specs.declared.substitution.Purpose.{Purpose}
 use Rattle.dg_language.specs.Play.{Play}
 use Rattle.dg_language.specs.State.{State}

@@ -26,6 +26,7 @@ impl Calculation {
         ensures counted { IfSome result (λ c. length c.left < 2 ^ 64) }
     {
         let left = Instructions::of(formula)?;
+        // The call shows the proof that the length is a `usize`.
         let _count = left.len();
         Some(Calculation {
             values: Stack::new(alloc),

@@ -28,6 +28,7 @@ impl Making {
         ensures begun { result ≡ record { purpose = purpose; made = []; outer = []; text = []; left = left } }
         ensures counted { length left < 2 ^ 64 }
     {
+        // The call shows the proof that the length is a `usize`.
         let _count = left.len();
         Making {
             purpose,

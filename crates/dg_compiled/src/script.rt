@@ -16,10 +16,11 @@ use crate::steps::kept_steps;
 use crate::texts::begun_with;
 use crate::ways::{Way, way_of};
 use dg_bytes::{Bytes, Seq, TryCopy};
-use dg_forms::steps_of;
+use dg_forms::substitutions_of;
 use dg_language::{Command, Purpose, Queue, State, Substitution};
+use dg_lists::WordFault;
 use dg_shelf::{Reading, Shelf};
-use dg_words::{Parsed, Word, WordFault, parse_command};
+use dg_words::{Parsed, Word, parse_command};
 use std::alloc::{AllocError, Global};
 use std::marker::Model;
 use std::sync::Arc;
@@ -132,7 +133,7 @@ fn steps_in(alloc: Global, command: &Command) -> Result<Seq<Substitution>, Alloc
     ensures { IfOk result (λ steps. steps ≡ steps_in command.now) }
 {
     match command {
-        Command::Words(words) => kept_steps(alloc, steps_of(alloc, words.as_slice())?),
+        Command::Words(words) => kept_steps(alloc, substitutions_of(alloc, words.as_slice())?),
         Command::Unreadable(_) => Ok(Seq::new(alloc)),
     }
 }
@@ -344,7 +345,10 @@ impl Script {
             Source::Text(text) => match read_command(alloc, text.as_slice(), self.at)? {
                 Next::Words(words, next) => {
                     self.at = next;
-                    Ok(Some(Begun::Words(WordSteps::Read(steps_of(alloc, words.as_slice())?))))
+                    Ok(Some(Begun::Words(WordSteps::Read(substitutions_of(
+                        alloc,
+                        words.as_slice(),
+                    )?))))
                 }
                 Next::Unreadable(fault) => Ok(Some(Begun::Unreadable(fault))),
                 Next::Nothing => Ok(None),

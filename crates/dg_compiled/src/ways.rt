@@ -16,7 +16,7 @@ use crate::script::{Next, read_command};
 use crate::steps::kept_steps;
 use crate::texts::ends_word;
 use dg_bytes::{Bytes, Seq};
-use dg_forms::steps_of;
+use dg_forms::substitutions_of;
 use dg_language::Substitution;
 use dg_scope::LONGEST_VALUE;
 use dg_shelf::Reading;
@@ -122,7 +122,7 @@ fn only_formula(alloc: Global, script: &Bytes) -> Result<Option<Arc<Formula>>, A
     let Some(words) = only_words(alloc, script.as_slice())? else {
         return Ok(None);
     };
-    let steps = kept_steps(alloc, steps_of(alloc, words.as_slice())?)?;
+    let steps = kept_steps(alloc, substitutions_of(alloc, words.as_slice())?)?;
     let Some(text) = expr_text(steps.as_slice()) else {
         return Ok(None);
     };

@@ -1,6 +1,6 @@
 //! Words that stand as a list in one argument, as those of `expect` may: they are read once.
 ghost use Rattle.std.specs.Prelude.{◌≡◌, ℕ, IfOk, MatchResult};
-ghost use Rattle.dg_words.specs.Faults.{fault_text};
+ghost use Rattle.dg_lists.specs.Faults.{fault_text};
 ghost use Rattle.dg_language.specs.Evaluation.{Then, fail};
 ghost use Rattle.dg_compiled.specs.Making.{making_on};
 ghost use Rattle.dg_compiled.specs.WordLists.{word_list_in, words_on};
@@ -9,10 +9,11 @@ use crate::making::Making;
 use crate::steps::kept_steps;
 use crate::texts::begun_with;
 use dg_bytes::Seq;
-use dg_forms::steps_of;
+use dg_forms::substitutions_of;
 use dg_language::{Purpose, State, Substitution};
+use dg_lists::WordFault;
 use dg_shelf::Reading;
-use dg_words::{WordFault, parse_words};
+use dg_words::parse_words;
 use std::alloc::{AllocError, Global};
 
 /// The words of a list: the steps in which they are made, or why the list can't be read.
@@ -28,7 +29,7 @@ impl Reading for WordList {
     fn read(alloc: Global, text: &[u8]) -> Result<WordList, AllocError> {
         match parse_words(alloc, text) {
             Ok(words) => {
-                let steps = kept_steps(alloc, steps_of(alloc, words.as_slice())?)?;
+                let steps = kept_steps(alloc, substitutions_of(alloc, words.as_slice())?)?;
                 Ok(WordList::Words(steps))
             }
             Err(WordFault::Memory) => Err(AllocError),

@@ -388,6 +388,7 @@ impl Core {
         ensures judges { OnOk result (JudgesAll (kept_of self.old) (pending self.old) (kept_of self.new)) }
         ensures stopped { OnErr result (JudgesSome self.old self.new) }
     {
+        // The call shows the proof how many evaluations had begun.
         let _begun = self.evaluations();
         let lineup = self.line_up(alloc)?;
         let sum = self.settle_by(alloc, &lineup)?;
@@ -406,6 +407,7 @@ impl Core {
         ensures judges { OnOk result (JudgesAll (kept_of self.old) (pending self.old) (kept_of self.new)) }
         ensures stopped { OnErr result (JudgesSome self.old self.new) }
     {
+        // The call shows the proof how many evaluations had begun.
         let _begun = self.evaluations();
         let pending = self.pending(alloc, lineup)?;
         let mut readings = Readings::new();

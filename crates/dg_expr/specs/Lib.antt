@@ -4,8 +4,6 @@ pub mod Truth
 pub mod Operator
 pub mod Answers
 pub mod Tree
-pub mod Shape
-pub mod TreeFall
 pub mod TreeCode
 pub mod Token
 pub mod Grammar
@@ -14,3 +12,6 @@ pub mod Steps
 pub mod Code
 pub mod ShortCircuit
 pub mod Arithmetic
+-- For the proofs.
+pub mod Shape
+pub mod TreeFall

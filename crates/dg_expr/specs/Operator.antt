@@ -5,8 +5,8 @@ use Rattle.std.specs.List.{list_any}
 use Rattle.std.specs.declared.cmp.Ordering.{Ordering}
 use Rattle.std.specs.Ordering.{int_cmp, nat_cmp, is_eq, is_lt, is_gt}
 use Rattle.std.specs.Cmp.Lexicographic.{pointwise, slice_cmp}
-use Rattle.dg_words.specs.declared.fault.WordFault.{WordFault}
-use Rattle.dg_words.specs.Elements.{elements_of}
+use Rattle.dg_lists.specs.declared.fault.WordFault.{WordFault}
+use Rattle.dg_lists.specs.Elements.{elements_of}
 use Rattle.dg_expr.specs.declared.fault.Side.TheVariants.{Left, Right}
 use Rattle.dg_expr.specs.declared.fault.ExprFault.{ExprFault}
 use Rattle.dg_expr.specs.declared.fault.ExprFault.TheVariants.{NotWhole, DivideByZero, TooLarge, NotTruth, NegativeShift, BadList}

@@ -3,7 +3,7 @@ use Rattle.std.specs.Prelude.{ℕ, zero, suc, ◌-◌, List, [], ◌∷◌, Bool
 use Rattle.std.specs.List.{prefix_len, take_while}
 use Rattle.dg_words.specs.Piece.{Piece, Text}
 use Rattle.dg_words.specs.Reading.{operand_at}
-use Rattle.dg_words.specs.declared.fault.WordFault.{WordFault}
+use Rattle.dg_lists.specs.declared.fault.WordFault.{WordFault}
 use Rattle.dg_words.specs.declared.word.Word.{Word}
 use Rattle.dg_expr.specs.declared.operator.Infix.{Infix}
 use Rattle.dg_expr.specs.declared.operator.Infix.TheVariants as between

@@ -2,7 +2,7 @@
 ghost use Rattle.std.specs.Prelude.{◌≡◌};
 ghost use Rattle.dg_expr.specs.declared.fault.ExprFault.TheVariants.{Memory};
 
-use dg_words::WordFault;
+use dg_lists::WordFault;
 use std::alloc::{AllocError, AllocFailed};
 use thiserror::Error;
 

@@ -73,6 +73,7 @@ impl Frame {
     fn join(self, alloc: Global, tree: Tree) -> Result<Tree, ExprFault>
         ensures { Makes (joined self tree) result }
     {
+        // The call shows the proof that the tree has so many levels.
         let _levels = tree.levels();
         match self {
             Frame::Prefix(op) => Tree::one(alloc, op, tree),

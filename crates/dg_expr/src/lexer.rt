@@ -14,7 +14,8 @@ use crate::token::{
     Kind, Lexeme, Token, double_sign, is_letter, is_run_byte, kind_of, single_sign,
 };
 use dg_bytes::{Bytes, Seq};
-use dg_words::{Part, Parts, Word, WordFault, parse_operand};
+use dg_lists::WordFault;
+use dg_words::{Part, Parts, Word, parse_operand};
 use std::alloc::{AllocError, Global};
 
 /// How many bytes of a run a text begins with.

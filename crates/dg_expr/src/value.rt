@@ -2,7 +2,7 @@
 ghost use Rattle.std.specs.Prelude.{◌≡◌, ◌≢◌, ◌*ℤ◌, ◌+ℤ◌, ◌-ℤ◌, pos, neg_ℤ, ◌⊎◌, Bool, not, Some, None, Ok, Err, IfOk, MatchResult};
 ghost use Rattle.std.specs.Int.{w64, int_bit_and, int_bit_not, int_bit_or, int_bit_xor};
 ghost use Rattle.std.specs.List.{list_any};
-ghost use Rattle.dg_words.specs.Elements.{elements_of};
+ghost use Rattle.dg_lists.specs.Elements.{elements_of};
 ghost use Rattle.dg_expr.specs.Answers.{Computes, Gives, IsNotWhole};
 ghost use Rattle.dg_expr.specs.Number.{decimal_text, number_of};
 ghost use Rattle.dg_expr.specs.Operator.{and_then, denied, divided, found_in, is_same, number_value, of_whole, of_wholes, or_else, order_of, quotient, remainder, shifted_left, shifted_right, truly, truth_value, value_of, value_of_one};
@@ -13,7 +13,7 @@ use crate::fault::{ExprFault, Side};
 use crate::operator::{Infix, Prefix};
 use crate::whole::number;
 use dg_bytes::Bytes;
-use dg_words::{WordFault, split_list};
+use dg_lists::{WordFault, split_list};
 use itoa::Buffer;
 use std::alloc::{AllocError, Global};
 use std::cmp::Ordering;

@@ -4,7 +4,7 @@ use Rattle.std.proofs.lemmas.List.{drop_more, drop_all, append-nil}
 use Rattle.std.proofs.lemmas.Bool.Decides.{nat_tests}
 use Rattle.std.specs.Prelude.{Option, Some, None, Result, Ok, Err, nat_lt, codes}
 use Rattle.std.specs.List.{list_any}
-use Rattle.dg_words.specs.Canonical.{text_of_list}
+use Rattle.dg_lists.specs.Canonical.{text_of_list}
 use Rattle.dg_language.specs.declared.procedure.Binding.{Binding}
 use Rattle.dg_language.specs.declared.procedure.Parameter.{Parameter}
 use Rattle.dg_language.specs.Play.{Play}

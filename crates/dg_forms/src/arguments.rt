@@ -1,7 +1,7 @@
 //! The arguments of a command, taken apart.
 ghost use Rattle.std.specs.Prelude.{◌≡◌, ◌∷◌, [], IfOk, MatchOption, None};
 ghost use Rattle.std.specs.Option.{option_copied};
-ghost use Rattle.dg_language.specs.Evaluation.{one_of, two_of, three_of, four_of};
+ghost use Rattle.dg_language.specs.Arguments.{only, two, three, four};
 ghost use Rattle.dg_language.specs.Switching.{is};
 
 use dg_bytes::{Bytes, TryCopy};
@@ -41,7 +41,7 @@ pub(crate) fn copied_text(alloc: Global, text: Option<&Bytes>) -> Result<Option<
 
 /// The only word, if there is just one.
 pub fn only(words: &[Bytes]) -> Option<&Bytes>
-    ensures { option_copied result ≡ one_of words.now }
+    ensures { option_copied result ≡ only words.now }
 {
     match words {
         [word] => Some(word),
@@ -51,7 +51,7 @@ pub fn only(words: &[Bytes]) -> Option<&Bytes>
 
 /// The two words, if there are just two.
 pub fn two(words: &[Bytes]) -> Option<(&Bytes, &Bytes)>
-    ensures { MatchOption result (two_of words.now ≡ None) (λ p. words.now ≡ p.0.now ∷ p.1.now ∷ []) }
+    ensures { MatchOption result (two words.now ≡ None) (λ p. words.now ≡ p.0.now ∷ p.1.now ∷ []) }
 {
     match words {
         [one, two] => Some((one, two)),
@@ -61,7 +61,7 @@ pub fn two(words: &[Bytes]) -> Option<(&Bytes, &Bytes)>
 
 /// The three words, if there are just three.
 pub fn three(words: &[Bytes]) -> Option<(&Bytes, &Bytes, &Bytes)>
-    ensures { MatchOption result (three_of words.now ≡ None) (λ p. words.now ≡ p.0.now ∷ p.1.now ∷ p.2.now ∷ []) }
+    ensures { MatchOption result (three words.now ≡ None) (λ p. words.now ≡ p.0.now ∷ p.1.now ∷ p.2.now ∷ []) }
 {
     match words {
         [one, two, three] => Some((one, two, three)),
@@ -71,7 +71,7 @@ pub fn three(words: &[Bytes]) -> Option<(&Bytes, &Bytes, &Bytes)>
 
 /// The four words, if there are just four.
 pub fn four(words: &[Bytes]) -> Option<(&Bytes, &Bytes, &Bytes, &Bytes)>
-    ensures { MatchOption result (four_of words.now ≡ None) (λ p. words.now ≡ p.0.now ∷ p.1.now ∷ p.2.now ∷ p.3.now ∷ []) }
+    ensures { MatchOption result (four words.now ≡ None) (λ p. words.now ≡ p.0.now ∷ p.1.now ∷ p.2.now ∷ p.3.now ∷ []) }
 {
     match words {
         [one, two, three, four] => Some((one, two, three, four)),

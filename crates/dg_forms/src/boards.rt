@@ -8,12 +8,12 @@ ghost use Rattle.dg_language.specs.Judge.{board_file, tool_library, tool_of};
 
 use crate::arguments::{only, split, two};
 use crate::completing::{does, gives, miscounted};
+use crate::messages::{joined, with_quoted};
 use crate::switch::is;
-use crate::values::{joined, with_quoted};
 use dg_bytes::{Bytes, TryCopy};
 use dg_cmds::glob_matches;
 use dg_expr::truth_text;
-use dg_language::{Completion, Effect, FlagCommand, ResultCall, State};
+use dg_language::{Change, Completion, FlagCommand, ResultCall, State};
 use dg_world::Answer;
 use std::alloc::{AllocError, Global};
 
@@ -127,7 +127,7 @@ pub(crate) fn set_board_info(
     let Some((key, value)) = two(args) else {
         return miscounted(alloc, b"set_board_info");
     };
-    let setting = Effect::Sets(key.copy(alloc)?, value.copy(alloc)?);
+    let setting = Change::Sets(key.copy(alloc)?, value.copy(alloc)?);
     Ok(does(alloc, setting))
 }
 
@@ -142,7 +142,7 @@ pub(crate) fn unset_board_info(
     let Some(key) = only(args) else {
         return miscounted(alloc, b"unset_board_info");
     };
-    Ok(does(alloc, Effect::Unsets(key.copy(alloc)?)))
+    Ok(does(alloc, Change::Unsets(key.copy(alloc)?)))
 }
 
 /// `load_generic_config name`.
@@ -157,7 +157,7 @@ pub(crate) fn load_generic_config(
         return miscounted(alloc, b"load_generic_config");
     };
     let key = Bytes::from_slice(alloc, b"generic_name")?;
-    Ok(does(alloc, Effect::Sets(key, name.copy(alloc)?)))
+    Ok(does(alloc, Change::Sets(key, name.copy(alloc)?)))
 }
 
 /// `target_info key` and `target_info exists key`.

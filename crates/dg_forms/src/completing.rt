@@ -3,9 +3,9 @@ ghost use Rattle.std.specs.Prelude.{◌≡◌, IfOk, Err};
 ghost use Rattle.dg_language.specs.Completing.{completes, gives, does};
 ghost use Rattle.dg_language.specs.Evaluation.{wrong_count};
 
-use crate::values::wrong_count;
+use crate::messages::wrong_count;
 use dg_bytes::Bytes;
-use dg_language::{Code, Completion, Effect};
+use dg_language::{Change, Code, Completion};
 use std::alloc::{AllocError, Global};
 
 /// A command completes with this code and value, and nothing changes.
@@ -15,7 +15,7 @@ pub(crate) fn completes(code: Code, value: Bytes) -> Result<Completion, Bytes>
     Ok(Completion {
         code,
         value,
-        effect: Effect::Nothing,
+        change: Change::Nothing,
     })
 }
 
@@ -27,13 +27,13 @@ pub(crate) fn gives(value: Bytes) -> Result<Completion, Bytes>
 }
 
 /// A command changes this, and has the empty value.
-pub(crate) fn does(alloc: Global, effect: Effect) -> Result<Completion, Bytes>
-    ensures { result ≡ does effect }
+pub(crate) fn does(alloc: Global, change: Change) -> Result<Completion, Bytes>
+    ensures { result ≡ does change }
 {
     Ok(Completion {
         code: Code::Done,
         value: Bytes::new(alloc),
-        effect,
+        change,
     })
 }
 

@@ -2,7 +2,7 @@
 ghost use Rattle.std.specs.Prelude.{◌≡◌, MatchResult, Ok, Err};
 ghost use Rattle.dg_language.specs.Evaluation.{list_in};
 
-use crate::values::elements_in;
+use crate::lists::elements_in;
 use dg_bytes::{Bytes, Seq};
 use dg_shelf::Reading;
 use std::alloc::{AllocError, Global};

@@ -6,9 +6,9 @@ ghost use Rattle.dg_language.specs.ExpectWords.{awaited_as, awaited_by, expect_w
 ghost use Rattle.dg_language.specs.Expecting.{action_at, first_action, milliseconds};
 
 use crate::arguments::{copied_text, only, split};
+use crate::messages::wrong_count;
 use crate::sessions::bad_flag;
 use crate::switch::{is, is_flag};
-use crate::values::wrong_count;
 use dg_bytes::{Bytes, Seq, TryCopy};
 use dg_expr::number;
 use dg_language::{Awaited, Expectation, Pair, PatternKind};

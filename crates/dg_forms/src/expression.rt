@@ -7,13 +7,13 @@ ghost use Rattle.dg_expr.specs.Truth.{truth_of};
 ghost use Rattle.dg_language.specs.Evaluation.{quoted};
 ghost use Rattle.dg_language.specs.Expressions.{code_in, fault_message, in_decimal, on_side, operand_steps, or_fault, or_no_truth, behind_spaces};
 
-use crate::values::with_quoted;
+use crate::messages::with_quoted;
 use dg_bytes::{Bytes, Seq};
 use dg_expr::{
     ExprFault, Infix, Instruction, Prefix, Side, apply, apply_one, compile, decimal, number,
     read_expr, truth,
 };
-use dg_words::fault_text;
+use dg_lists::fault_text;
 use std::alloc::{AllocError, Global};
 
 /// The operand on a side.

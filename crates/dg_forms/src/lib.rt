@@ -9,16 +9,17 @@ mod elements;
 mod expect;
 mod expression;
 mod immediate;
+mod increments;
+mod lists;
 mod matching;
+mod messages;
 mod names;
 mod outputs;
 mod procedures;
 mod results;
 mod sessions;
 mod substitute;
-mod sums;
 mod switch;
-mod values;
 
 pub use crate::arguments::{four, only, split, three, two};
 pub use crate::boards::{
@@ -34,7 +35,13 @@ pub use crate::expression::{
     code_of, in_decimal, syntax_error, truth_in, value_behind, value_between, with_spaces,
 };
 pub use crate::immediate::run_immediate;
+pub use crate::increments::{addend, increased};
+pub use crate::lists::{concatenated, elements_held, elements_in, text_of};
 pub use crate::matching::{parts_of, regexp_words};
+pub use crate::messages::{
+    about_quoted, cannot_read, cannot_unset, expected_integer, invalid_command, no_such_script,
+    outside_of_a_loop, wrong_count,
+};
 pub use crate::names::find_builtin;
 pub use crate::outputs::{write_groups, write_out};
 pub use crate::procedures::{bindings, is_too_long};
@@ -42,10 +49,5 @@ pub use crate::sessions::{
     cannot_execute, id_words, kept_limit, match_words, not_open, send_words, spawn_words,
     wait_value,
 };
-pub use crate::substitute::{operand_of, steps_of};
-pub use crate::sums::{addend, increased};
+pub use crate::substitute::{operand_of, substitutions_of};
 pub use crate::switch::switched;
-pub use crate::values::{
-    about_quoted, cannot_read, cannot_unset, concatenated, elements_held, elements_in,
-    expected_integer, invalid_command, no_such_script, outside_of_a_loop, text_of, wrong_count,
-};

@@ -6,10 +6,10 @@ ghost use Rattle.dg_language.specs.Expecting.{group_text};
 ghost use Rattle.dg_language.specs.Matching.{parts_of, regexp_words, search_of};
 
 use crate::arguments::split;
+use crate::messages::wrong_count;
 use crate::outputs::group_text;
 use crate::sessions::bad_flag;
 use crate::switch::{is, is_flag};
-use crate::values::wrong_count;
 use dg_bytes::{Bytes, Seq, TryCopy};
 use dg_language::Search;
 use dg_match::Found;

@@ -1,16 +1,17 @@
 //! Procedures: their parameters, and what calls bind them to.
 ghost use Rattle.std.specs.Prelude.{◌≡◌, ◌<◌, [], IfOk, MatchOption, Some, None, nat_lt};
 ghost use Rattle.dg_scope.specs.Scopes.{value_limit};
-ghost use Rattle.dg_words.specs.Canonical.{text_of_list};
-ghost use Rattle.dg_language.specs.declared.completion.Effect.{Effect as Change};
+ghost use Rattle.dg_lists.specs.Canonical.{text_of_list};
+ghost use Rattle.dg_language.specs.declared.completion.Change.{Change as Change};
 ghost use Rattle.dg_language.specs.Procedures.{has_colons, name_fault, named, parameter_of, parameters, parameters_of, do_proc, binding, bindings, collects, value_for, longest};
 
 use crate::arguments::{split, three};
 use crate::completing::{does, miscounted};
+use crate::lists::{elements_in, text_of};
+use crate::messages::about_quoted;
 use crate::switch::is;
-use crate::values::{about_quoted, elements_in, text_of};
 use dg_bytes::{Bytes, Seq, TryCopy};
-use dg_language::{Binding, Completion, Effect, Parameter, Procedure};
+use dg_language::{Binding, Change, Completion, Parameter, Procedure};
 use dg_scope::{LONGEST_VALUE, base_of, has_index};
 use std::alloc::{AllocError, Global};
 
@@ -122,12 +123,12 @@ fn definition(
     name: &Bytes,
     parameters: Seq<Parameter>,
     body: &Bytes,
-) -> Result<Effect, AllocError>
+) -> Result<Change, AllocError>
     ensures { IfOk result (λ e. e ≡ Change.Defines name.now (record { parameters = parameters; body = body.now })) }
 {
     let body = body.copy(alloc)?;
     let procedure = Procedure { parameters, body };
-    Ok(Effect::Defines(name.copy(alloc)?, procedure))
+    Ok(Change::Defines(name.copy(alloc)?, procedure))
 }
 
 /// `proc name parameters body`.

@@ -7,7 +7,7 @@ use crate::arguments::{only, split};
 use crate::completing::{does, miscounted};
 use dg_bytes::{Bytes, TryCopy};
 use dg_expr::number;
-use dg_language::{Completion, Effect, ResultCall, ResultCommand};
+use dg_language::{Change, Completion, ResultCall, ResultCommand};
 use std::alloc::{AllocError, Global};
 
 /// The most that a count may be set to.
@@ -72,7 +72,7 @@ fn call_of(which: ResultCommand, message: Bytes, count: Option<u32>) -> ResultCa
 }
 
 /// A result call is made.
-fn recorded(
+pub(crate) fn recorded(
     alloc: Global,
     which: ResultCommand,
     message: &Bytes,
@@ -81,7 +81,7 @@ fn recorded(
     ensures { IfOk result (λ r. r ≡ recorded which message.now count) }
 {
     let call = call_of(which, message.copy(alloc)?, count);
-    Ok(does(alloc, Effect::Calls(call)))
+    Ok(does(alloc, Change::Calls(call)))
 }
 
 /// A result command, its message, and for some a count.

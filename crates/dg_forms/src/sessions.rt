@@ -6,8 +6,8 @@ ghost use Rattle.dg_language.specs.SessionWords.{bad_flag, id_words, match_words
 ghost use Rattle.dg_language.specs.Sessions.{cannot_execute, end_text, kept_limit, not_open};
 
 use crate::arguments::{copied_text, split};
+use crate::messages::{joined, with_number, with_quoted, wrong_count};
 use crate::switch::{is, is_flag};
-use crate::values::{joined, with_number, with_quoted, wrong_count};
 use dg_bytes::{Bytes, TryCopy};
 use dg_expr::number;
 use dg_transcript::Entry;

@@ -50,7 +50,7 @@ fn ending_of(expand: bool) -> Substitution
 }
 
 /// The steps in which these words are made.
-pub fn steps_of(alloc: Global, words: &[Word]) -> Result<Queue<Substitution>, AllocError>
+pub fn substitutions_of(alloc: Global, words: &[Word]) -> Result<Queue<Substitution>, AllocError>
     ensures { IfOk result (λ q. q ≡ substitutions words.now) }
 {
     let mut steps = Seq::new(alloc);

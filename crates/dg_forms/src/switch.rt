@@ -4,7 +4,7 @@ ghost use Rattle.dg_language.specs.Switching.{among, behind_kind, body_for, firs
 
 use crate::arguments::split;
 use crate::elements::Elements;
-use crate::values::{with_quoted, wrong_count};
+use crate::messages::{with_quoted, wrong_count};
 use dg_bytes::{Bytes, TryCopy};
 use dg_cmds::glob_matches;
 use dg_language::Matching;

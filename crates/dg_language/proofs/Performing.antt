@@ -12,7 +12,8 @@ use Rattle.dg_world.specs.declared.question.Answer.{Answer}
 use Rattle.dg_language.specs.declared.ask.Ask.{Ask}
 use Rattle.dg_language.specs.Play.{Play, Asks, lookup}
 use Rattle.dg_language.specs.State.{State, learn, with_sessions}
-use Rattle.dg_language.specs.Evaluation.{Ending, cut, on}
+use Rattle.dg_language.specs.Evaluation.{Ending, cut}
+use Rattle.dg_language.specs.Arguments.{on}
 use Rattle.dg_language.specs.Sessions.{Told, Late, depart, entry_for, hear_for, ask_for, entry_in, come_to, at_entry, performing, perform}
 
 -- what is done with an answer needs to be known only for the sessions as they are

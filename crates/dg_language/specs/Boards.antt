@@ -13,28 +13,29 @@ use Rattle.dg_world.specs.declared.question.Question.TheVariants.{File, Triplet}
 use Rattle.dg_world.specs.declared.question.Answer.{Answer}
 use Rattle.dg_world.specs.declared.question.Answer.TheVariants as answer
 use Rattle.dg_language.specs.declared.code.Code.TheVariants.{Done}
-use Rattle.dg_language.specs.declared.completion.Effect.TheVariants.{Sets, Unsets}
+use Rattle.dg_language.specs.declared.completion.Change.TheVariants.{Sets, Unsets}
 use Rattle.dg_language.specs.declared.command.TargetCommand.{TargetCommand}
 use Rattle.dg_language.specs.declared.command.TargetCommand.TheVariants.{IsTarget, IsHost, IsBuild, IsNative}
 use Rattle.dg_language.specs.declared.command.FlagCommand.{FlagCommand}
 use Rattle.dg_language.specs.declared.command.FlagCommand.TheVariants.{SetupXfail, SetupKfail, ClearXfail, ClearKfail}
 use Rattle.dg_language.specs.Play.{Play}
 use Rattle.dg_language.specs.State.{State, with_call, in_library, marked, setting_of, departed}
-use Rattle.dg_language.specs.Evaluation.{Ending, Then, Nested, ask, fail, if_done, on, one_of, two_of, first_of, outside, quoted, wrong_count}
+use Rattle.dg_language.specs.Evaluation.{Ending, Then, Nested, ask, fail, if_done, outside, quoted, wrong_count}
+use Rattle.dg_language.specs.Arguments.{on, only, two, split_first}
 use Rattle.dg_language.specs.Variables.{or_empty}
 use Rattle.dg_language.specs.Completing.{Immediately, gives, does, counted}
 
 -- `set_board_info key value`: a key that has a setting keeps it
 unfoldable pub do_set_board_info : List (List ℕ) → Immediately
-do_set_board_info args = counted (codes "set_board_info") (two_of args) (λ p. does (Sets p.0 p.1))
+do_set_board_info args = counted (codes "set_board_info") (two args) (λ p. does (Sets p.0 p.1))
 
 -- `unset_board_info key`
 unfoldable pub do_unset_board_info : List (List ℕ) → Immediately
-do_unset_board_info args = counted (codes "unset_board_info") (one_of args) (λ key. does (Unsets key))
+do_unset_board_info args = counted (codes "unset_board_info") (only args) (λ key. does (Unsets key))
 
 -- `load_generic_config name` sets the key `generic_name`
 unfoldable pub do_load_generic_config : List (List ℕ) → Immediately
-do_load_generic_config args = counted (codes "load_generic_config") (one_of args) (λ n. does (Sets (codes "generic_name") n))
+do_load_generic_config args = counted (codes "load_generic_config") (only args) (λ n. does (Sets (codes "generic_name") n))
 
 -- what is told of a key, or of `exists key`: its setting, the empty text where it has none; or whether it has one
 abbrev pub told_of : List (List ℕ) → State → Option (List ℕ)
@@ -55,7 +56,7 @@ told_by false v = Err (codes "unknown machine")
 
 unfoldable pub do_board_info : List (List ℕ) → State → Immediately
 do_board_info args s =
-    counted (codes "board_info") (first_of args) (λ p.
+    counted (codes "board_info") (split_first args) (λ p.
     counted (codes "board_info") (told_of p.1 s) (λ v. told_by (pointwise nat_eq p.0 (codes "target")) v))
 
 -- the file of a library
@@ -94,7 +95,7 @@ load_named nested true f s k = load nested f s k
 
 unfoldable pub do_load_lib : Nested → List (List ℕ) → State → Then → Play Ending
 do_load_lib nested args s k =
-    on (one_of args) (fail (wrong_count (codes "load_lib")) s k) (λ f. load_named nested (is_name (library_file f)) f s k)
+    on (only args) (fail (wrong_count (codes "load_lib")) s k) (λ f. load_named nested (is_name (library_file f)) f s k)
 
 -- the triplet of a machine
 abbrev pub triplet_of : Answer → List ℕ
@@ -104,7 +105,7 @@ triplet_of _ = []
 -- `istarget pattern`, `ishost pattern`, `isbuild pattern`
 unfoldable pub do_is : Machine → List ℕ → List (List ℕ) → State → Then → Play Ending
 do_is m name args s k =
-    on (one_of args) (fail (wrong_count name) s k) (λ p.
+    on (only args) (fail (wrong_count name) s k) (λ p.
     ask (Triplet m) s (λ a s'. k Done (truth_text (glob_matches p (triplet_of a))) s'))
 
 -- `isnative`: whether the tests run where they were built

@@ -7,7 +7,8 @@ use Rattle.dg_language.specs.declared.command.ControlCommand.TheVariants.{Foreac
 use Rattle.dg_language.specs.declared.state.TheConstants.{STEPS}
 use Rattle.dg_language.specs.Play.{Play, Ends}
 use Rattle.dg_language.specs.State.{State, assigned}
-use Rattle.dg_language.specs.Evaluation.{Ending, Then, Nested, out_of_steps, tick, within, fail, loop_after, on, first_of, three_of, wrong_count, list_in}
+use Rattle.dg_language.specs.Evaluation.{Ending, Then, Nested, out_of_steps, tick, within, fail, loop_after, wrong_count, list_in}
+use Rattle.dg_language.specs.Arguments.{on, split_first, three}
 use Rattle.dg_language.specs.Variables.{touch}
 use Rattle.dg_language.specs.Completing.{Immediately, completes, counted}
 
@@ -32,7 +33,7 @@ catch_name (_ ∷ _ ∷ _) = None
 -- `catch script` and `catch script name`
 unfoldable pub do_catch : Nested → List (List ℕ) → State → Then → Play Ending
 do_catch nested args s k =
-    on (first_of args) (fail (wrong_count (codes "catch")) s k) (λ p.
+    on (split_first args) (fail (wrong_count (codes "catch")) s k) (λ p.
     on (catch_name p.1) (fail (wrong_count (codes "catch")) s k) (λ n. nested p.0 s (caught n k)))
 
 -- `error message ?information? ?code?`
@@ -93,7 +94,7 @@ with_names nested (Ok (n ∷ ns)) values body s k = with_values nested (n ∷ ns
 -- `foreach names values body`
 unfoldable pub do_foreach : Nested → List (List ℕ) → State → Then → Play Ending
 do_foreach nested args s k =
-    on (three_of args) (fail (wrong_count (codes "foreach")) s k) (λ a. with_names nested (list_in a.0) a.1 a.2 s k)
+    on (three args) (fail (wrong_count (codes "foreach")) s k) (λ a. with_names nested (list_in a.0) a.1 a.2 s k)
 
 -- a command that evaluates scripts for each value, or catches their codes
 abbrev pub do_control : Nested → ControlCommand → List (List ℕ) → State → Then → Play Ending

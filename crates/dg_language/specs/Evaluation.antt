@@ -1,8 +1,8 @@
 -- What every evaluation is made of: its ends, its questions, its steps and its limits.
 use Rattle.std.specs.Prelude.{ℕ, true, false, Option, Some, None, List, [], ◌∷◌, ◌++◌, length, nat_lt, codes, Result, Ok, Err}
-use Rattle.dg_words.specs.Elements.{elements_of}
-use Rattle.dg_words.specs.Faults.{fault_text}
-use Rattle.dg_words.specs.declared.fault.WordFault.{WordFault}
+use Rattle.dg_lists.specs.Elements.{elements_of}
+use Rattle.dg_lists.specs.Faults.{fault_text}
+use Rattle.dg_lists.specs.declared.fault.WordFault.{WordFault}
 use Rattle.dg_scope.specs.declared.scopes.TheConstants.{LONGEST_VALUE}
 use Rattle.dg_world.specs.declared.question.Question.{Question}
 use Rattle.dg_world.specs.declared.question.Answer.{Answer}
@@ -110,43 +110,6 @@ outside k ExpContinued v s = k Failed outside_of_expect s
 
 abbrev pub wrong_count : List ℕ → List ℕ
 wrong_count name = codes "wrong # args: " ++ name
-
--- the only one of a list that has just one
-abbrev pub one_of : {A : Type 0} → List A → Option A
-one_of [] = None
-one_of (a ∷ []) = Some a
-one_of (_ ∷ _ ∷ _) = None
-
--- the only two of a list that has just two; three, and four
-abbrev pub two_of : {A : Type 0} → List A → Option (A × A)
-two_of [] = None
-two_of (_ ∷ []) = None
-two_of (a ∷ b ∷ []) = Some (a, b)
-two_of (_ ∷ _ ∷ _ ∷ _) = None
-
-abbrev pub three_of : {A : Type 0} → List A → Option (A × A × A)
-three_of [] = None
-three_of (_ ∷ []) = None
-three_of (_ ∷ _ ∷ []) = None
-three_of (a ∷ b ∷ c ∷ []) = Some (a, b, c)
-three_of (_ ∷ _ ∷ _ ∷ _ ∷ _) = None
-
-abbrev pub four_of : {A : Type 0} → List A → Option (A × A × A × A)
-four_of [] = None
-four_of (_ ∷ []) = None
-four_of (_ ∷ _ ∷ []) = None
-four_of (_ ∷ _ ∷ _ ∷ []) = None
-four_of (a ∷ b ∷ c ∷ d ∷ []) = Some (a, b, c, d)
-four_of (_ ∷ _ ∷ _ ∷ _ ∷ _ ∷ _) = None
-
--- the first of a list, and the others
-abbrev pub first_of : {A : Type 0} → List A → Option (A × List A)
-first_of [] = None
-first_of (a ∷ others) = Some (a, others)
-
-abbrev pub on : {A : Type 0} → Option A → Play Ending → (A → Play Ending) → Play Ending
-on None p f = p
-on (Some a) p f = f a
 
 abbrev pub or_message : Result (List (List ℕ)) WordFault → Result (List (List ℕ)) (List ℕ)
 or_message (Err fault) = Err (fault_text fault)

@@ -1,8 +1,8 @@
 -- What `expect` and `exp_continue` mean, by expect(1).
 use Rattle.std.specs.Prelude.{ℕ, ℤ, pos, negsuc, zero, suc, ◌+◌, ◌*◌, min, Bool, true, false, Option, Some, None, List, [], ◌∷◌, ◌++◌, take, slice_get, slice_range, codes, decimal, Result, Ok, Err}
-use Rattle.dg_words.specs.Faults.{fault_text}
+use Rattle.dg_lists.specs.Faults.{fault_text}
 use Rattle.dg_words.specs.Reading.{words_of}
-use Rattle.dg_words.specs.declared.fault.WordFault.{WordFault}
+use Rattle.dg_lists.specs.declared.fault.WordFault.{WordFault}
 use Rattle.dg_words.specs.declared.word.Word.{Word}
 use Rattle.dg_expr.specs.Number.{number_of}
 use Rattle.dg_glob.specs.declared.glob.Span.{Span}

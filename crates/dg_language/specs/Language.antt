@@ -2,10 +2,10 @@
 use Rattle.std.specs.Prelude.{ℕ, suc, zero, ◌-◌, Bool, true, false, ◌&&◌, Option, Some, None, List, [], ◌∷◌, ◌++◌, length, nat_eq, codes, Result, Ok, Err}
 use Rattle.std.specs.Cmp.Lexicographic.{pointwise}
 use Rattle.std.specs.FinMap as names
-use Rattle.dg_words.specs.Faults.{fault_text}
+use Rattle.dg_lists.specs.Faults.{fault_text}
 use Rattle.dg_words.specs.Reading.{command_at}
 use Rattle.dg_words.specs.declared.word.Word.{Word}
-use Rattle.dg_words.specs.declared.fault.WordFault.{WordFault}
+use Rattle.dg_lists.specs.declared.fault.WordFault.{WordFault}
 use Rattle.dg_language.specs.declared.code.Code.TheVariants.{Done}
 use Rattle.dg_language.specs.declared.procedure.Procedure.{Procedure}
 use Rattle.dg_language.specs.declared.command.Command.{Command}
@@ -14,6 +14,7 @@ use Rattle.dg_language.specs.declared.command.Builtin.{Builtin}
 use Rattle.dg_language.specs.declared.command.Builtin.TheVariants.{Immediate as ImmediateBuiltin, Variable as VariableBuiltin, Control as ControlBuiltin, Choice as ChoiceBuiltin, Target as TargetBuiltin, Flag as FlagBuiltin, Session as SessionBuiltin, LoadLib as LoadLibBuiltin, Expect as ExpectBuiltin, Regexp as RegexpBuiltin}
 use Rattle.dg_language.specs.declared.command.VariableCommand.TheVariants.{Set, Append, ListAppend, Increase, Unset, Info, Global}
 use Rattle.dg_language.specs.declared.command.ControlCommand.TheVariants.{Foreach, Catch}
+use Rattle.dg_language.specs.declared.command.ChoiceCommand.{ChoiceCommand}
 use Rattle.dg_language.specs.declared.command.ChoiceCommand.TheVariants.{Expr, Eval, If, Switch, While, For}
 use Rattle.dg_language.specs.declared.command.TargetCommand.TheVariants.{IsTarget, IsHost, IsBuild, IsNative}
 use Rattle.dg_language.specs.declared.command.FlagCommand.TheVariants.{SetupXfail, SetupKfail, ClearXfail, ClearKfail}
@@ -28,7 +29,9 @@ use Rattle.dg_language.specs.Immediate.{immediate, immediate_commands, is_for_sc
 use Rattle.dg_language.specs.Variables.{do_variable}
 use Rattle.dg_language.specs.Procedures.{call}
 use Rattle.dg_language.specs.Control.{do_control, head_or_empty}
-use Rattle.dg_language.specs.Switching.{do_choice}
+use Rattle.dg_language.specs.Expressions.{do_expr}
+use Rattle.dg_language.specs.Choosing.{do_if, do_while, do_for}
+use Rattle.dg_language.specs.Switching.{do_eval, do_switch}
 use Rattle.dg_language.specs.Boards.{do_load_lib, do_target, do_flag}
 use Rattle.dg_language.specs.Words.{Act, gather, substitutions}
 use Rattle.dg_language.specs.Sessions.{do_session}
@@ -37,6 +40,15 @@ use Rattle.dg_language.specs.Matching.{do_regexp}
 use Rattle.dg_cmds.specs.Commands.{pure_of}
 use Rattle.dg_cmds.specs.declared.fault.CmdFault.{CmdFault}
 use Rattle.dg_cmds.specs.declared.fault.CmdFault.TheVariants.{Tcl}
+
+-- a command that computes, chooses or repeats
+abbrev pub do_choice : Nested → ChoiceCommand → List (List ℕ) → State → Then → Play Ending
+do_choice nested Expr args s k = do_expr nested args s k
+do_choice nested Eval args s k = do_eval nested args s k
+do_choice nested If args s k = do_if nested args s k
+do_choice nested Switch args s k = do_switch nested args s k
+do_choice nested While args s k = do_while nested args s k
+do_choice nested For args s k = do_for nested args s k
 
 abbrev pub builtin : Nested → Builtin → List (List ℕ) → State → Then → Play Ending
 builtin nested (ImmediateBuiltin c) args s k = completed (immediate c args s) s k

@@ -3,6 +3,7 @@ pub mod Row
 pub mod Reads
 pub mod State
 pub mod Evaluation
+pub mod Arguments
 pub mod Completing
 pub mod Results
 pub mod Variables

@@ -1,15 +1,16 @@
 -- Procedures, by proc(n): how their parameters are read, and how a call binds them.
 use Rattle.std.specs.Prelude.{ℕ, Bool, true, false, ◌&&◌, ◌||◌, Option, Some, None, List, [], ◌∷◌, ◌++◌, length, nat_lt, nat_eq, codes, Result, Ok, Err}
 use Rattle.std.specs.Cmp.Lexicographic.{pointwise}
-use Rattle.dg_words.specs.Canonical.{text_of_list}
+use Rattle.dg_lists.specs.Canonical.{text_of_list}
 use Rattle.dg_scope.specs.Names.{has_index, base_of}
-use Rattle.dg_language.specs.declared.completion.Effect.TheVariants.{Defines}
+use Rattle.dg_language.specs.declared.completion.Change.TheVariants.{Defines}
 use Rattle.dg_language.specs.declared.procedure.Binding.{Binding}
 use Rattle.dg_language.specs.declared.procedure.Parameter.{Parameter}
 use Rattle.dg_language.specs.declared.procedure.Procedure.{Procedure}
 use Rattle.dg_language.specs.Play.{Play}
 use Rattle.dg_language.specs.State.{State, entered, departed}
-use Rattle.dg_language.specs.Evaluation.{Ending, Then, Nested, within, fail, three_of, quoted, outside, wrong_count, list_in}
+use Rattle.dg_language.specs.Evaluation.{Ending, Then, Nested, within, fail, quoted, outside, wrong_count, list_in}
+use Rattle.dg_language.specs.Arguments.{three}
 use Rattle.dg_language.specs.Completing.{Immediately, does, counted}
 
 -- whether a name has `::` in it
@@ -69,7 +70,7 @@ with_parameters n body (Ok ps) = does (Defines n (record { parameters = ps; body
 
 -- `proc name parameters body`
 unfoldable pub do_proc : List (List ℕ) → Immediately
-do_proc args = counted (codes "proc") (three_of args) (λ a. with_parameters a.0 a.2 (parameters_of a.1))
+do_proc args = counted (codes "proc") (three args) (λ a. with_parameters a.0 a.2 (parameters_of a.1))
 
 abbrev pub binding : List ℕ → List ℕ → Binding
 binding n v = record { name = n; value = v }

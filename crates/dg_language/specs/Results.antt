@@ -3,10 +3,11 @@ use Rattle.std.specs.Prelude.{ℕ, ℤ, pos, negsuc, Bool, true, false, nat_le, 
 use Rattle.dg_expr.specs.Number.{number_of}
 use Rattle.dg_language.specs.declared.calls.ResultCall.{ResultCall}
 use Rattle.dg_language.specs.declared.calls.ResultCall.TheVariants as call
-use Rattle.dg_language.specs.declared.completion.Effect.TheVariants.{Calls}
+use Rattle.dg_language.specs.declared.completion.Change.TheVariants.{Calls}
 use Rattle.dg_language.specs.declared.command.ResultCommand.{ResultCommand}
 use Rattle.dg_language.specs.declared.command.ResultCommand.TheVariants.{Pass, Fail, Unresolved, Untested, Unsupported, Note, Perror, Warning}
-use Rattle.dg_language.specs.Evaluation.{first_of, wrong_count}
+use Rattle.dg_language.specs.Evaluation.{wrong_count}
+use Rattle.dg_language.specs.Arguments.{split_first}
 use Rattle.dg_language.specs.Completing.{Immediately, does, counted}
 
 abbrev pub name_of : ResultCommand → List ℕ
@@ -62,4 +63,4 @@ result_of c m (_ ∷ _ ∷ _) = Err (wrong_count (name_of c))
 
 -- a result command, its message, and for some a count
 unfoldable pub do_result : ResultCommand → List (List ℕ) → Immediately
-do_result c args = counted (name_of c) (first_of args) (λ p. result_of c p.0 p.1)
+do_result c args = counted (name_of c) (split_first args) (λ p. result_of c p.0 p.1)

@@ -26,7 +26,8 @@ use Rattle.dg_language.specs.declared.command.SessionCommand.{SessionCommand}
 use Rattle.dg_language.specs.declared.command.SessionCommand.TheVariants.{Spawn, Send, Close, Wait, MatchMax}
 use Rattle.dg_language.specs.Play.{Play, Ends, Asks, lookup}
 use Rattle.dg_language.specs.State.{State, learn, assigned, with_sessions}
-use Rattle.dg_language.specs.Evaluation.{Ending, Then, closed, cut, fail, on, quoted}
+use Rattle.dg_language.specs.Evaluation.{Ending, Then, closed, cut, fail, quoted}
+use Rattle.dg_language.specs.Arguments.{on}
 use Rattle.dg_language.specs.Variables.{touch, cannot_read}
 use Rattle.dg_language.specs.SessionWords.{spawn_words, send_words, id_words, match_words}
 use Rattle.dg_transcript.specs.declared.limits.TheConstants.{MAX_WORDS}

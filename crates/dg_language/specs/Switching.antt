@@ -9,10 +9,7 @@ use Rattle.dg_language.specs.declared.switch.Matching.TheVariants.{Exact, Glob}
 use Rattle.dg_language.specs.Play.{Play}
 use Rattle.dg_language.specs.State.{State}
 use Rattle.dg_language.specs.Evaluation.{Ending, Then, Nested, cut, fail, quoted, wrong_count, list_in}
-use Rattle.dg_language.specs.Expressions.{do_expr}
-use Rattle.dg_language.specs.Choosing.{do_otherwise, do_if, do_while, do_for}
-use Rattle.dg_language.specs.declared.command.ChoiceCommand.{ChoiceCommand}
-use Rattle.dg_language.specs.declared.command.ChoiceCommand.TheVariants.{Expr, Eval, If, Switch, While, For}
+use Rattle.dg_language.specs.Choosing.{do_otherwise}
 
 abbrev pub is : List ℕ → List ℕ → Bool
 is text word = pointwise nat_eq text word
@@ -119,12 +116,3 @@ evaluated nested (Some text) s k = nested text s k
 unfoldable pub do_eval : Nested → List (List ℕ) → State → Then → Play Ending
 do_eval nested [] s k = fail (wrong_count (codes "eval")) s k
 do_eval nested (w ∷ ws) s k = evaluated nested (text_in (concat_of (w ∷ ws))) s k
-
--- a command that computes, chooses or repeats
-abbrev pub do_choice : Nested → ChoiceCommand → List (List ℕ) → State → Then → Play Ending
-do_choice nested Expr args s k = do_expr nested args s k
-do_choice nested Eval args s k = do_eval nested args s k
-do_choice nested If args s k = do_if nested args s k
-do_choice nested Switch args s k = do_switch nested args s k
-do_choice nested While args s k = do_while nested args s k
-do_choice nested For args s k = do_for nested args s k

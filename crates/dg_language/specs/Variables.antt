@@ -3,7 +3,7 @@ use Rattle.std.specs.Prelude.{ℕ, ℤ, ◌+ℤ◌, Bool, true, false, not, ◌&
 use Rattle.std.specs.Cmp.Lexicographic.{pointwise}
 use Rattle.std.specs.List.{concat}
 use Rattle.std.specs.FinMap as map
-use Rattle.dg_words.specs.Canonical.{text_of_list}
+use Rattle.dg_lists.specs.Canonical.{text_of_list}
 use Rattle.dg_expr.specs.Number.{number_of, decimal_text}
 use Rattle.dg_expr.specs.Operator.{fits}
 use Rattle.dg_expr.specs.Truth.{truth_text}
@@ -17,7 +17,8 @@ use Rattle.dg_language.specs.declared.command.VariableCommand.{VariableCommand}
 use Rattle.dg_language.specs.declared.command.VariableCommand.TheVariants.{Set, Append, ListAppend, Increase, Unset as UnsetCommand, Info, Global}
 use Rattle.dg_language.specs.Play.{Play}
 use Rattle.dg_language.specs.State.{State, began, began_with, assigned, unassigned, linked}
-use Rattle.dg_language.specs.Evaluation.{Ending, Then, ask, within, fail, on, one_of, first_of, quoted, wrong_count, list_in}
+use Rattle.dg_language.specs.Evaluation.{Ending, Then, ask, within, fail, quoted, wrong_count, list_in}
+use Rattle.dg_language.specs.Arguments.{on, only, split_first}
 
 -- whether a name is that of a global that has not begun; a name with an index is a variable of its own, which no line sets
 abbrev pub is_to_begin : List ℕ → State → Bool
@@ -75,12 +76,12 @@ set_of n (v ∷ []) s k = touch n s (λ s'. store n v s' k)
 set_of n (_ ∷ _ ∷ _) s k = fail (wrong_count (codes "set")) s k
 
 unfoldable pub do_set : List (List ℕ) → State → Then → Play Ending
-do_set args s k = on (first_of args) (fail (wrong_count (codes "set")) s k) (λ p. set_of p.0 p.1 s k)
+do_set args s k = on (split_first args) (fail (wrong_count (codes "set")) s k) (λ p. set_of p.0 p.1 s k)
 
 -- `append name value..`: an unset name counts as empty
 unfoldable pub do_append : List (List ℕ) → State → Then → Play Ending
 do_append args s k =
-    on (first_of args) (fail (wrong_count (codes "append")) s k) (λ p.
+    on (split_first args) (fail (wrong_count (codes "append")) s k) (λ p.
     touch p.0 s (λ s'. store p.0 (or_empty (value_of s'.variables p.0) ++ concat p.1) s' k))
 
 -- `lappend name value..`: without values the text stays as it is
@@ -97,7 +98,7 @@ append_elements n old vs s k = with_appended n old vs (list_in old) s k
 
 unfoldable pub do_lappend : List (List ℕ) → State → Then → Play Ending
 do_lappend args s k =
-    on (first_of args) (fail (wrong_count (codes "lappend")) s k) (λ p.
+    on (split_first args) (fail (wrong_count (codes "lappend")) s k) (λ p.
     touch p.0 s (λ s'. append_elements p.0 (or_empty (value_of s'.variables p.0)) p.1 s' k))
 
 -- `incr name ?number?`: an unset name counts as 0, and 1 is added where no number is given
@@ -140,7 +141,7 @@ add_number n by s k = with_sum n (increased (or_zero (value_of s.variables n)) b
 
 unfoldable pub do_incr : List (List ℕ) → State → Then → Play Ending
 do_incr args s k =
-    on (first_of args) (fail (wrong_count (codes "incr")) s k) (λ p.
+    on (split_first args) (fail (wrong_count (codes "incr")) s k) (λ p.
     on (addend p.1) (fail (wrong_count (codes "incr")) s k) (λ by. touch p.0 s (λ s'. add_number p.0 by s' k)))
 
 -- one of the names of `unset`; what follows is done where it could be unset or none complains
@@ -167,12 +168,12 @@ do_unset args s k = unset_all (unset_names args).0 (unset_names args).1 s k
 abbrev pub info_of : Bool → List (List ℕ) → State → Then → Play Ending
 info_of false args s k = fail (codes "unknown subcommand") s k
 info_of true args s k =
-    on (one_of args) (fail (wrong_count (codes "info")) s k) (λ n.
+    on (only args) (fail (wrong_count (codes "info")) s k) (λ n.
     touch n s (λ s'. k Done (truth_text (is_some (value_of s'.variables n))) s'))
 
 unfoldable pub do_info : List (List ℕ) → State → Then → Play Ending
 do_info args s k =
-    on (first_of args) (fail (wrong_count (codes "info")) s k) (λ p. info_of (pointwise nat_eq p.0 (codes "exists")) p.1 s k)
+    on (split_first args) (fail (wrong_count (codes "info")) s k) (λ p. info_of (pointwise nat_eq p.0 (codes "exists")) p.1 s k)
 
 -- `global name..`
 abbrev pub all_linked : List (List ℕ) → State → State

@@ -1,6 +1,7 @@
 //! Commands of a script.
 use dg_bytes::Seq;
-use dg_words::{Word, WordFault};
+use dg_lists::WordFault;
+use dg_words::Word;
 
 /// A command of a script: its words, or why it can't be read.
 #[derive(Drop)]

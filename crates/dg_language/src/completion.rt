@@ -6,7 +6,7 @@ use dg_bytes::Bytes;
 
 /// What such a command changes.
 #[derive(Drop)]
-pub enum Effect {
+pub enum Change {
     /// Nothing.
     Nothing,
     /// This result call is made.
@@ -24,5 +24,5 @@ pub enum Effect {
 pub struct Completion {
     pub code: Code,
     pub value: Bytes,
-    pub effect: Effect,
+    pub change: Change,
 }

@@ -29,7 +29,7 @@ pub use crate::command::{
     Builtin, ChoiceCommand, Command, ControlCommand, FlagCommand, ImmediateCommand, ResultCommand,
     SessionCommand, TargetCommand, VariableCommand,
 };
-pub use crate::completion::{Completion, Effect};
+pub use crate::completion::{Change, Completion};
 pub use crate::expect::{Awaited, Expectation, Pair, PatternKind};
 pub use crate::law::more_answers_keep_the_end;
 pub use crate::procedure::{Binding, Parameter, Procedure};

@@ -3,8 +3,8 @@ ghost use Rattle.std.specs.Prelude.{◌≡◌, ◌<◌, ◌≤◌, ◌++◌, ℕ
 ghost use Rattle.std.specs.Option.{option_copied};
 ghost use Rattle.std.specs.FinMap as map;
 ghost use Rattle.dg_scope.specs.Scopes.{value_limit, value_of, with_value};
-ghost use Rattle.dg_words.specs.Canonical.{text_of_list};
-ghost use Rattle.dg_words.specs.Elements.{elements_of};
+ghost use Rattle.dg_lists.specs.Canonical.{text_of_list};
+ghost use Rattle.dg_lists.specs.Elements.{elements_of};
 ghost use Rattle.dg_language.specs.declared.state.TheConstants.{STEPS};
 ghost use Rattle.dg_language.specs.Growing.{Gets};
 ghost use Rattle.dg_language.specs.Variables.{is_to_begin, first_value, all_linked, or_empty};
@@ -17,17 +17,17 @@ ghost use Rattle.dg_results.specs.Standing.{after_calls};
 
 use crate::actions::Actions;
 use crate::calls::{Calls, ResultCall};
-use crate::completion::Effect;
+use crate::completion::Change;
 use crate::procedure::{Binding, Procedure};
 use crate::reads::Reads;
 use dg_boards::BoardTable;
 use dg_bytes::{Bytes, Seq, TryCopy};
+use dg_lists::{ListFault, WordFault};
 use dg_match::{Hit, Pattern};
 use dg_results::Judging;
 use dg_scope::{LONGEST_VALUE, ScopeFault, Scopes, Table, global_name, has_index};
 use dg_sessions::{Session, Sessions};
 use dg_transcript::{Act, Action, Entry};
-use dg_words::{ListFault, WordFault};
 use dg_world::{Answer, Question, Read, TestId};
 use std::alloc::{AllocError, Global};
 use std::marker::Model;
@@ -569,18 +569,18 @@ impl State {
     }
 
     /// Makes the change of a command that has completed.
-    pub fn perform(&mut self, alloc: Global, effect: Effect) -> Result<(), AllocError>
-        ensures { OnOk result (self.new ≡ performed effect self.old) }
+    pub fn perform(&mut self, alloc: Global, change: Change) -> Result<(), AllocError>
+        ensures { OnOk result (self.new ≡ performed change self.old) }
     {
-        match effect {
-            Effect::Nothing => Ok(()),
-            Effect::Calls(call) => self.add_call(call),
-            Effect::Sets(key, value) => self.set_first(key, value),
-            Effect::Unsets(key) => {
+        match change {
+            Change::Nothing => Ok(()),
+            Change::Calls(call) => self.add_call(call),
+            Change::Sets(key, value) => self.set_first(key, value),
+            Change::Unsets(key) => {
                 self.unset_setting(&key);
                 Ok(())
             }
-            Effect::Defines(name, procedure) => self.define(alloc, name.as_slice(), procedure),
+            Change::Defines(name, procedure) => self.define(alloc, name.as_slice(), procedure),
         }
     }
 }

@@ -13,7 +13,8 @@ use Rattle.dg_language.specs.declared.command.TargetCommand.{TargetCommand}
 use Rattle.dg_language.specs.declared.command.TargetCommand.TheVariants.{IsTarget, IsHost, IsBuild, IsNative}
 use Rattle.dg_language.specs.declared.command.FlagCommand.{FlagCommand}
 use Rattle.dg_language.specs.State.{State, in_library, departed}
-use Rattle.dg_language.specs.Evaluation.{Nested, one_of}
+use Rattle.dg_language.specs.Evaluation.{Nested}
+use Rattle.dg_language.specs.Arguments.{only}
 use Rattle.dg_language.specs.Boards.{library_file, content_of, after_library, found, load, load_named, do_load_lib, do_is, do_is_native, do_target, is_pattern, do_flag}
 use Rattle.dg_laws.specs.Grafting.{Grafted}
 use Rattle.dg_laws.proofs.Trees.{one_after_another}
@@ -47,12 +48,12 @@ module _ (nested : Nested) (inside : IsGraftedInside nested) where
   pub do_load_lib-grafted : (args : List (List ℕ)) (s : State) → Grafted (do_load_lib nested args s)
   unfolding do_load_lib
   do_load_lib-grafted args s =
-      on-grafted (one_of args) (fail-grafted _ s) (λ f. load_named-grafted (is_name (library_file f)) f s)
+      on-grafted (only args) (fail-grafted _ s) (λ f. load_named-grafted (is_name (library_file f)) f s)
 
 do_is-grafted : (m : Machine) (name : List ℕ) (args : List (List ℕ)) (s : State) → Grafted (do_is m name args s)
 unfolding do_is
 do_is-grafted m name args s =
-    on-grafted (one_of args) (fail-grafted _ s) (λ p. ask-grafted (Triplet m) s (λ a s'. completes Done _ s'))
+    on-grafted (only args) (fail-grafted _ s) (λ p. ask-grafted (Triplet m) s (λ a s'. completes Done _ s'))
 
 do_is_native-grafted : (args : List (List ℕ)) (s : State) → Grafted (do_is_native args s)
 unfolding do_is_native

@@ -9,9 +9,11 @@ use Rattle.dg_language.specs.declared.command.ChoiceCommand.{ChoiceCommand}
 use Rattle.dg_language.specs.declared.command.ChoiceCommand.TheVariants.{Expr, Eval, If, Switch, While, For}
 use Rattle.dg_language.specs.Play.{Play}
 use Rattle.dg_language.specs.State.{State}
-use Rattle.dg_language.specs.Evaluation.{Ending, Then, Nested, two_of, four_of}
+use Rattle.dg_language.specs.Evaluation.{Ending, Then, Nested}
+use Rattle.dg_language.specs.Arguments.{two, four}
 use Rattle.dg_language.specs.Choosing.{AtCondition, clauses_at, do_otherwise, choose, do_if, next_after, between, body_if, repeat, do_while, do_for}
-use Rattle.dg_language.specs.Switching.{switched, do_taken, do_switch, text_in, evaluated, do_eval, do_choice}
+use Rattle.dg_language.specs.Switching.{switched, do_taken, do_switch, text_in, evaluated, do_eval}
+use Rattle.dg_language.specs.Language.{do_choice}
 use Rattle.dg_laws.specs.Grafting.{Grafted}
 use Rattle.dg_laws.proofs.Trees.{one_after_another}
 use Rattle.dg_laws.proofs.Steps.{IsGraftedInside, completes, stops, cut-grafted, either, on-grafted, tick-grafted, fail-grafted, if_done-grafted, loop_after-grafted}
@@ -60,12 +62,12 @@ module _ (nested : Nested) (inside : IsGraftedInside nested) where
 
   do_while-grafted : (args : List (List ℕ)) (s : State) → Grafted (do_while nested args s)
   unfolding do_while
-  do_while-grafted args s = on-grafted (two_of args) (fail-grafted _ s) (λ a. repeat-grafted 100000 a.0 None a.1 s)
+  do_while-grafted args s = on-grafted (two args) (fail-grafted _ s) (λ a. repeat-grafted 100000 a.0 None a.1 s)
 
   do_for-grafted : (args : List (List ℕ)) (s : State) → Grafted (do_for nested args s)
   unfolding do_for
   do_for-grafted args s =
-      on-grafted (four_of args) (fail-grafted _ s) (λ a.
+      on-grafted (four args) (fail-grafted _ s) (λ a.
       if_done-grafted (inside a.0 s) (λ v t. repeat-grafted 100000 a.1 (Some a.2) a.3 t))
 
   do_taken-grafted : (body : Result (Option (List ℕ)) (List ℕ)) (s : State) → Grafted (do_taken nested body s)

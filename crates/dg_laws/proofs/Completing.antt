@@ -7,4 +7,4 @@ use Rattle.dg_laws.proofs.Steps.{completes, fail-grafted}
 
 pub completed-grafted : (r : Immediately) (s : State) → Grafted (completed r s)
 completed-grafted (Err message) s = fail-grafted message s
-completed-grafted (Ok c) s = completes c.code c.value (performed c.effect s)
+completed-grafted (Ok c) s = completes c.code c.value (performed c.change s)

@@ -9,7 +9,8 @@ use Rattle.dg_language.specs.declared.procedure.Binding.{Binding}
 use Rattle.dg_language.specs.declared.procedure.Procedure.{Procedure}
 use Rattle.dg_language.specs.Play.{Play}
 use Rattle.dg_language.specs.State.{State, assigned, entered, departed}
-use Rattle.dg_language.specs.Evaluation.{Ending, Then, Nested, first_of, three_of, list_in}
+use Rattle.dg_language.specs.Evaluation.{Ending, Then, Nested, list_in}
+use Rattle.dg_language.specs.Arguments.{split_first, three}
 use Rattle.dg_language.specs.Procedures.{bindings, longest, call_bound, call}
 use Rattle.dg_language.specs.Control.{digit_of, caught, catch_name, do_catch, head_or_empty, behind_first, give_each, each, with_values, with_names, do_foreach, do_control}
 use Rattle.dg_laws.specs.Grafting.{Grafted}
@@ -44,7 +45,7 @@ module _ (nested : Nested) (inside : IsGraftedInside nested) where
   do_catch-grafted : (args : List (List ℕ)) (s : State) → Grafted (do_catch nested args s)
   unfolding do_catch
   do_catch-grafted args s =
-      on-grafted (first_of args) (fail-grafted _ s) (λ p.
+      on-grafted (split_first args) (fail-grafted _ s) (λ p.
       on-grafted (catch_name p.1) (fail-grafted _ s) (λ n. one_after_another (inside p.0 s) (caught-at n)))
 
   each-grafted : (r : ℕ) (names : List (List ℕ)) (body : List ℕ) (vs : List (List ℕ)) (s : State) → Grafted (each nested r names body vs s)
@@ -70,7 +71,7 @@ module _ (nested : Nested) (inside : IsGraftedInside nested) where
   do_foreach-grafted : (args : List (List ℕ)) (s : State) → Grafted (do_foreach nested args s)
   unfolding do_foreach
   do_foreach-grafted args s =
-      on-grafted (three_of args) (fail-grafted _ s) (λ a. with_names-grafted (list_in a.0) a.1 a.2 s)
+      on-grafted (three args) (fail-grafted _ s) (λ a. with_names-grafted (list_in a.0) a.1 a.2 s)
 
   pub do_control-grafted : (c : ControlCommand) (args : List (List ℕ)) (s : State) → Grafted (do_control nested c args s)
   do_control-grafted Foreach args s = do_foreach-grafted args s

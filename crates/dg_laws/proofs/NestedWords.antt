@@ -5,7 +5,7 @@ use Rattle.dg_words.specs.Piece.{Piece, End}
 use Rattle.dg_words.specs.Piece as piece
 use Rattle.dg_words.specs.Reading.{command_at, words_of}
 use Rattle.dg_words.specs.declared.kinds.Level.{Level}
-use Rattle.dg_words.specs.declared.kinds.Spot.{Spot}
+use Rattle.dg_lists.specs.declared.kinds.Context.{Context}
 use Rattle.dg_words.specs.declared.word.Word.{Word}
 use Rattle.dg_words.specs.Grammar.Words.{Begun, OneCommand, OneWord, Plain, Words, with_text}
 use Rattle.dg_words.specs.Grammar.Words as spelled
@@ -54,7 +54,7 @@ unfolding in_a_row
 element-nest name {is} i n =
     (Element name i.0 n.0, ap (λ r. piece.Element name ∷ (r ++ End ∷ in_a_row n.0)) i.1 ∙ ap (λ r. piece.Element name ∷ (is ++ End ∷ r)) n.1)
 
-parts-nest : {l : Level} {n : ℕ} {s : Spot} {after t : List ℕ} {ps : List Piece} → spelled.Parts l n s after t ps → Nest ps
+parts-nest : {l : Level} {n : ℕ} {s : Context} {after t : List ℕ} {ps : List Piece} → spelled.Parts l n s after t ps → Nest ps
 parts-nest spelled.nothing = nothing-nest
 parts-nest (spelled.byte b plain more) = text-nest (b ∷ []) (parts-nest more)
 parts-nest (spelled.escape e w escaped more) = text-nest w (parts-nest more)

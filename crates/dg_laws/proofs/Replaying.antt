@@ -22,7 +22,8 @@ use Rattle.dg_world.specs.Question.{same_question}
 use Rattle.dg_language.specs.declared.ask.Ask.{Ask}
 use Rattle.dg_language.specs.Play.{Play, Source, heard, on_answer, Gives, lookup, run}
 use Rattle.dg_language.specs.State.{State, learn, with_sessions}
-use Rattle.dg_language.specs.Evaluation.{Ending, on}
+use Rattle.dg_language.specs.Evaluation.{Ending}
+use Rattle.dg_language.specs.Arguments.{on}
 use Rattle.dg_language.specs.Sessions.{Told, Late, depart, entry_for, hear_for, ask_for, entry_in, come_to, at_entry, perform}
 use Rattle.dg_language.proofs.Asking.{same_question-true}
 use Rattle.dg_language.proofs.Once.{gives-append}

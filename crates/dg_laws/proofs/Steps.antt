@@ -8,7 +8,8 @@ use Rattle.dg_language.specs.declared.code.Code.{Code}
 use Rattle.dg_language.specs.declared.code.Code.TheVariants.{Done, Failed, Returned, Broken, Continued, ExpContinued}
 use Rattle.dg_language.specs.Play.{Play, Ends, Asks, plain, lookup}
 use Rattle.dg_language.specs.State.{State, stepped, learn}
-use Rattle.dg_language.specs.Evaluation.{Ending, Then, Nested, aborted, out_of_steps, cut, hear, ask, tick, within, fail, if_done, loop_after, outside, on}
+use Rattle.dg_language.specs.Evaluation.{Ending, Then, Nested, aborted, out_of_steps, cut, hear, ask, tick, within, fail, if_done, loop_after, outside}
+use Rattle.dg_language.specs.Arguments.{on}
 use Rattle.dg_laws.specs.Grafting.{Completes, Stops, Grafted}
 use Rattle.dg_laws.proofs.Trees.{one_after_another}
 

@@ -11,7 +11,8 @@ use Rattle.dg_language.specs.declared.command.VariableCommand.TheVariants.{Set, 
 use Rattle.dg_language.specs.Play.{Play}
 use Rattle.dg_language.specs.State.{State, began, began_with, assigned, unassigned}
 use Rattle.dg_expr.specs.Truth.{truth_text}
-use Rattle.dg_language.specs.Evaluation.{Ending, Then, first_of, one_of, list_in}
+use Rattle.dg_language.specs.Evaluation.{Ending, Then, list_in}
+use Rattle.dg_language.specs.Arguments.{split_first, only}
 use Rattle.dg_language.specs.Variables.{is_to_begin, first_value, begin, touch, given, read_variable, store, or_empty, set_of, do_set, do_append, with_appended, append_elements, do_lappend, addend, or_zero, increased, with_sum, add_number, do_incr, unset_one, unset_all, unset_names, do_unset, info_of, do_info, all_linked, do_global, do_variable}
 use Rattle.dg_laws.specs.Grafting.{Grafted}
 use Rattle.dg_laws.proofs.Steps.{completes, either, on-grafted, ask-grafted, within-grafted, fail-grafted}
@@ -48,12 +49,12 @@ set_of-grafted n (_ ∷ _ ∷ _) s = fail-grafted _ s
 
 do_set-grafted : (args : List (List ℕ)) (s : State) → Grafted (do_set args s)
 unfolding do_set
-do_set-grafted args s = on-grafted (first_of args) (fail-grafted _ s) (λ p. set_of-grafted p.0 p.1 s)
+do_set-grafted args s = on-grafted (split_first args) (fail-grafted _ s) (λ p. set_of-grafted p.0 p.1 s)
 
 do_append-grafted : (args : List (List ℕ)) (s : State) → Grafted (do_append args s)
 unfolding do_append
 do_append-grafted args s =
-    on-grafted (first_of args) (fail-grafted _ s) (λ p. touch-grafted p.0 s (λ s'. store-grafted p.0 _ s'))
+    on-grafted (split_first args) (fail-grafted _ s) (λ p. touch-grafted p.0 s (λ s'. store-grafted p.0 _ s'))
 
 with_appended-grafted : (n old : List ℕ) (vs : List (List ℕ)) (elements : Result (List (List ℕ)) (List ℕ)) (s : State)
     → Grafted (with_appended n old vs elements s)
@@ -67,7 +68,7 @@ append_elements-grafted n old vs s = with_appended-grafted n old vs (list_in old
 do_lappend-grafted : (args : List (List ℕ)) (s : State) → Grafted (do_lappend args s)
 unfolding do_lappend
 do_lappend-grafted args s =
-    on-grafted (first_of args) (fail-grafted _ s) (λ p.
+    on-grafted (split_first args) (fail-grafted _ s) (λ p.
     touch-grafted p.0 s (λ s'. append_elements-grafted p.0 (or_empty (value_of s'.variables p.0)) p.1 s'))
 
 with_sum-grafted : (n : List ℕ) (sum : Result (List ℕ) (List ℕ)) (s : State) → Grafted (with_sum n sum s)
@@ -81,7 +82,7 @@ add_number-grafted n by s = with_sum-grafted n (increased (or_zero (value_of s.v
 do_incr-grafted : (args : List (List ℕ)) (s : State) → Grafted (do_incr args s)
 unfolding do_incr
 do_incr-grafted args s =
-    on-grafted (first_of args) (fail-grafted _ s) (λ p.
+    on-grafted (split_first args) (fail-grafted _ s) (λ p.
     on-grafted (addend p.1) (fail-grafted _ s) (λ by. touch-grafted p.0 s (λ s'. add_number-grafted p.0 by s')))
 
 unset_one-grafted : (complains is_set : Bool) (n : List ℕ) (s : State) {f : State → Then → Play Ending} → ((s' : State) → Grafted (f s'))
@@ -103,12 +104,12 @@ do_unset-grafted args s = unset_all-grafted (unset_names args).0 (unset_names ar
 info_of-grafted : (exists : Bool) (args : List (List ℕ)) (s : State) → Grafted (info_of exists args s)
 info_of-grafted false args s = fail-grafted _ s
 info_of-grafted true args s =
-    on-grafted (one_of args) (fail-grafted _ s) (λ n. touch-grafted n s (λ s'. completes Done (truth_text (is_some (value_of s'.variables n))) s'))
+    on-grafted (only args) (fail-grafted _ s) (λ n. touch-grafted n s (λ s'. completes Done (truth_text (is_some (value_of s'.variables n))) s'))
 
 do_info-grafted : (args : List (List ℕ)) (s : State) → Grafted (do_info args s)
 unfolding do_info
 do_info-grafted args s =
-    on-grafted (first_of args) (fail-grafted _ s) (λ p. info_of-grafted (pointwise nat_eq p.0 (codes "exists")) p.1 s)
+    on-grafted (split_first args) (fail-grafted _ s) (λ p. info_of-grafted (pointwise nat_eq p.0 (codes "exists")) p.1 s)
 
 do_global-grafted : (args : List (List ℕ)) (s : State) → Grafted (do_global args s)
 unfolding do_global

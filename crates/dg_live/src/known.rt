@@ -10,6 +10,7 @@ use dg_transcript::Entry;
 fn are_bytes(bytes: &[u8])
     ensures { IsBytes bytes.now }
 {
+    // The call shows the proof that the length is a `usize`.
     let _ = bytes.len();
 }
 

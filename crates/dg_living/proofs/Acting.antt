@@ -26,7 +26,8 @@ use Rattle.dg_world.specs.declared.question.Answer.TheVariants as answer
 use Rattle.dg_world.specs.declared.test_id.TestId.{TestId}
 use Rattle.dg_language.specs.Play.{Play}
 use Rattle.dg_language.specs.State.{State, learn, with_sessions}
-use Rattle.dg_language.specs.Evaluation.{Ending, on}
+use Rattle.dg_language.specs.Evaluation.{Ending}
+use Rattle.dg_language.specs.Arguments.{on}
 use Rattle.dg_language.specs.Sessions.{Told, Late, depart, entry_for, hear_for, ask_for, entry_in, come_to, at_entry, performing}
 use Rattle.dg_living.specs.Living.{IsOfBytes, ActionFits, AsksNext, LivesOn, entries_at, with_entry}
 use Rattle.dg_living.proofs.Admitting.{Place, Allowed}

@@ -13,7 +13,8 @@ use Rattle.dg_language.specs.declared.command.TargetCommand.{TargetCommand}
 use Rattle.dg_language.specs.declared.command.TargetCommand.TheVariants.{IsTarget, IsHost, IsBuild, IsNative}
 use Rattle.dg_language.specs.declared.command.FlagCommand.{FlagCommand}
 use Rattle.dg_language.specs.State.{State, in_library, departed}
-use Rattle.dg_language.specs.Evaluation.{Nested, one_of}
+use Rattle.dg_language.specs.Evaluation.{Nested}
+use Rattle.dg_language.specs.Arguments.{only}
 use Rattle.dg_language.specs.Boards.{library_file, content_of, after_library, found, load, load_named, do_load_lib, do_is, do_is_native, do_target, is_pattern, triplet_of, do_flag}
 use Rattle.dg_living.proofs.Steps.{Lives}
 use Rattle.dg_living.proofs.Changes.{departed-same, in_library-same, flagged-same, marked-same}
@@ -47,12 +48,12 @@ module _ (nested : Nested) (inside : LivesInside nested) where
   pub do_load_lib-lives : (args : List (List ℕ)) (s : State) → Lives s (do_load_lib nested args s)
   unfolding do_load_lib
   do_load_lib-lives args s =
-      on-lives (one_of args) (fail-lives _ s) (λ f. load_named-lives (is_name (library_file f)) f s)
+      on-lives (only args) (fail-lives _ s) (λ f. load_named-lives (is_name (library_file f)) f s)
 
 do_is-lives : (m : Machine) (name : List ℕ) (args : List (List ℕ)) (s : State) → Lives s (do_is m name args s)
 unfolding do_is
 do_is-lives m name args s =
-    on-lives (one_of args) (fail-lives _ s) (λ p. ask-lives (Triplet m) s refl (λ a s' _. completes Done _ s'))
+    on-lives (only args) (fail-lives _ s) (λ p. ask-lives (Triplet m) s refl (λ a s' _. completes Done _ s'))
 
 do_is_native-lives : (args : List (List ℕ)) (s : State) → Lives s (do_is_native args s)
 unfolding do_is_native

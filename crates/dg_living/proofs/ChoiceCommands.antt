@@ -9,9 +9,11 @@ use Rattle.dg_language.specs.declared.command.ChoiceCommand.{ChoiceCommand}
 use Rattle.dg_language.specs.declared.command.ChoiceCommand.TheVariants.{Expr, Eval, If, Switch, While, For}
 use Rattle.dg_language.specs.Play.{Play}
 use Rattle.dg_language.specs.State.{State}
-use Rattle.dg_language.specs.Evaluation.{Ending, Then, Nested, two_of, four_of}
+use Rattle.dg_language.specs.Evaluation.{Ending, Then, Nested}
+use Rattle.dg_language.specs.Arguments.{two, four}
 use Rattle.dg_language.specs.Choosing.{AtCondition, clauses_at, do_otherwise, choose, do_if, next_after, between, body_if, repeat, do_while, do_for}
-use Rattle.dg_language.specs.Switching.{switched, do_taken, do_switch, text_in, evaluated, do_eval, do_choice}
+use Rattle.dg_language.specs.Switching.{switched, do_taken, do_switch, text_in, evaluated, do_eval}
+use Rattle.dg_language.specs.Language.{do_choice}
 use Rattle.dg_living.proofs.Steps.{Lives}
 use Rattle.dg_living.proofs.Steps.{LivesInside, completes, ends_out, one_after_another, cut-lives, either, on-lives, tick-lives, fail-lives, if_done-lives, loop_after-lives}
 use Rattle.dg_living.proofs.ExpressionValues.{condition-lives, do_expr-lives}
@@ -59,12 +61,12 @@ module _ (nested : Nested) (inside : LivesInside nested) where
 
   do_while-lives : (args : List (List ℕ)) (s : State) → Lives s (do_while nested args s)
   unfolding do_while
-  do_while-lives args s = on-lives (two_of args) (fail-lives _ s) (λ a. repeat-lives 100000 a.0 None a.1 s)
+  do_while-lives args s = on-lives (two args) (fail-lives _ s) (λ a. repeat-lives 100000 a.0 None a.1 s)
 
   do_for-lives : (args : List (List ℕ)) (s : State) → Lives s (do_for nested args s)
   unfolding do_for
   do_for-lives args s =
-      on-lives (four_of args) (fail-lives _ s) (λ a.
+      on-lives (four args) (fail-lives _ s) (λ a.
       if_done-lives (inside a.0 s) (λ v t. repeat-lives 100000 a.1 (Some a.2) a.3 t))
 
   do_taken-lives : (body : Result (Option (List ℕ)) (List ℕ)) (s : State) → Lives s (do_taken nested body s)

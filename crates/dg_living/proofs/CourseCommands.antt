@@ -9,7 +9,8 @@ use Rattle.dg_language.specs.declared.procedure.Binding.{Binding}
 use Rattle.dg_language.specs.declared.procedure.Procedure.{Procedure}
 use Rattle.dg_language.specs.Play.{Play}
 use Rattle.dg_language.specs.State.{State, assigned, entered, departed}
-use Rattle.dg_language.specs.Evaluation.{Ending, Then, Nested, first_of, three_of, list_in}
+use Rattle.dg_language.specs.Evaluation.{Ending, Then, Nested, list_in}
+use Rattle.dg_language.specs.Arguments.{split_first, three}
 use Rattle.dg_language.specs.Procedures.{bindings, longest, call_bound, call}
 use Rattle.dg_language.specs.Control.{digit_of, caught, catch_name, do_catch, head_or_empty, behind_first, give_each, each, with_values, with_names, do_foreach, do_control}
 use Rattle.dg_living.proofs.Steps.{Lives}
@@ -46,7 +47,7 @@ module _ (nested : Nested) (inside : LivesInside nested) where
   do_catch-lives : (args : List (List ℕ)) (s : State) → Lives s (do_catch nested args s)
   unfolding do_catch
   do_catch-lives args s =
-      on-lives (first_of args) (fail-lives _ s) (λ p.
+      on-lives (split_first args) (fail-lives _ s) (λ p.
       on-lives (catch_name p.1) (fail-lives _ s) (λ n. one_after_another (inside p.0 s) (caught-at n)))
 
   each-lives : (r : ℕ) (names : List (List ℕ)) (body : List ℕ) (vs : List (List ℕ)) (s : State) → Lives s (each nested r names body vs s)
@@ -72,7 +73,7 @@ module _ (nested : Nested) (inside : LivesInside nested) where
   do_foreach-lives : (args : List (List ℕ)) (s : State) → Lives s (do_foreach nested args s)
   unfolding do_foreach
   do_foreach-lives args s =
-      on-lives (three_of args) (fail-lives _ s) (λ a. with_names-lives (list_in a.0) a.1 a.2 s)
+      on-lives (three args) (fail-lives _ s) (λ a. with_names-lives (list_in a.0) a.1 a.2 s)
 
   pub do_control-lives : (c : ControlCommand) (args : List (List ℕ)) (s : State) → Lives s (do_control nested c args s)
   do_control-lives Foreach args s = do_foreach-lives args s

@@ -11,7 +11,8 @@ use Rattle.dg_language.specs.declared.command.VariableCommand.TheVariants.{Set, 
 use Rattle.dg_language.specs.Play.{Play}
 use Rattle.dg_language.specs.State.{State, began, began_with, assigned, unassigned}
 use Rattle.dg_expr.specs.Truth.{truth_text}
-use Rattle.dg_language.specs.Evaluation.{Ending, Then, first_of, one_of, list_in}
+use Rattle.dg_language.specs.Evaluation.{Ending, Then, list_in}
+use Rattle.dg_language.specs.Arguments.{split_first, only}
 use Rattle.dg_language.specs.Variables.{is_to_begin, first_value, begin, touch, given, read_variable, store, or_empty, set_of, do_set, do_append, with_appended, append_elements, do_lappend, addend, or_zero, increased, with_sum, add_number, do_incr, unset_one, unset_all, unset_names, do_unset, info_of, do_info, all_linked, do_global, do_variable}
 use Rattle.dg_living.proofs.Steps.{Lives}
 use Rattle.dg_living.proofs.Changes.{began-same, began-sessions, began_with-same, began_with-sessions, assigned-same, unassigned-same, all_linked-same}
@@ -50,12 +51,12 @@ set_of-lives n (_ ∷ _ ∷ _) s = fail-lives _ s
 
 do_set-lives : (args : List (List ℕ)) (s : State) → Lives s (do_set args s)
 unfolding do_set
-do_set-lives args s = on-lives (first_of args) (fail-lives _ s) (λ p. set_of-lives p.0 p.1 s)
+do_set-lives args s = on-lives (split_first args) (fail-lives _ s) (λ p. set_of-lives p.0 p.1 s)
 
 do_append-lives : (args : List (List ℕ)) (s : State) → Lives s (do_append args s)
 unfolding do_append
 do_append-lives args s =
-    on-lives (first_of args) (fail-lives _ s) (λ p. touch-lives p.0 s (λ s' _. store-lives p.0 _ s'))
+    on-lives (split_first args) (fail-lives _ s) (λ p. touch-lives p.0 s (λ s' _. store-lives p.0 _ s'))
 
 with_appended-lives : (n old : List ℕ) (vs : List (List ℕ)) (elements : Result (List (List ℕ)) (List ℕ)) (s : State)
     → Lives s (with_appended n old vs elements s)
@@ -69,7 +70,7 @@ append_elements-lives n old vs s = with_appended-lives n old vs (list_in old) s
 do_lappend-lives : (args : List (List ℕ)) (s : State) → Lives s (do_lappend args s)
 unfolding do_lappend
 do_lappend-lives args s =
-    on-lives (first_of args) (fail-lives _ s) (λ p.
+    on-lives (split_first args) (fail-lives _ s) (λ p.
     touch-lives p.0 s (λ s' _. append_elements-lives p.0 (or_empty (value_of s'.variables p.0)) p.1 s'))
 
 with_sum-lives : (n : List ℕ) (sum : Result (List ℕ) (List ℕ)) (s : State) → Lives s (with_sum n sum s)
@@ -83,7 +84,7 @@ add_number-lives n by s = with_sum-lives n (increased (or_zero (value_of s.varia
 do_incr-lives : (args : List (List ℕ)) (s : State) → Lives s (do_incr args s)
 unfolding do_incr
 do_incr-lives args s =
-    on-lives (first_of args) (fail-lives _ s) (λ p.
+    on-lives (split_first args) (fail-lives _ s) (λ p.
     on-lives (addend p.1) (fail-lives _ s) (λ by. touch-lives p.0 s (λ s' _. add_number-lives p.0 by s')))
 
 unset_one-lives : (complains is_set : Bool) (n : List ℕ) (s : State) {f : State → Then → Play Ending} → ((s' : State) → Lives s' (f s'))
@@ -105,12 +106,12 @@ do_unset-lives args s = unset_all-lives (unset_names args).0 (unset_names args).
 info_of-lives : (exists : Bool) (args : List (List ℕ)) (s : State) → Lives s (info_of exists args s)
 info_of-lives false args s = fail-lives _ s
 info_of-lives true args s =
-    on-lives (one_of args) (fail-lives _ s) (λ n. touch-lives n s (λ s' _. completes Done (truth_text (is_some (value_of s'.variables n))) s'))
+    on-lives (only args) (fail-lives _ s) (λ n. touch-lives n s (λ s' _. completes Done (truth_text (is_some (value_of s'.variables n))) s'))
 
 do_info-lives : (args : List (List ℕ)) (s : State) → Lives s (do_info args s)
 unfolding do_info
 do_info-lives args s =
-    on-lives (first_of args) (fail-lives _ s) (λ p. info_of-lives (pointwise nat_eq p.0 (codes "exists")) p.1 s)
+    on-lives (split_first args) (fail-lives _ s) (λ p. info_of-lives (pointwise nat_eq p.0 (codes "exists")) p.1 s)
 
 do_global-lives : (args : List (List ℕ)) (s : State) → Lives s (do_global args s)
 unfolding do_global

@@ -16,7 +16,8 @@ use Rattle.dg_world.specs.declared.question.Answer.TheVariants as answer
 use Rattle.dg_language.specs.declared.ask.Ask.{Ask}
 use Rattle.dg_language.specs.Play.{Play, Asks, lookup}
 use Rattle.dg_language.specs.State.{State, learn, with_sessions}
-use Rattle.dg_language.specs.Evaluation.{Ending, cut, on}
+use Rattle.dg_language.specs.Evaluation.{Ending, cut}
+use Rattle.dg_language.specs.Arguments.{on}
 use Rattle.dg_language.specs.Sessions.{Told, Late, departed_from, ask_for, hear_for, entry_for, entry_in, come_to, at_entry, perform, performing, depart}
 use Rattle.dg_language.proofs.Asking.{lookup-learned}
 use Rattle.std.proofs.lemmas.Fmt.{length-decimal-le}

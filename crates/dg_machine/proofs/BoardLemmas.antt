@@ -16,7 +16,8 @@ use Rattle.dg_language.specs.declared.code.Code.TheVariants.{Done}
 use Rattle.dg_language.specs.declared.command.FlagCommand.{FlagCommand}
 use Rattle.dg_language.specs.Play.{Play, Asks, plain, lookup}
 use Rattle.dg_language.specs.State.{State, learn, in_library, with_call}
-use Rattle.dg_language.specs.Evaluation.{Ending, Then, Nested, ask, fail, on, one_of, wrong_count}
+use Rattle.dg_language.specs.Evaluation.{Ending, Then, Nested, ask, fail, wrong_count}
+use Rattle.dg_language.specs.Arguments.{on, only}
 use Rattle.dg_expr.specs.Truth.{truth_text}
 use Rattle.dg_language.specs.Boards.{content_of, do_flag, do_is, do_is_native, do_load_lib, flag_call, flagged, found, is_pattern, library_file, load, load_named, triplet_of}
 use Rattle.dg_language.proofs.Asking.{ask-known, ask-asks, lookup-more}
@@ -53,7 +54,7 @@ module _ (nested : Nested) (f : List ℕ) where
       → Holds (library_file f) s (Known text) → load nested f s k ≡ found nested f text s k
   load-known text s k e h = load-new s k e ∙ h (λ o t. found nested f o t k)
 
-pub load_lib-of : (nested : Nested) (args : List (List ℕ)) (f : List ℕ) (b : Bool) → Some f ≡ one_of args → b ≡ is_name (library_file f)
+pub load_lib-of : (nested : Nested) (args : List (List ℕ)) (f : List ℕ) (b : Bool) → Some f ≡ only args → b ≡ is_name (library_file f)
     → do_load_lib nested args ≡ (λ s k. load_named nested b f s k)
 unfolding do_load_lib
 load_lib-of nested args f b e h =
@@ -80,7 +81,7 @@ module _ (q : Question) (g : Answer → State → Then → Play Ending) (f : Sta
 abbrev pub told_place : List ℕ → Answer → State → Then → Play Ending
 told_place p a s k = k Done (truth_text (glob_matches p (triplet_of a))) s
 
-pub is-of : (m : Place) (name : List ℕ) (args : List (List ℕ)) (p : List ℕ) → Some p ≡ one_of args
+pub is-of : (m : Place) (name : List ℕ) (args : List (List ℕ)) (p : List ℕ) → Some p ≡ only args
     → do_is m name args ≡ (λ s k. ask (Triplet m) s (λ a t. told_place p a t k))
 unfolding do_is
 is-of m name args p e =

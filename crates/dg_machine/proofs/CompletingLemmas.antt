@@ -2,8 +2,8 @@
 use Rattle.std.proofs.Common.{◌≡◌, ℕ, Bool, true, false, List, [], ◌∷◌, ◌++◌, refl}
 use Rattle.std.specs.Prelude.{is_some}
 use Rattle.dg_language.specs.Calls.{call_of}
-use Rattle.dg_language.specs.declared.completion.Effect.{Effect}
-use Rattle.dg_language.specs.declared.completion.Effect.TheVariants.{Nothing, Calls, Sets, Unsets, Defines}
+use Rattle.dg_language.specs.declared.completion.Change.{Change}
+use Rattle.dg_language.specs.declared.completion.Change.TheVariants.{Nothing, Calls, Sets, Unsets, Defines}
 use Rattle.dg_language.specs.declared.procedure.Procedure.{Procedure}
 use Rattle.dg_language.specs.State.{State, setting_of, with_setting, without_setting, defined}
 use Rattle.dg_language.specs.Completing.{performed}
@@ -32,7 +32,7 @@ known-defined : (name : List ℕ) (p : Procedure) (s : State) → (defined name 
 unfolding defined
 known-defined name p s = refl
 
-pub known-performed : (e : Effect) (s : State) → (performed e s).known ≡ s.known
+pub known-performed : (e : Change) (s : State) → (performed e s).known ≡ s.known
 known-performed Nothing s = refl
 known-performed (Calls c) s = known-called (call_of c) s
 known-performed (Sets key value) s = known-set key value s
@@ -57,7 +57,7 @@ module _ (o : Control) (fs : List Frame) where
   unfolding defined weight
   weight-defined name p s = refl
 
-  pub weight-performed : (e : Effect) (s : State) → weight o (performed e s) fs ≡ weight o s fs
+  pub weight-performed : (e : Change) (s : State) → weight o (performed e s) fs ≡ weight o s fs
   weight-performed Nothing s = refl
   weight-performed (Calls c) s = weight-called o (call_of c) s fs
   weight-performed (Sets key value) s = weight-set key value s

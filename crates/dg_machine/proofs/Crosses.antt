@@ -23,7 +23,7 @@ use Rattle.dg_compiled.proofs.making.Making.TheSendSync as making
 use Rattle.dg_machine.proofs.frame.Opening.TheSendSync as opening
 use Rattle.dg_machine.proofs.frame.Reach.TheSendSync as reach
 use Rattle.dg_compiled.proofs.stack.Stack.TheSendSync as stack
-use Rattle.dg_machine.proofs.frame.Stage.TheSendSync as stage
+use Rattle.dg_machine.proofs.frame.LoopPart.TheSendSync as stage
 use Rattle.dg_machine.specs.contracts.frame.Wait as Wait
 use Rattle.dg_machine.specs.contracts.boxed.Boxed as Boxed
 use Rattle.dg_machine.specs.contracts.evaluation.Asking as Asking

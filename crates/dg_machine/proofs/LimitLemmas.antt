@@ -2,7 +2,7 @@
 use Rattle.std.proofs.Common.{◌≡◌, ℕ, ◌+◌, ◌^◌, ◌<◌, ◌≤◌, List, ◌∷◌, length, refl, ap, sym, ◌∙◌, arith}
 use Rattle.std.specs.Prelude.{ℤ, Option, option_map, Some, None, Result, Ok, Err, codes}
 use Rattle.dg_words.specs.Reading.{words_of}
-use Rattle.dg_words.specs.declared.fault.WordFault.{WordFault}
+use Rattle.dg_lists.specs.declared.fault.WordFault.{WordFault}
 use Rattle.dg_words.specs.declared.word.Word.{Word}
 use Rattle.dg_expr.specs.Number.{number_of}
 use Rattle.dg_scope.specs.Scopes.{value_of}

@@ -10,12 +10,12 @@ use Rattle.dg_language.specs.declared.close.Close.TheVariants.{Aborted, OutOfSte
 use Rattle.dg_language.specs.Play.{Play, Ends}
 use Rattle.dg_language.specs.State.{State, stepped}
 use Rattle.dg_words.specs.declared.word.Word.{Word}
-use Rattle.dg_words.specs.declared.fault.WordFault.{WordFault}
+use Rattle.dg_lists.specs.declared.fault.WordFault.{WordFault}
 use Rattle.dg_world.specs.declared.question.Read.{Read}
 use Rattle.dg_language.specs.declared.command.Command.{Command}
 use Rattle.dg_language.specs.declared.substitution.Purpose.TheVariants.{Run}
 use Rattle.dg_language.specs.declared.command.Command.TheVariants.{Words, Unreadable}
-use Rattle.dg_words.specs.Faults.{fault_text}
+use Rattle.dg_lists.specs.Faults.{fault_text}
 use Rattle.dg_language.specs.Evaluation.{Ending, Then, cut, aborted, out_of_steps, fail, tick, if_done}
 use Rattle.dg_language.specs.Language.{command, sequence, evaluate, commands_at}
 use Rattle.dg_language.specs.Words.{gather, substitutions}

@@ -17,7 +17,8 @@ use Rattle.dg_language.specs.declared.ask.Ask.{Ask}
 use Rattle.dg_language.specs.declared.code.Code.TheVariants.{Done}
 use Rattle.dg_language.specs.Play.{Play, Asks}
 use Rattle.dg_language.specs.State.{State, learn, assigned, with_begun, with_sessions}
-use Rattle.dg_language.specs.Evaluation.{Ending, Then, fail, on}
+use Rattle.dg_language.specs.Evaluation.{Ending, Then, fail}
+use Rattle.dg_language.specs.Arguments.{on}
 use Rattle.dg_language.specs.Variables.{touch, cannot_read}
 use Rattle.dg_language.specs.Sessions.{by_id, by_spawn_id, fit_session, not_open, on_session, on_words, seek, sought, start, spawned, perform, depart, entry_in, close_and_wait, do_close, do_match_max, do_send, do_wait, kept_limit, limit_of_number, match_limit, send_to, later_limit, session_limit, set_limit}
 use Rattle.dg_language.specs.SessionWords.{id_words, match_words, send_words}

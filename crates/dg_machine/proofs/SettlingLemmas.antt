@@ -35,7 +35,7 @@ use Rattle.dg_machine.specs.declared.frame.Control.TheVariants.{Go, Ended}
 use Rattle.dg_machine.specs.declared.frame.Frame.{Frame}
 use Rattle.dg_machine.specs.declared.frame.Frame.TheVariants.{Repeating}
 use Rattle.dg_machine.specs.declared.frame.Repetition.{Repetition}
-use Rattle.dg_machine.specs.declared.frame.Stage.TheVariants.{Body, Next}
+use Rattle.dg_machine.specs.declared.frame.LoopPart.TheVariants.{Body, Next}
 use Rattle.dg_machine.specs.Choosing.{repeating}
 use Rattle.dg_compiled.specs.Calculating.{calculating}
 use Rattle.dg_compiled.specs.declared.calculation.Calculation.{Calculation}

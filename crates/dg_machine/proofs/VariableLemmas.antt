@@ -2,14 +2,15 @@
 use Rattle.std.proofs.Common.{◌≡◌, ◌≢◌, ◌<◌, ◌≤◌, ℕ, ◌+◌, length, List, [], ◌∷◌, ◌++◌, ap, subst, sym, ◌∙◌, refl, true≢false, arith}
 use Rattle.std.specs.Prelude.{Bool, true, false, is_some, Some, None, Ok, codes}
 use Rattle.std.specs.List.{concat}
-use Rattle.dg_words.specs.Canonical.{text_of_list}
-use Rattle.dg_words.specs.Elements.{elements_of}
+use Rattle.dg_lists.specs.Canonical.{text_of_list}
+use Rattle.dg_lists.specs.Elements.{elements_of}
 use Rattle.dg_scope.specs.Scopes.{value_of}
 use Rattle.dg_language.specs.declared.ask.Ask.{Ask}
 use Rattle.dg_language.specs.declared.code.Code.TheVariants.{Done}
 use Rattle.dg_language.specs.Play.{Play, Asks}
 use Rattle.dg_language.specs.State.{State, assigned, learn, with_begun, linked, unassigned}
-use Rattle.dg_language.specs.Evaluation.{Ending, Then, fail, list_in, on, or_message, wrong_count}
+use Rattle.dg_language.specs.Evaluation.{Ending, Then, fail, list_in, or_message, wrong_count}
+use Rattle.dg_language.specs.Arguments.{on}
 use Rattle.dg_language.specs.Variables.{touch, all_linked, unset_all, unset_one, store, append_elements, add_number, addend, increased, or_empty, or_zero, with_appended, with_sum, do_append, do_lappend, do_incr}
 use Rattle.dg_language.proofs.TouchLemmas.{within-short}
 use Rattle.dg_machine.specs.declared.frame.Frame.{Frame}

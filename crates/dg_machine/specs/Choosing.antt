@@ -8,8 +8,8 @@ use Rattle.dg_language.specs.Choosing.{choose, next_after, between, body_if, rep
 use Rattle.dg_language.specs.Language.{evaluate}
 use Rattle.dg_machine.specs.declared.frame.Choice.{Choice}
 use Rattle.dg_machine.specs.declared.frame.Repetition.{Repetition}
-use Rattle.dg_machine.specs.declared.frame.Stage.{Stage}
-use Rattle.dg_machine.specs.declared.frame.Stage.TheVariants.{Start, Test, Body, Next}
+use Rattle.dg_machine.specs.declared.frame.LoopPart.{LoopPart}
+use Rattle.dg_machine.specs.declared.frame.LoopPart.TheVariants.{Start, Test, Body, Next}
 
 -- an `if` goes on, once it is known whether a condition holds
 abbrev pub choosing : Choice → Then → Then
@@ -31,13 +31,13 @@ abbrev pub next_script : Repetition → State → Then → Play Ending
 next_script r s k = between (evaluate r.depth) r.next (λ t. next_test r t k) s k
 
 -- a loop goes on, by what of it has ended
-abbrev pub repeating : Repetition → Stage → Then → Then
+abbrev pub repeating : Repetition → LoopPart → Then → Then
 repeating r Start k = if_done (λ v s. next_test r s k) k
 repeating r Test k = decided (λ holds s. repeat_if r holds s k) k
 repeating r Body k = loop_after (λ s. next_script r s k) k
 repeating r Next k = next_after (λ s. next_test r s k) k
 
-abbrev pub stage_weight : Stage → ℕ
+abbrev pub stage_weight : LoopPart → ℕ
 stage_weight Start = 8
 stage_weight Test = 32
 stage_weight Body = 16

@@ -1,12 +1,12 @@
 //! Values that stand in a block of their own, so that what holds one is moved by moving a pointer.
 ghost use Rattle.std.specs.Prelude.{◌≡◌, ◌-◌, ◌<◌, None, IfOk, OnOk};
-ghost use Rattle.dg_machine.specs.declared.frame.Stage.{Stage as TheStage};
+ghost use Rattle.dg_machine.specs.declared.frame.LoopPart.{LoopPart as TheStage};
 ghost use Rattle.dg_language.specs.Play.{lookup};
 ghost use Rattle.dg_machine.specs.Meaning.{told, ComesTo};
 ghost use Rattle.dg_machine.specs.Arriving.{ComesAlong};
 
 use crate::answers::Answers;
-use crate::frame::{Repetition, Stage, Stop};
+use crate::frame::{LoopPart, Repetition, Stop};
 use crate::machine::Machine;
 use dg_world::{Answer, Question};
 use std::alloc::{AllocError, Global};
@@ -76,7 +76,7 @@ impl Boxed<Machine> {
 
 impl Boxed<Repetition> {
     /// This of the loop runs next.
-    pub fn set_stage(&mut self, stage: Stage)
+    pub fn set_stage(&mut self, stage: LoopPart)
         ensures { self.new ≡ record self.old { stage = stage } }
     {
         self.inner.stage = stage;
@@ -87,7 +87,7 @@ impl Boxed<Repetition> {
         requires { 0 < self.old.left }
         ensures { self.new ≡ record self.old { stage = TheStage.Test; left = self.old.left - 1 } }
     {
-        self.inner.stage = Stage::Test;
+        self.inner.stage = LoopPart::Test;
         self.inner.left -= 1;
     }
 }

@@ -1,7 +1,8 @@
 //! The commands `if`, `switch` and `eval`, and the way to all that compute, choose or repeat.
 ghost use Rattle.std.specs.Prelude.{◌≡◌, ◌+◌, ◌*◌, ◌^◌, ◌<◌, IfOk, length};
 ghost use Rattle.dg_language.specs.Choosing.{choose, do_if, do_otherwise};
-ghost use Rattle.dg_language.specs.Switching.{do_choice, do_eval, do_switch, evaluated};
+ghost use Rattle.dg_language.specs.Switching.{do_eval, do_switch, evaluated};
+ghost use Rattle.dg_language.specs.Language.{do_choice};
 ghost use Rattle.dg_language.specs.Language.{evaluate};
 ghost use Rattle.dg_machine.specs.declared.frame.Control.{Control};
 ghost use Rattle.dg_machine.specs.Choosing.{choosing};
@@ -142,6 +143,7 @@ impl Machine {
             return Ok(self.wrong_count(alloc, b"if")?);
         };
         let Clauses { tested, otherwise } = clauses;
+        // The call shows the proof that the length is a `usize`.
         let _count = tested.len();
         Ok(self.choose(alloc, tested, otherwise, depth)?)
     }

@@ -30,7 +30,7 @@ impl Machine {
     {
         match run_immediate(alloc, &self.state, which, args)? {
             Ok(completion) => {
-                self.state.perform(alloc, completion.effect)?;
+                self.state.perform(alloc, completion.change)?;
                 self.end(completion.code, completion.value);
                 Ok(Pace::Moved)
             }

@@ -26,9 +26,9 @@ use dg_forms::{
     timeout_action,
 };
 use dg_language::{Code, Purpose};
+use dg_lists::fault_text;
 use dg_sessions::id_of;
 use dg_transcript::Action;
-use dg_words::fault_text;
 use std::alloc::{AllocError, Global};
 
 /// The most rounds of an `expect`: each `exp_continue` takes a step.
@@ -358,6 +358,7 @@ impl Machine {
         let words = self.shelves.word_lists.reading(alloc, list)?;
         match words.begun(alloc, &self.state, Purpose::Expect)? {
             Ok(making) => {
+                // The call shows the proof that the length is a `usize`.
                 let _count = making.left.len();
                 self.stack.push(Frame::Gathering { making, depth })?;
                 Ok(Pace::Moved)

@@ -41,7 +41,7 @@ pub(crate) struct Choice {
 
 /// What of a loop over a condition runs.
 #[derive(Clone, Copy, Debug, PartialEq, Eq)]
-pub(crate) enum Stage {
+pub(crate) enum LoopPart {
     /// The first script of `for`.
     Start,
     Test,
@@ -53,7 +53,7 @@ pub(crate) enum Stage {
 /// A loop over a condition.
 #[derive(Drop)]
 pub(crate) struct Repetition {
-    pub stage: Stage,
+    pub stage: LoopPart,
     pub test: Condition,
     /// The third script of `for`.
     pub next: Option<Body>,

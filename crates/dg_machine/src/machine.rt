@@ -17,8 +17,8 @@ use dg_bytes::{Bytes, TryCopy};
 use dg_compiled::{Begun, Commands, KEPT, Making, Script, Stack};
 use dg_forms::wrong_count;
 use dg_language::{Close, Code, State, Touch};
+use dg_lists::fault_text;
 use dg_scope::LONGEST_VALUE;
-use dg_words::fault_text;
 use std::alloc::{AllocError, Global};
 use std::sync::Arc;
 
@@ -186,6 +186,7 @@ impl Machine {
         ensures comes { IfOk result (λ p. Comes (making_on making depth self.old.state (all_back (Frame.Sequence commands depth ∷ self.old.stack))) self.old.state.known (weight Control.Go self.old.state (Frame.Sequence commands depth ∷ self.old.stack) + budget making.purpose + 4 + 4 * length making.left) self.new p) }
         ensures counted { OnOk result (length making.left < 2 ^ 64) }
     {
+        // The call shows the proof that the length is a `usize`.
         let _count = making.left.len();
         if commands.is_over() {
             return Ok(self.go_on(alloc, making, depth)?);

@@ -99,6 +99,7 @@ pub(crate) fn keep_match(
     requires { LiesIn (bytes_of session state.old) hit.now }
     ensures { OnOk result (state.new ≡ with_match session (bytes_of session state.old) hit.now state.old) }
 {
+    // The call shows the proof how many bytes are held.
     let _count = count_held(state, session);
     let removed = take_match(alloc, state, session, hit)?;
     let matched = Bytes::from_slice(alloc, &removed.as_slice()[hit.start..hit.end])?;
@@ -113,6 +114,7 @@ pub(crate) fn keep_match(
 pub(crate) fn keep_end(alloc: Global, state: &mut State, session: u32) -> Result<(), AllocError>
     ensures { OnOk result (state.new ≡ with_end session (bytes_of session state.old) state.old) }
 {
+    // The call shows the proof how many bytes are held.
     let _count = count_held(state, session);
     let removed = take_all(alloc, state, session);
     write_removed(alloc, state, session, removed)?;

@@ -45,6 +45,7 @@ impl Machine {
                 Ok(self.fail(alloc, message)?)
             }
             Known::AllRead => {
+                // The call shows the proof that the length is a `usize`.
                 let _count = search.names.len();
                 Ok(self.find_text(alloc, search)?)
             }

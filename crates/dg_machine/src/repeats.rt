@@ -7,12 +7,12 @@ ghost use Rattle.dg_language.specs.Expressions.{calculate};
 ghost use Rattle.dg_language.specs.declared.code.Code.{Code};
 ghost use Rattle.dg_language.specs.Language.{commands_at, evaluate};
 ghost use Rattle.dg_machine.specs.declared.frame.Control.{Control};
-ghost use Rattle.dg_machine.specs.declared.frame.Stage.{Stage};
+ghost use Rattle.dg_machine.specs.declared.frame.LoopPart.{LoopPart};
 ghost use Rattle.dg_machine.specs.Choosing.{next_script, next_test, repeat_if, repeating, stage_weight};
 ghost use Rattle.dg_machine.specs.Meaning.{all_back, weight_of, Comes, GoesAs};
 
 use crate::boxed::Boxed;
-use crate::frame::{Frame, Pace, Repetition, Stage};
+use crate::frame::{Frame, LoopPart, Pace, Repetition};
 use crate::machine::Machine;
 use dg_bytes::{Bytes, TryCopy};
 use dg_compiled::{Body, Calculation, Computed, Condition, Script, compute_on};
@@ -52,8 +52,8 @@ impl Machine {
     #[tactic(auto, unfolding(crate::specs::Meaning::back, crate::specs::Meaning::all_back))]
     fn test(&mut self, alloc: Global, repetition: Boxed<Repetition>) -> Result<Pace, AllocError>
         requires go { self.old.control ≡ Control.Go }
-        requires stage { repetition.stage ≡ Stage.Test }
-        ensures { IfOk result (λ p. Comes (calculate (evaluate repetition.depth) repetition.test self.old.state (repeating repetition Stage.Test (all_back self.old.stack))) self.old.state.known (weight_of self.old + 2 ^ 139) self.new p) }
+        requires stage { repetition.stage ≡ LoopPart.Test }
+        ensures { IfOk result (λ p. Comes (calculate (evaluate repetition.depth) repetition.test self.old.state (repeating repetition LoopPart.Test (all_back self.old.stack))) self.old.state.known (weight_of self.old + 2 ^ 139) self.new p) }
     {
         let looped = repetition.get();
         let formula = looped.test.formula(alloc, &mut self.shelves.formulas)?;
@@ -90,7 +90,7 @@ impl Machine {
             self.end(Code::Done, Bytes::new(alloc));
             return Ok(Pace::Moved);
         }
-        repetition.set_stage(Stage::Body);
+        repetition.set_stage(LoopPart::Body);
         Ok(self.run_body(alloc, repetition)?)
     }
 
@@ -98,8 +98,8 @@ impl Machine {
     #[tactic(auto, unfolding(crate::specs::Meaning::back, crate::specs::Meaning::all_back, crate::specs::Meaning::weight, crate::specs::Meaning::stack_weight))]
     fn run_body(&mut self, alloc: Global, repetition: Boxed<Repetition>) -> Result<Pace, AllocError>
         requires go { self.old.control ≡ Control.Go }
-        requires stage { repetition.stage ≡ Stage.Body }
-        ensures { IfOk result (λ p. Comes (evaluate repetition.depth repetition.body self.old.state (repeating repetition Stage.Body (all_back self.old.stack))) self.old.state.known (weight_of self.old + 24) self.new p) }
+        requires stage { repetition.stage ≡ LoopPart.Body }
+        ensures { IfOk result (λ p. Comes (evaluate repetition.depth repetition.body self.old.state (repeating repetition LoopPart.Body (all_back self.old.stack))) self.old.state.known (weight_of self.old + 24) self.new p) }
     {
         let looped = repetition.get();
         let depth = looped.depth;
@@ -126,8 +126,8 @@ impl Machine {
         value: Bytes,
     ) -> Result<Pace, AllocError>
         requires go { self.old.control ≡ Control.Go }
-        requires stage { repetition.stage ≡ Stage.Body }
-        ensures { IfOk result (λ p. Comes (repeating repetition Stage.Body (all_back self.old.stack) Code.Done value self.old.state) self.old.state.known (weight_of self.old + 24) self.new p) }
+        requires stage { repetition.stage ≡ LoopPart.Body }
+        ensures { IfOk result (λ p. Comes (repeating repetition LoopPart.Body (all_back self.old.stack) Code.Done value self.old.state) self.old.state.known (weight_of self.old + 24) self.new p) }
     {
         let Some(next) = &repetition.get().next else {
             self.stack.push(Frame::Repeating { repetition })?;
@@ -147,7 +147,7 @@ impl Machine {
         commands: Script,
     ) -> Result<Pace, AllocError>
         requires { self.old.control ≡ Control.Go }
-        ensures { IfOk result (λ p. (text : List ℕ) → commands ≡ commands_at text 0 → Comes (evaluate repetition.depth text self.old.state (repeating repetition Stage.Next (all_back self.old.stack))) self.old.state.known (weight_of self.old + 16) self.new p) }
+        ensures { IfOk result (λ p. (text : List ℕ) → commands ≡ commands_at text 0 → Comes (evaluate repetition.depth text self.old.state (repeating repetition LoopPart.Next (all_back self.old.stack))) self.old.state.known (weight_of self.old + 16) self.new p) }
     {
         let depth = repetition.get().depth;
         if depth == 0 {
@@ -156,7 +156,7 @@ impl Machine {
         }
         let mut value = Bytes::new(alloc);
         let left = self.settle(alloc, commands, &mut value, depth - 1)?;
-        repetition.set_stage(Stage::Next);
+        repetition.set_stage(LoopPart::Next);
         self.stack.push(Frame::Repeating { repetition })?;
         if left.is_over() {
             self.end(Code::Done, value);
@@ -192,7 +192,7 @@ impl Machine {
         value: Bytes,
     ) -> Result<Pace, AllocError>
         requires { self.old.control ≡ Control.Go }
-        ensures { IfOk result (λ p. Comes (repeating repetition Stage.Start (all_back self.old.stack) code value self.old.state) self.old.state.known (weight_of self.old + 8) self.new p) }
+        ensures { IfOk result (λ p. Comes (repeating repetition LoopPart.Start (all_back self.old.stack) code value self.old.state) self.old.state.known (weight_of self.old + 8) self.new p) }
     {
         match code {
             Code::Done => Ok(self.next_test(alloc, repetition)?),
@@ -212,7 +212,7 @@ impl Machine {
         value: Bytes,
     ) -> Result<Pace, AllocError>
         requires { self.old.control ≡ Control.Go }
-        ensures { IfOk result (λ p. Comes (repeating repetition Stage.Test (all_back self.old.stack) code value self.old.state) self.old.state.known (weight_of self.old + 32) self.new p) }
+        ensures { IfOk result (λ p. Comes (repeating repetition LoopPart.Test (all_back self.old.stack) code value self.old.state) self.old.state.known (weight_of self.old + 32) self.new p) }
     {
         match code {
             Code::Done => match truth_in(alloc, value.as_slice())? {
@@ -235,7 +235,7 @@ impl Machine {
         value: Bytes,
     ) -> Result<Pace, AllocError>
         requires { self.old.control ≡ Control.Go }
-        ensures { IfOk result (λ p. Comes (repeating repetition Stage.Body (all_back self.old.stack) code value self.old.state) self.old.state.known (weight_of self.old + 16) self.new p) }
+        ensures { IfOk result (λ p. Comes (repeating repetition LoopPart.Body (all_back self.old.stack) code value self.old.state) self.old.state.known (weight_of self.old + 16) self.new p) }
     {
         match code {
             Code::Done | Code::Continued => Ok(self.next_script(alloc, repetition)?),
@@ -254,7 +254,7 @@ impl Machine {
         value: Bytes,
     ) -> Result<Pace, AllocError>
         requires { self.old.control ≡ Control.Go }
-        ensures { IfOk result (λ p. Comes (repeating repetition Stage.Next (all_back self.old.stack) code value self.old.state) self.old.state.known (weight_of self.old + 8) self.new p) }
+        ensures { IfOk result (λ p. Comes (repeating repetition LoopPart.Next (all_back self.old.stack) code value self.old.state) self.old.state.known (weight_of self.old + 8) self.new p) }
     {
         match code {
             Code::Done => Ok(self.next_test(alloc, repetition)?),
@@ -277,10 +277,10 @@ impl Machine {
         ensures { IfOk result (λ p. Comes (repeating repetition repetition.stage (all_back self.old.stack) code value self.old.state) self.old.state.known (weight_of self.old + stage_weight repetition.stage) self.new p) }
     {
         match repetition.get().stage {
-            Stage::Start => self.behind_start(alloc, repetition, code, value),
-            Stage::Test => self.behind_test(alloc, repetition, code, value),
-            Stage::Body => self.behind_body(alloc, repetition, code, value),
-            Stage::Next => self.behind_next(alloc, repetition, code, value),
+            LoopPart::Start => self.behind_start(alloc, repetition, code, value),
+            LoopPart::Test => self.behind_test(alloc, repetition, code, value),
+            LoopPart::Body => self.behind_body(alloc, repetition, code, value),
+            LoopPart::Next => self.behind_next(alloc, repetition, code, value),
         }
     }
 
@@ -299,7 +299,7 @@ impl Machine {
             return Ok(self.wrong_count(alloc, b"while")?);
         };
         let repetition = Repetition {
-            stage: Stage::Start,
+            stage: LoopPart::Start,
             test: Condition::new(alloc, &mut self.shelves.formulas, test)?,
             next: None,
             body: Body::new(alloc, &mut self.shelves.scripts, body)?,
@@ -327,7 +327,7 @@ impl Machine {
             return Ok(self.wrong_count(alloc, b"for")?);
         };
         let repetition = Repetition {
-            stage: Stage::Start,
+            stage: LoopPart::Start,
             test: Condition::new(alloc, &mut self.shelves.formulas, test)?,
             next: Some(Body::new(alloc, &mut self.shelves.scripts, next)?),
             body: Body::new(alloc, &mut self.shelves.scripts, body)?,

@@ -33,6 +33,7 @@ impl Machine {
             return Ok(Pace::Over(closing));
         }
         self.state.take_step();
+        // The call shows the proof that the length is a `usize`.
         let _count = rounds.names.len();
         rounds.left -= 1;
         rounds.given = Some(0);

@@ -15,7 +15,7 @@ use dg_bytes::{Bytes, Seq, TryCopy};
 use dg_expr::truth_text;
 use dg_forms::{addend, cannot_unset, elements_held, increased, only, split};
 use dg_language::{Code, Queue, VariableCommand};
-use dg_words::fault_text;
+use dg_lists::fault_text;
 use std::alloc::{AllocError, Global};
 
 /// A value, or the empty text in the place of none.
@@ -382,6 +382,7 @@ impl Machine {
         requires { self.old.control ≡ Control.Go }
         ensures { IfOk result (RunsAs (do_variable which args.now) self.old self.new) }
     {
+        // The call shows the proof that the length is a `usize`.
         let _count = args.len();
         match which {
             VariableCommand::Set => self.set(alloc, args),

@@ -5,8 +5,8 @@ use Rattle.std.specs.Ordering.{nat_cmp}
 use Rattle.std.specs.Cmp.Lexicographic.{slice_cmp}
 use Rattle.std.specs.FinMap as map
 use Rattle.std.specs.FinMap.{FinMap}
-use Rattle.dg_words.specs.Canonical.{text_of_list}
-use Rattle.dg_words.specs.Elements.{elements_of}
+use Rattle.dg_lists.specs.Canonical.{text_of_list}
+use Rattle.dg_lists.specs.Elements.{elements_of}
 use Rattle.dg_scope.specs.Names.{is_qualified, global_name, base_of}
 use Rattle.dg_scope.specs.declared.scope.Slot.{Slot}
 use Rattle.dg_scope.specs.declared.scope.Slot.TheVariants.{Held, Link}

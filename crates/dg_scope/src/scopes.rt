@@ -2,9 +2,9 @@
 ghost use Rattle.std.specs.Prelude.{◌≡◌, ◌∷◌, ◌++◌, [], ◌⊎◌, ℕ, List, IsFalse, Ok, Err, ◌<◌, ◌≤◌, ◌↔◌, IsTrue, is_some, Some, None, false, IsSome, IfOk, IfSome, IfErr, OnOk, OnErr, length};
 ghost use Rattle.std.specs.Option.{option_copied};
 ghost use Rattle.std.specs.FinMap as map;
-ghost use Rattle.dg_words.specs.Appending.{Refuses};
-ghost use Rattle.dg_words.specs.Canonical.{text_of_list};
-ghost use Rattle.dg_words.specs.Elements.{elements_of};
+ghost use Rattle.dg_lists.specs.Appending.{Refuses};
+ghost use Rattle.dg_lists.specs.Canonical.{text_of_list};
+ghost use Rattle.dg_lists.specs.Elements.{elements_of};
 ghost use Rattle.dg_scope.specs.Scopes.{LongerList, or_none, value_limit, no_variables, means_global, global_value, value_of, with_global, with_value, without_value, with_link, with_scope, with_outermost, without_scope};
 
 use crate::fault::ScopeFault;
@@ -12,7 +12,7 @@ use crate::name::{global_name, is_plain};
 use crate::scope::{Scope, Slot, exchange_own, own_value};
 use crate::table::Table;
 use dg_bytes::Bytes;
-use dg_words::{ListFault, append_elements};
+use dg_lists::{ListFault, append_elements};
 use std::alloc::{AllocError, Global};
 use std::marker::Model;
 

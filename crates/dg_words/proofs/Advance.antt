@@ -1,33 +1,35 @@
 -- The reading of a command gets on, and its faults are the text's own.
 use Rattle.std.specs.Prelude.{◌≡◌, ◌≢◌, ℕ, ◌+◌, ◌≤◌, ◌<◌, List, [], ◌∷◌, length, drop, refl, Result, Ok, Err, Bool, true, false, Option, None, Some, ◌⊎◌, MatchResult, IfOk, nat_lt}
 use Rattle.std.proofs.Common.{arith, subst, sym, ap, inl, inr, length-drop}
-use Rattle.dg_words.specs.declared.fault.WordFault.{WordFault}
-use Rattle.dg_words.specs.declared.fault.WordFault.TheVariants.{MissingBracket, MissingParen, Memory}
-use Rattle.dg_words.specs.declared.kinds.Class.{Class}
-use Rattle.dg_words.specs.declared.kinds.Class.TheVariants as class
+use Rattle.dg_lists.specs.declared.fault.WordFault.{WordFault}
+use Rattle.dg_lists.specs.declared.fault.WordFault.TheVariants.{MissingBracket, MissingParen, Memory}
+use Rattle.dg_lists.specs.declared.kinds.Class.{Class}
+use Rattle.dg_lists.specs.declared.kinds.Class.TheVariants as class
 use Rattle.dg_words.specs.declared.kinds.Level.{Level}
 use Rattle.dg_words.specs.declared.kinds.Level.TheVariants as level
-use Rattle.dg_words.specs.declared.kinds.Spot.{Spot}
-use Rattle.dg_words.specs.declared.kinds.Spot.TheVariants.{Bare, Quoted, Index, Alone}
-use Rattle.dg_words.specs.declared.kinds.Outer.{Outer}
-use Rattle.dg_words.specs.declared.kinds.Mode.{Mode}
-use Rattle.dg_words.specs.declared.kinds.Mode.TheVariants.{Start, StartPair, Comment, CommentPair, Gap, GapPair, Operand, In, Pair, Join, Dollar, Colon, Name, NameBrace, Number, BraceFirst, BraceStar, BehindStar, StarPair, Braced, BracedPair, BracedJoin, Behind, BehindPair}
-use Rattle.dg_words.specs.declared.kinds.Deed.{Deed}
-use Rattle.dg_words.specs.declared.kinds.Ending.{Ending}
-use Rattle.dg_words.specs.declared.kinds.Ending.TheVariants as ending
-use Rattle.dg_words.specs.declared.kinds.Next.{Next}
-use Rattle.dg_words.specs.declared.kinds.Next.TheVariants as next
-use Rattle.dg_words.specs.declared.kinds.Turn.{Turn}
+use Rattle.dg_lists.specs.declared.kinds.Context.{Context}
+use Rattle.dg_lists.specs.declared.kinds.Context.TheVariants.{Bare, Quoted, Index, Alone}
+use Rattle.dg_words.specs.declared.kinds.Opener.{Opener}
+use Rattle.dg_lists.specs.declared.kinds.Mode.{Mode}
+use Rattle.dg_lists.specs.declared.kinds.Mode.TheVariants.{Start, StartPair, Comment, CommentPair, Gap, GapPair, Operand, In, Pair, Join, Dollar, Colon, Name, NameBrace, Number, BraceFirst, BraceStar, BehindStar, StarPair, Braced, BracedPair, BracedJoin, Behind, BehindPair}
+use Rattle.dg_lists.specs.declared.kinds.Effect.{Effect}
+use Rattle.dg_lists.specs.declared.kinds.Ending.{Ending}
+use Rattle.dg_lists.specs.declared.kinds.Ending.TheVariants as ending
+use Rattle.dg_lists.specs.declared.kinds.Target.{Target}
+use Rattle.dg_lists.specs.declared.kinds.Target.TheVariants as target
+use Rattle.dg_lists.specs.declared.kinds.Transition.{Transition}
 use Rattle.dg_words.specs.declared.word.Parsed.{Parsed}
 use Rattle.dg_words.specs.declared.word.Word.{Word}
-use Rattle.dg_words.specs.Classes.{class_of, heard}
-use Rattle.dg_words.specs.Turns.{turn, ends, spot_ends, number_ends, rests, whole, in_start}
-use Rattle.dg_words.specs.Machine.{Draft, Move, Go, Over, Fails, State, Answer, onward, stopped, step, stop, read, fresh, follow, follow_inside, has_room, opens, leaves, leaves_index, take_turn, level_in, perform, ended, is_none}
+use Rattle.dg_lists.specs.Classes.{class_of}
+use Rattle.dg_words.specs.Transitions.{heard}
+use Rattle.dg_lists.specs.Transitions.{whole}
+use Rattle.dg_words.specs.Transitions.{transition, ends, context_ends, number_ends, rests, in_start}
+use Rattle.dg_words.specs.Machine.{Draft, Stepped, Go, Over, Fails, State, Answer, onward, stopped, step, stop, read, fresh, follow, follow_inside, has_room, opens, leaves, leaves_index, take_transition, level_in, perform, ended, is_none}
 use Rattle.dg_words.specs.Reading.{kind_of, words_only, command_at, words_of, operand_at}
 use Rattle.dg_words.specs.Answers.{Gives}
 use Rattle.dg_words.proofs.Loop.{Falls, step_falls}
 use Rattle.dg_words.proofs.Kept.{Kept, Keeps, step_keeps, fresh_kept}
-use Rattle.dg_words.proofs.Own.{Own, after_own, turn_own}
+use Rattle.dg_words.proofs.Own.{Own, after_own, transition_own}
 
 ok_place : (d : ℕ) (a : Answer) → ℕ
 ok_place d (Ok x) = x.1
@@ -43,7 +45,7 @@ unfolding ok_place
 halted (Ok vs) p q ws e = ap (ok_place p) e
 halted (Err f) p q ws e = absurd cc
 
-moved : (d n p q : ℕ) (m : Move) (ws : List Word) (more : State → Answer) → Falls d m → ((s : State) → more s ≡ Ok (ws, q) → (p + 1 ≤ q) × (q ≤ p + 1 + n)) →
+moved : (d n p q : ℕ) (m : Stepped) (ws : List Word) (more : State → Answer) → Falls d m → ((s : State) → more s ≡ Ok (ws, q) → (p + 1 ≤ q) × (q ≤ p + 1 + n)) →
     onward m p more ≡ Ok (ws, q) → (p ≤ q) × (q ≤ p + 1 + n)
 unfolding ok_place
 moved d n p q (Go s) ws more f ih e = let h = ih s e in (omega (arith, h.0), omega (arith, h.1))
@@ -58,8 +60,8 @@ range l (b ∷ bs) s p q ws e =
     (omega (arith, h.0), omega (arith, h.1))
 
 -- no command begins by ending before its byte
-abbrev Stays : Next → Type 0
-Stays next.Rest = ⊥
+abbrev Stays : Target → Type 0
+Stays target.Rest = ⊥
 Stays n = Unit {0}
 
 start_stays : (c : Class) (b : ℕ) → Stays (in_start level.Top (heard level.Top c) b).next
@@ -75,11 +77,11 @@ start_stays class.RightBracket b = tt
 start_stays class.Dollar b = tt
 start_stays c b = tt
 
-turn_stays : (deep : Bool) (c : Class) (b : ℕ) → Stays (turn level.Top deep Start c b).next
-unfolding turn
-turn_stays deep c b = start_stays c b
+transition_stays : (deep : Bool) (c : Class) (b : ℕ) → Stays (transition level.Top deep Start c b).next
+unfolding transition
+transition_stays deep c b = start_stays c b
 
-abbrev Takes : Move → Type 0
+abbrev Takes : Stepped → Type 0
 Takes (Over ws k) = k ≡ 1
 Takes m = Unit {0}
 
@@ -87,26 +89,26 @@ opens_takes : (b : Bool) (f : WordFault) (s : State) → Takes (opens b f s)
 opens_takes true f s = tt
 opens_takes false f s = tt
 
-leave_takes : (is : List Spot) (n : ℕ) (d : Draft) → Takes (leaves_index is n d)
+leave_takes : (is : List Context) (n : ℕ) (d : Draft) → Takes (leaves_index is n d)
 leave_takes [] n d = tt
 leave_takes (i ∷ is) n d = tt
 
-follow_takes : (x : Next) (n : ℕ) (d : Draft) → Stays x → Takes (follow x n d)
-follow_takes (next.To m) n d h = tt
-follow_takes next.Deeper n d h = tt
-follow_takes next.Shallower n d h = tt
-follow_takes (next.Bracket s) n d h = opens_takes (has_room d []) _ _
-follow_takes (next.Paren s) n d h = opens_takes (has_room d []) _ _
-follow_takes next.Leave n d h = leave_takes d.indices n d
-follow_takes next.End n d h = refl
-follow_takes next.Rest n d h = absurd h
-follow_takes (next.Bad f) n d h = tt
+follow_takes : (x : Target) (n : ℕ) (d : Draft) → Stays x → Takes (follow x n d)
+follow_takes (target.To m) n d h = tt
+follow_takes target.Deeper n d h = tt
+follow_takes target.Shallower n d h = tt
+follow_takes (target.Bracket s) n d h = opens_takes (has_room d []) _ _
+follow_takes (target.Paren s) n d h = opens_takes (has_room d []) _ _
+follow_takes target.Leave n d h = leave_takes d.indices n d
+follow_takes target.End n d h = refl
+follow_takes target.Rest n d h = absurd h
+follow_takes (target.Bad f) n d h = tt
 
 first_takes : (b : ℕ) → Takes (step level.Top (fresh Start) b)
 unfolding step
-first_takes b = follow_takes (turn level.Top (nat_lt 0 0) Start (class_of b) b).next 0 _ (turn_stays (nat_lt 0 0) (class_of b) b)
+first_takes b = follow_takes (transition level.Top (nat_lt 0 0) Start (class_of b) b).next 0 _ (transition_stays (nat_lt 0 0) (class_of b) b)
 
-moved_on : (p q : ℕ) (m : Move) (ws : List Word) (more : State → Answer) → Takes m → ((s : State) → more s ≡ Ok (ws, q) → p + 1 ≤ q) → onward m p more ≡ Ok (ws, q) → p < q
+moved_on : (p q : ℕ) (m : Stepped) (ws : List Word) (more : State → Answer) → Takes m → ((s : State) → more s ≡ Ok (ws, q) → p + 1 ≤ q) → onward m p more ≡ Ok (ws, q) → p < q
 unfolding ok_place
 moved_on p q (Go s) ws more t ih e = omega (arith, ih s e)
 moved_on p q (Over vs k) ws more t ih e = let same : p + k ≡ q = ap (ok_place p) e in omega (arith, t)
@@ -121,7 +123,7 @@ unfolding read
 begun [] p q ws e ne = absurd (ne (none_left p q ws e))
 begun (b ∷ bs) p q ws e ne = moved_on p q (step level.Top (fresh Start) b) ws (λ n. read level.Top bs n (p + 1)) (first_takes b) (λ n r. (range level.Top bs n (p + 1) q ws r).0) e
 
-moved_over : (n p q : ℕ) (m : Move) (more : State → Answer) → Keeps m → ((s : State) → Kept s → more s ≡ Ok ([], q) → q ≡ p + 1 + n) → onward m p more ≡ Ok ([], q) → q ≡ p + 1 + n
+moved_over : (n p q : ℕ) (m : Stepped) (more : State → Answer) → Keeps m → ((s : State) → Kept s → more s ≡ Ok ([], q) → q ≡ p + 1 + n) → onward m p more ≡ Ok ([], q) → q ≡ p + 1 + n
 unfolding ok_words
 moved_over n p q (Go s) more k ih e = ih s k e
 moved_over n p q (Over vs j) more k ih e = absurd (k (ap (ok_words vs) e))
@@ -134,7 +136,7 @@ all_left (b ∷ bs) s p q k e =
     let h = moved_over (length bs) p q (step level.Top s b) (λ n. read level.Top bs n (p + 1)) (step_keeps s b k) (λ n kn r. let x = all_left bs n (p + 1) q kn r in omega (arith, x)) e in omega (arith, h)
 
 -- no fault of a text is Memory
-abbrev OwnMove : Move → Type 0
+abbrev OwnMove : Stepped → Type 0
 OwnMove (Fails f) = f ≢ Memory
 OwnMove m = Unit {0}
 
@@ -142,7 +144,7 @@ opens_own : (b : Bool) (f : WordFault) (s : State) → f ≢ Memory → OwnMove 
 opens_own true f s h = tt
 opens_own false f s h = h
 
-leave_own : (is : List Spot) (n : ℕ) (d : Draft) → OwnMove (leaves_index is n d)
+leave_own : (is : List Context) (n : ℕ) (d : Draft) → OwnMove (leaves_index is n d)
 leave_own [] n d = tt
 leave_own (i ∷ is) n d = tt
 
@@ -152,60 +154,60 @@ bracket_own e = cc
 paren_own : MissingParen ≢ Memory
 paren_own e = cc
 
-follow_own : (x : Next) (n : ℕ) (d : Draft) → Own x → OwnMove (follow x n d)
-follow_own (next.To m) n d h = tt
-follow_own next.Deeper n d h = tt
-follow_own next.Shallower n d h = tt
-follow_own (next.Bracket s) n d h = opens_own (has_room d []) _ _ bracket_own
-follow_own (next.Paren s) n d h = opens_own (has_room d []) _ _ paren_own
-follow_own next.Leave n d h = leave_own d.indices n d
-follow_own next.End n d h = tt
-follow_own next.Rest n d h = tt
-follow_own (next.Bad f) n d h = h
+follow_own : (x : Target) (n : ℕ) (d : Draft) → Own x → OwnMove (follow x n d)
+follow_own (target.To m) n d h = tt
+follow_own target.Deeper n d h = tt
+follow_own target.Shallower n d h = tt
+follow_own (target.Bracket s) n d h = opens_own (has_room d []) _ _ bracket_own
+follow_own (target.Paren s) n d h = opens_own (has_room d []) _ _ paren_own
+follow_own target.Leave n d h = leave_own d.indices n d
+follow_own target.End n d h = tt
+follow_own target.Rest n d h = tt
+follow_own (target.Bad f) n d h = h
 
-leaves_own : (os : List Outer) (n : ℕ) (d : Draft) (b : ℕ) → OwnMove (leaves os n d b)
+leaves_own : (os : List Opener) (n : ℕ) (d : Draft) (b : ℕ) → OwnMove (leaves os n d b)
 leaves_own [] n d b = tt
 leaves_own (o ∷ []) n d b = tt
 leaves_own (o ∷ p ∷ os) n d b = tt
 
-inside_own : (x : Next) (n : ℕ) (os : List Outer) (d : Draft) (b : ℕ) → Own x → OwnMove (follow_inside x n os d b)
-inside_own (next.To m) n os d b h = tt
-inside_own next.Deeper n os d b h = tt
-inside_own next.Shallower n os d b h = tt
-inside_own (next.Bracket s) n os d b h = opens_own (has_room d os) _ _ bracket_own
-inside_own (next.Paren s) n os d b h = opens_own (has_room d os) _ _ paren_own
-inside_own next.Leave n os d b h = leaves_own os n d b
-inside_own next.End n os d b h = tt
-inside_own next.Rest n os d b h = tt
-inside_own (next.Bad f) n os d b h = h
+inside_own : (x : Target) (n : ℕ) (os : List Opener) (d : Draft) (b : ℕ) → Own x → OwnMove (follow_inside x n os d b)
+inside_own (target.To m) n os d b h = tt
+inside_own target.Deeper n os d b h = tt
+inside_own target.Shallower n os d b h = tt
+inside_own (target.Bracket s) n os d b h = opens_own (has_room d os) _ _ bracket_own
+inside_own (target.Paren s) n os d b h = opens_own (has_room d os) _ _ paren_own
+inside_own target.Leave n os d b h = leaves_own os n d b
+inside_own target.End n os d b h = tt
+inside_own target.Rest n os d b h = tt
+inside_own (target.Bad f) n os d b h = h
 
-turn_move_own : (t : Turn) (n : ℕ) (os : List Outer) (d : Draft) (b : ℕ) → Own t.next → OwnMove (take_turn t n os d b)
-turn_move_own t n [] d b h = follow_own t.next n (perform t.second (perform t.first d)) h
-turn_move_own t n (o ∷ os) d b h = inside_own t.next n (o ∷ os) d b h
+transition_move_own : (t : Transition) (n : ℕ) (os : List Opener) (d : Draft) (b : ℕ) → Own t.next → OwnMove (take_transition t n os d b)
+transition_move_own t n [] d b h = follow_own t.next n (perform t.second (perform t.first d)) h
+transition_move_own t n (o ∷ os) d b h = inside_own t.next n (o ∷ os) d b h
 
 step_own : (l : Level) (s : State) (b : ℕ) → OwnMove (step l s b)
 unfolding step
-step_own l s b = turn_move_own (turn (level_in l s.inner) (nat_lt 0 s.depth) s.mode (class_of b) b) s.depth s.inner s.draft b (turn_own (level_in l s.inner) (nat_lt 0 s.depth) s.mode (class_of b) b)
+step_own l s b = transition_move_own (transition (level_in l s.inner) (nat_lt 0 s.depth) s.mode (class_of b) b) s.depth s.inner s.draft b (transition_own (level_in l s.inner) (nat_lt 0 s.depth) s.mode (class_of b) b)
 
 abbrev OwnEnd : Ending → Type 0
 OwnEnd (ending.Bad f) = f ≢ Memory
 OwnEnd e = Unit {0}
 
-spot_end_own : (top : Bool) (s : Spot) (d e : Deed) → OwnEnd (spot_ends top s d e)
-spot_end_own top Quoted d e = λ x. cc
-spot_end_own top Index d e = λ x. cc
-spot_end_own true Bare d e = tt
-spot_end_own true Alone d e = tt
-spot_end_own false Bare d e = λ x. cc
-spot_end_own false Alone d e = λ x. cc
+context_end_own : (top : Bool) (s : Context) (d e : Effect) → OwnEnd (context_ends top s d e)
+context_end_own top Quoted d e = λ x. cc
+context_end_own top Index d e = λ x. cc
+context_end_own true Bare d e = tt
+context_end_own true Alone d e = tt
+context_end_own false Bare d e = λ x. cc
+context_end_own false Alone d e = λ x. cc
 
-number_end_own : (top : Bool) (s : Spot) (d : Option Deed) → OwnEnd (number_ends top s d)
-number_end_own top s (Some d) = spot_end_own top s _ d
+number_end_own : (top : Bool) (s : Context) (d : Option Effect) → OwnEnd (number_ends top s d)
+number_end_own top s (Some d) = context_end_own top s _ d
 number_end_own true Bare None = λ x. cc
 number_end_own true Alone None = λ x. cc
 number_end_own true Quoted None = λ x. cc
 number_end_own true Index None = λ x. cc
-number_end_own false s None = spot_end_own false s _ _
+number_end_own false s None = context_end_own false s _ _
 
 rests_own : (top : Bool) (e : Ending) → OwnEnd e → OwnEnd (rests top e)
 rests_own true e h = h
@@ -220,12 +222,12 @@ ends_own top CommentPair = rests_own top _ tt
 ends_own top Gap = rests_own top _ tt
 ends_own top GapPair = rests_own top _ tt
 ends_own top Operand = rests_own top _ tt
-ends_own top (In s) = spot_end_own top s _ _
-ends_own top (Pair s) = spot_end_own top s _ _
-ends_own top (Join s) = spot_end_own top s _ _
-ends_own top (Dollar s) = spot_end_own top s _ _
-ends_own top (Colon s) = spot_end_own top s _ _
-ends_own top (Name s) = spot_end_own top s _ _
+ends_own top (In s) = context_end_own top s _ _
+ends_own top (Pair s) = context_end_own top s _ _
+ends_own top (Join s) = context_end_own top s _ _
+ends_own top (Dollar s) = context_end_own top s _ _
+ends_own top (Colon s) = context_end_own top s _ _
+ends_own top (Name s) = context_end_own top s _ _
 ends_own top (NameBrace s) = λ x. cc
 ends_own top (Number s n) = number_end_own top s (whole n)
 ends_own top BraceFirst = λ x. cc
@@ -251,7 +253,7 @@ stopped_own : (r : Result (List Word) WordFault) (p : ℕ) → r ≢ Err Memory 
 stopped_own (Ok vs) p n e = cc
 stopped_own (Err f) p n e = n (let same : f ≡ Memory = cc in ap Err same)
 
-onward_own : (m : Move) (p : ℕ) (more : State → Answer) → OwnMove m → ((s : State) → kind_of (more s) ≢ Err Memory) → kind_of (onward m p more) ≢ Err Memory
+onward_own : (m : Stepped) (p : ℕ) (more : State → Answer) → OwnMove m → ((s : State) → kind_of (more s) ≢ Err Memory) → kind_of (onward m p more) ≢ Err Memory
 onward_own (Go s) p more o ih e = ih s e
 onward_own (Over vs k) p more o ih e = cc
 onward_own (Fails f) p more o ih e = o cc

@@ -1,12 +1,12 @@
 -- A fault is the first, and a command ends where it does: what follows has no part in it.
 use Rattle.std.specs.Prelude.{◌≡◌, ℕ, ◌+◌, List, [], ◌∷◌, ◌++◌, length, refl, ◌⊎◌, Result, Ok, Err}
 use Rattle.std.proofs.Common.{arith, sym, ◌∙◌, ap, inl, inr}
-use Rattle.dg_words.specs.declared.fault.WordFault.{WordFault}
+use Rattle.dg_lists.specs.declared.fault.WordFault.{WordFault}
 use Rattle.dg_words.specs.declared.kinds.Level.{Level}
 use Rattle.dg_words.specs.declared.kinds.Level.TheVariants.{Top}
-use Rattle.dg_words.specs.declared.kinds.Mode.TheVariants.{Start}
+use Rattle.dg_lists.specs.declared.kinds.Mode.TheVariants.{Start}
 use Rattle.dg_words.specs.declared.word.Word.{Word}
-use Rattle.dg_words.specs.Machine.{Move, Go, Over, Fails, State, Answer, onward, stopped, step, stop, read, fresh}
+use Rattle.dg_words.specs.Machine.{Stepped, Go, Over, Fails, State, Answer, onward, stopped, step, stop, read, fresh}
 use Rattle.dg_words.specs.First.{FirstCommand, FirstFault}
 
 err_of : WordFault × ℕ → Answer → WordFault × ℕ
@@ -37,7 +37,7 @@ err_place : (f : WordFault) (p q : ℕ) (g : WordFault) → ◌≡◌ {A = Answe
 unfolding err_of
 err_place f p q g e = sym (ap (λ a. (err_of (f, p) a).1) e)
 
-turned : (l : Level) (s : State) (b : ℕ) (bs : List ℕ) (p : ℕ) (m : Move) → step l s b ≡ m → ((n : State) → Told l n bs (p + 1) (read l bs n (p + 1))) →
+turned : (l : Level) (s : State) (b : ℕ) (bs : List ℕ) (p : ℕ) (m : Stepped) → step l s b ≡ m → ((n : State) → Told l n bs (p + 1) (read l bs n (p + 1))) →
     Told l s (b ∷ bs) p (onward m p (λ n. read l bs n (p + 1)))
 unfolding read
 turned l s b bs p (Go n) e rec = further l s n b bs p (read l bs n (p + 1)) e (rec n)

@@ -1,8 +1,5 @@
 -- What the grammar spells, and what is read.
-pub mod Numbers
-pub mod Bytes
-pub mod ListRead
-pub mod ListSpelled
+pub mod Reads
 pub mod Segments
 pub mod Pieces
 pub mod Between
@@ -24,10 +21,7 @@ pub mod InOrder
 pub mod Inmost
 pub mod Missing
 pub mod Faults
-pub mod ListSteps
 pub mod Trails
-pub mod ListFaults
-pub mod ListKinds
 pub mod Wrong
 pub mod Plain
 pub mod OneKind

@@ -6,9 +6,5 @@ pub mod Turning
 pub mod Own
 pub mod Kept
 pub mod Advance
-pub mod Listing
-pub mod ListRuns
-pub mod ByClass
-pub mod RoundTrip
 pub mod First
 pub mod GrammarLemmas

@@ -1,8 +1,8 @@
 -- What makes a fault the first, and a command end where it does: what follows has no part in it.
 use Rattle.std.specs.Prelude.{◌≡◌, ℕ, List, ◌∷◌, ◌++◌, length, ◌⊎◌, Ok, Err}
-use Rattle.dg_words.specs.declared.fault.WordFault.{WordFault}
+use Rattle.dg_lists.specs.declared.fault.WordFault.{WordFault}
 use Rattle.dg_words.specs.declared.kinds.Level.TheVariants.{Top}
-use Rattle.dg_words.specs.declared.kinds.Mode.TheVariants.{Start}
+use Rattle.dg_lists.specs.declared.kinds.Mode.TheVariants.{Start}
 use Rattle.dg_words.specs.declared.word.Word.{Word}
 use Rattle.dg_words.specs.Machine.{read, fresh}
 

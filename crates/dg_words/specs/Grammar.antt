@@ -1,6 +1,4 @@
--- The grammar of scripts and lists, as relations.
-pub mod Escapes
-pub mod Lists
+-- The grammar of scripts, as relations.
 pub mod Words
 pub mod Operands
 pub mod Continuing

@@ -1,17 +1,12 @@
 pub mod Piece
 pub mod Parts
-pub mod PartsFall
-pub mod Classes
-pub mod Turns
+pub mod Transitions
 pub mod Machine
-pub mod Frames
-pub mod Runs
 pub mod Reading
 pub mod Answers
-pub mod Elements
-pub mod ListRuns
-pub mod Canonical
-pub mod Appending
 pub mod First
-pub mod Faults
 pub mod Grammar
+-- For the proofs.
+pub mod PartsFall
+pub mod Frames
+pub mod Runs

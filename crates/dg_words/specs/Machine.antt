@@ -2,33 +2,33 @@
 use Rattle.std.specs.Prelude.{ℕ, ◌+◌, ◌-◌, List, [], ◌∷◌, ◌++◌, length, Bool, true, false, Result, Ok, Err, nat_lt}
 use Rattle.std.specs.Char.{encode_utf8}
 use Rattle.dg_words.specs.Piece.{Piece, Text, Variable, Element, End, Command}
-use Rattle.dg_words.specs.declared.fault.WordFault.{WordFault}
-use Rattle.dg_words.specs.declared.fault.WordFault.TheVariants.{MissingBracket, MissingParen}
+use Rattle.dg_lists.specs.declared.fault.WordFault.{WordFault}
+use Rattle.dg_lists.specs.declared.fault.WordFault.TheVariants.{MissingBracket, MissingParen}
 use Rattle.dg_words.specs.declared.kinds.Level.{Level}
 use Rattle.dg_words.specs.declared.kinds.Level.TheVariants.{Inside}
-use Rattle.dg_words.specs.declared.kinds.Spot.{Spot}
-use Rattle.dg_words.specs.declared.kinds.Spot.TheVariants.{Bare, Index}
-use Rattle.dg_words.specs.declared.kinds.Outer.{Outer}
-use Rattle.dg_words.specs.declared.kinds.Outer.TheVariants as outer
-use Rattle.dg_words.specs.declared.kinds.Mode.{Mode}
-use Rattle.dg_words.specs.declared.kinds.Mode.TheVariants.{Start, In, Braced}
-use Rattle.dg_words.specs.declared.kinds.Deed.{Deed}
-use Rattle.dg_words.specs.declared.kinds.Deed.TheVariants as deed
-use Rattle.dg_words.specs.declared.kinds.Next.{Next}
-use Rattle.dg_words.specs.declared.kinds.Next.TheVariants as next
-use Rattle.dg_words.specs.declared.kinds.Turn.{Turn}
-use Rattle.dg_words.specs.declared.kinds.Ending.{Ending}
-use Rattle.dg_words.specs.declared.kinds.Ending.TheVariants as ending
+use Rattle.dg_lists.specs.declared.kinds.Context.{Context}
+use Rattle.dg_lists.specs.declared.kinds.Context.TheVariants.{Bare, Index}
+use Rattle.dg_words.specs.declared.kinds.Opener.{Opener}
+use Rattle.dg_words.specs.declared.kinds.Opener.TheVariants as opener
+use Rattle.dg_lists.specs.declared.kinds.Mode.{Mode}
+use Rattle.dg_lists.specs.declared.kinds.Mode.TheVariants.{Start, In, Braced}
+use Rattle.dg_lists.specs.declared.kinds.Effect.{Effect}
+use Rattle.dg_lists.specs.declared.kinds.Effect.TheVariants as effect
+use Rattle.dg_lists.specs.declared.kinds.Target.{Target}
+use Rattle.dg_lists.specs.declared.kinds.Target.TheVariants as target
+use Rattle.dg_lists.specs.declared.kinds.Transition.{Transition}
+use Rattle.dg_lists.specs.declared.kinds.Ending.{Ending}
+use Rattle.dg_lists.specs.declared.kinds.Ending.TheVariants as ending
 use Rattle.dg_words.specs.declared.word.Word.{Word}
-use Rattle.dg_words.specs.Classes.{class_of}
-use Rattle.dg_words.specs.Turns.{turn, ends}
+use Rattle.dg_lists.specs.Classes.{class_of}
+use Rattle.dg_words.specs.Transitions.{transition, ends}
 
 -- What was read: the whole words, and of the word that is open whether it expands, the indices that are open in it
 -- (innermost first, each where its element stands), its pieces, and the text of the part that is open.
 pub record Draft : Type 0 where
   pub words : List Word
   pub expand : Bool
-  pub indices : List Spot
+  pub indices : List Context
   pub parts : List Piece
   pub text : List ℕ
 
@@ -44,27 +44,27 @@ abbrev pub close : Draft → Draft
 close d = record d { parts = closed d.parts d.text; text = [] }
 
 -- a word ends, outside of its indices
-abbrev pub end_word : List Spot → Draft → Draft
+abbrev pub end_word : List Context → Draft → Draft
 end_word [] d = record d { words = d.words ++ record { expand = d.expand; parts = closed d.parts d.text } ∷ []; expand = false; parts = []; text = [] }
 end_word (s ∷ ss) d = d
 
-abbrev pub perform : Deed → Draft → Draft
-perform deed.Nothing d = d
-perform (deed.Byte b) d = add (b ∷ []) d
-perform (deed.Code c) d = add (encode_utf8 c) d
-perform deed.Dollar d = add (36 ∷ []) d
-perform deed.DollarColon d = add (36 ∷ 58 ∷ []) d
-perform deed.Close d = close d
-perform deed.Global d = record d { parts = closed d.parts d.text; text = 58 ∷ 58 ∷ [] }
-perform deed.Value d = record d { parts = d.parts ++ Variable d.text ∷ []; text = [] }
-perform deed.Expand d = record d { expand = true; text = [] }
-perform deed.Word d = end_word d.indices d
+abbrev pub perform : Effect → Draft → Draft
+perform effect.Nothing d = d
+perform (effect.Byte b) d = add (b ∷ []) d
+perform (effect.Code c) d = add (encode_utf8 c) d
+perform effect.Dollar d = add (36 ∷ []) d
+perform effect.DollarColon d = add (36 ∷ 58 ∷ []) d
+perform effect.Close d = close d
+perform effect.Global d = record d { parts = closed d.parts d.text; text = 58 ∷ 58 ∷ [] }
+perform effect.Value d = record d { parts = d.parts ++ Variable d.text ∷ []; text = [] }
+perform effect.Expand d = record d { expand = true; text = [] }
+perform effect.Word d = end_word d.indices d
 
 -- an element's index begins, and ends
-abbrev pub open_index : Spot → Draft → Draft
+abbrev pub open_index : Context → Draft → Draft
 open_index s d = record d { indices = s ∷ d.indices; parts = d.parts ++ Element d.text ∷ []; text = [] }
 
-abbrev pub close_index : List Spot → Draft → Draft
+abbrev pub close_index : List Context → Draft → Draft
 close_index rest d = record d { indices = rest; parts = closed d.parts d.text ++ End ∷ []; text = [] }
 
 -- the text that was read within brackets is a part
@@ -76,79 +76,79 @@ command d = record d { parts = d.parts ++ Command d.text ∷ []; text = [] }
 pub record State : Type 0 where
   pub mode : Mode
   pub depth : ℕ
-  pub inner : List Outer
+  pub inner : List Opener
   pub draft : Draft
 
 -- what a byte makes: more is open, the command is over with so many bytes more, or no spelling goes on
-pub data Move : Type 0 where
-  Go : State → Move
-  Over : List Word → ℕ → Move
-  Fails : WordFault → Move
+pub data Stepped : Type 0 where
+  Go : State → Stepped
+  Over : List Word → ℕ → Stepped
+  Fails : WordFault → Stepped
 
-abbrev pub spot_of : Outer → Spot
-spot_of (outer.Bracket s) = s
-spot_of (outer.Paren s) = s
+abbrev pub context_of : Opener → Context
+context_of (opener.Bracket s) = s
+context_of (opener.Paren s) = s
 
 -- brackets and indices that may be open inside each other
-abbrev pub has_room : Draft → List Outer → Bool
+abbrev pub has_room : Draft → List Opener → Bool
 has_room d inner = nat_lt (length d.indices + length inner) 100
 
-abbrev pub opens : Bool → WordFault → State → Move
+abbrev pub opens : Bool → WordFault → State → Stepped
 opens true f s = Go s
 opens false f s = Fails f
 
-abbrev pub leaves_index : List Spot → ℕ → Draft → Move
+abbrev pub leaves_index : List Context → ℕ → Draft → Stepped
 leaves_index [] n d = Go (record { mode = In Bare; depth = n; inner = []; draft = d })
 leaves_index (s ∷ ss) n d = Go (record { mode = In s; depth = n; inner = []; draft = close_index ss d })
 
--- outside brackets, behind the deeds
-abbrev pub follow : Next → ℕ → Draft → Move
-follow (next.To m) n d = Go (record { mode = m; depth = n; inner = []; draft = d })
-follow next.Deeper n d = Go (record { mode = Braced; depth = n + 1; inner = []; draft = d })
-follow next.Shallower n d = Go (record { mode = Braced; depth = n - 1; inner = []; draft = d })
-follow (next.Bracket s) n d = opens (has_room d []) MissingBracket (record { mode = Start; depth = n; inner = outer.Bracket s ∷ []; draft = close d })
-follow (next.Paren s) n d = opens (has_room d []) MissingParen (record { mode = In Index; depth = n; inner = []; draft = open_index s d })
-follow next.Leave n d = leaves_index d.indices n d
-follow next.End n d = Over d.words 1
-follow next.Rest n d = Over d.words 0
-follow (next.Bad f) n d = Fails f
+-- outside brackets, behind the effects
+abbrev pub follow : Target → ℕ → Draft → Stepped
+follow (target.To m) n d = Go (record { mode = m; depth = n; inner = []; draft = d })
+follow target.Deeper n d = Go (record { mode = Braced; depth = n + 1; inner = []; draft = d })
+follow target.Shallower n d = Go (record { mode = Braced; depth = n - 1; inner = []; draft = d })
+follow (target.Bracket s) n d = opens (has_room d []) MissingBracket (record { mode = Start; depth = n; inner = opener.Bracket s ∷ []; draft = close d })
+follow (target.Paren s) n d = opens (has_room d []) MissingParen (record { mode = In Index; depth = n; inner = []; draft = open_index s d })
+follow target.Leave n d = leaves_index d.indices n d
+follow target.End n d = Over d.words 1
+follow target.Rest n d = Over d.words 0
+follow (target.Bad f) n d = Fails f
 
 -- the innermost bracket or index within brackets ends
-abbrev pub leaves : List Outer → ℕ → Draft → ℕ → Move
+abbrev pub leaves : List Opener → ℕ → Draft → ℕ → Stepped
 leaves [] n d b = Go (record { mode = In Bare; depth = n; inner = []; draft = d })
-leaves (o ∷ []) n d b = Go (record { mode = In (spot_of o); depth = n; inner = []; draft = command d })
-leaves (o ∷ p ∷ os) n d b = Go (record { mode = In (spot_of o); depth = n; inner = p ∷ os; draft = add (b ∷ []) d })
+leaves (o ∷ []) n d b = Go (record { mode = In (context_of o); depth = n; inner = []; draft = command d })
+leaves (o ∷ p ∷ os) n d b = Go (record { mode = In (context_of o); depth = n; inner = p ∷ os; draft = add (b ∷ []) d })
 
 -- within brackets, where each byte goes to their text, and behind a command another may begin
-abbrev pub follow_inside : Next → ℕ → List Outer → Draft → ℕ → Move
-follow_inside (next.To m) n os d b = Go (record { mode = m; depth = n; inner = os; draft = add (b ∷ []) d })
-follow_inside next.Deeper n os d b = Go (record { mode = Braced; depth = n + 1; inner = os; draft = add (b ∷ []) d })
-follow_inside next.Shallower n os d b = Go (record { mode = Braced; depth = n - 1; inner = os; draft = add (b ∷ []) d })
-follow_inside (next.Bracket s) n os d b = opens (has_room d os) MissingBracket (record { mode = Start; depth = n; inner = outer.Bracket s ∷ os; draft = add (b ∷ []) d })
-follow_inside (next.Paren s) n os d b = opens (has_room d os) MissingParen (record { mode = In Index; depth = n; inner = outer.Paren s ∷ os; draft = add (b ∷ []) d })
-follow_inside next.Leave n os d b = leaves os n d b
-follow_inside next.End n os d b = Go (record { mode = Start; depth = n; inner = os; draft = add (b ∷ []) d })
-follow_inside next.Rest n os d b = Go (record { mode = Start; depth = n; inner = os; draft = add (b ∷ []) d })
-follow_inside (next.Bad f) n os d b = Fails f
+abbrev pub follow_inside : Target → ℕ → List Opener → Draft → ℕ → Stepped
+follow_inside (target.To m) n os d b = Go (record { mode = m; depth = n; inner = os; draft = add (b ∷ []) d })
+follow_inside target.Deeper n os d b = Go (record { mode = Braced; depth = n + 1; inner = os; draft = add (b ∷ []) d })
+follow_inside target.Shallower n os d b = Go (record { mode = Braced; depth = n - 1; inner = os; draft = add (b ∷ []) d })
+follow_inside (target.Bracket s) n os d b = opens (has_room d os) MissingBracket (record { mode = Start; depth = n; inner = opener.Bracket s ∷ os; draft = add (b ∷ []) d })
+follow_inside (target.Paren s) n os d b = opens (has_room d os) MissingParen (record { mode = In Index; depth = n; inner = opener.Paren s ∷ os; draft = add (b ∷ []) d })
+follow_inside target.Leave n os d b = leaves os n d b
+follow_inside target.End n os d b = Go (record { mode = Start; depth = n; inner = os; draft = add (b ∷ []) d })
+follow_inside target.Rest n os d b = Go (record { mode = Start; depth = n; inner = os; draft = add (b ∷ []) d })
+follow_inside (target.Bad f) n os d b = Fails f
 
-abbrev pub take_turn : Turn → ℕ → List Outer → Draft → ℕ → Move
-take_turn t n [] d b = follow t.next n (perform t.second (perform t.first d))
-take_turn t n (o ∷ os) d b = follow_inside t.next n (o ∷ os) d b
+abbrev pub take_transition : Transition → ℕ → List Opener → Draft → ℕ → Stepped
+take_transition t n [] d b = follow t.next n (perform t.second (perform t.first d))
+take_transition t n (o ∷ os) d b = follow_inside t.next n (o ∷ os) d b
 
-abbrev pub level_in : Level → List Outer → Level
+abbrev pub level_in : Level → List Opener → Level
 level_in l [] = l
 level_in l (o ∷ os) = Inside
 
-abbrev pub is_none : List Outer → Bool
+abbrev pub is_none : List Opener → Bool
 is_none [] = true
 is_none (o ∷ os) = false
 
-unfoldable pub step : Level → State → ℕ → Move
-step l s b = take_turn (turn (level_in l s.inner) (nat_lt 0 s.depth) s.mode (class_of b) b) s.depth s.inner s.draft b
+unfoldable pub step : Level → State → ℕ → Stepped
+step l s b = take_transition (transition (level_in l s.inner) (nat_lt 0 s.depth) s.mode (class_of b) b) s.depth s.inner s.draft b
 
 -- what the end of the text makes: these words, or the kind of what is open
 abbrev pub ended : Ending → Draft → Result (List Word) WordFault
-ended (ending.Word d e) draft = Ok (perform deed.Word (perform e (perform d draft))).words
+ended (ending.Word d e) draft = Ok (perform effect.Word (perform e (perform d draft))).words
 ended ending.Done draft = Ok draft.words
 ended (ending.Bad f) draft = Err f
 
@@ -164,7 +164,7 @@ stopped (Ok words) p = Ok (words, p)
 stopped (Err f) p = Err (f, p)
 
 -- after a move at place p
-abbrev pub onward : Move → ℕ → (State → Answer) → Answer
+abbrev pub onward : Stepped → ℕ → (State → Answer) → Answer
 onward (Go s) p more = more s
 onward (Over words n) p more = Ok (words, p + n)
 onward (Fails f) p more = Err (f, p)

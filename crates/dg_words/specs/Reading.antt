@@ -1,8 +1,8 @@
 -- The reading of a command, of the words of a list, and of an operand.
 use Rattle.std.specs.Prelude.{ℕ, List, Result, Ok, Err, drop}
-use Rattle.dg_words.specs.declared.fault.WordFault.{WordFault}
+use Rattle.dg_lists.specs.declared.fault.WordFault.{WordFault}
 use Rattle.dg_words.specs.declared.kinds.Level.TheVariants as level
-use Rattle.dg_words.specs.declared.kinds.Mode.TheVariants.{Start, Gap, Operand}
+use Rattle.dg_lists.specs.declared.kinds.Mode.TheVariants.{Start, Gap, Operand}
 use Rattle.dg_words.specs.declared.word.Word.{Word}
 use Rattle.dg_words.specs.Machine.{Answer, read, fresh}
 

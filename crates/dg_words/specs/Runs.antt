@@ -1,16 +1,16 @@
 -- Runs of bytes that only add to what is open.
-use Rattle.std.specs.Prelude.{◌≡◌, ◌≤◌, ℕ, ◌+◌, List, [], ◌∷◌, Bool, true, false, ⊤, length, drop}
-use Rattle.dg_words.specs.declared.kinds.Class.{Class}
-use Rattle.dg_words.specs.declared.kinds.Class.TheVariants as class
+use Rattle.std.specs.Prelude.{◌≡◌, ◌≤◌, ℕ, ◌+◌, List, [], ◌∷◌, Bool, true, false, length, drop}
+use Rattle.dg_lists.specs.declared.kinds.Class.{Class}
+use Rattle.dg_lists.specs.declared.kinds.Class.TheVariants as class
 use Rattle.dg_words.specs.declared.kinds.Level.{Level}
-use Rattle.dg_words.specs.declared.kinds.Mode.{Mode}
-use Rattle.dg_words.specs.declared.kinds.Outer.{Outer}
-use Rattle.dg_words.specs.declared.kinds.Spot.{Spot}
-use Rattle.dg_words.specs.declared.kinds.Spot.TheVariants.{Bare, Quoted, Index, Alone}
+use Rattle.dg_lists.specs.declared.kinds.Mode.{Mode}
+use Rattle.dg_words.specs.declared.kinds.Opener.{Opener}
+use Rattle.dg_lists.specs.declared.kinds.Context.{Context}
+use Rattle.dg_lists.specs.declared.kinds.Context.TheVariants.{Bare, Quoted, Index, Alone}
 use Rattle.dg_words.specs.Machine.{Draft, State, add, read}
 
 -- a byte of this class is text there, whatever is read
-abbrev pub is_text : Spot → Class → Bool
+abbrev pub is_text : Context → Class → Bool
 is_text Bare class.Blank = false
 is_text Bare class.Newline = false
 is_text Bare class.Semicolon = false
@@ -37,13 +37,6 @@ is_comment class.Newline = false
 is_comment class.Backslash = false
 is_comment c = true
 
--- Between braces, with so many open inside of the word, a byte of this class is not one of a run: a backslash begins a
--- pair, and with none open a brace closes the word.
-abbrev pub EndsRun : Class → ℕ → Type 0
-EndsRun class.Backslash n = ⊤
-EndsRun class.Close n = n ≡ 0
-EndsRun c n = ⊥
-
 -- Reading from a place on, with this state open, goes on as reading from a later place on with the other.
 pub record Reaches (text : List ℕ) (from : ℕ) (old : State) (to : ℕ) (new : State) : Type 0 where
   pub onward : from ≤ to
@@ -52,10 +45,10 @@ pub record Reaches (text : List ℕ) (from : ℕ) (old : State) (to : ℕ) (new 
   pub reads : (l : Level) → read l (drop from text) old from ≡ read l (drop to text) new to
 
 -- the state of these parts
-abbrev pub in_mode : Mode → ℕ → List Outer → Draft → State
+abbrev pub in_mode : Mode → ℕ → List Opener → Draft → State
 in_mode m n os d = record { mode = m; depth = n; inner = os; draft = d }
 
 -- a comment's text stays within brackets alone
-abbrev pub commented : List Outer → List ℕ → Draft → Draft
+abbrev pub commented : List Opener → List ℕ → Draft → Draft
 commented [] t d = d
 commented (o ∷ os) t d = add t d

@@ -3,9 +3,9 @@ ghost use Rattle.std.specs.Prelude.{◌≡◌, ◌++◌, ◌∷◌, [], ◌==◌
 ghost use Rattle.dg_words.specs.Machine.{add, close, close_index, command, end_word, open_index, perform};
 ghost use Rattle.dg_words.specs.Parts.{pieces_of_part};
 
-use crate::kinds::{Deed, Spot};
 use crate::word::{Part, Parts, Word};
 use dg_bytes::{Bytes, Seq};
+use dg_lists::{Context, Effect, push_code};
 use std::alloc::{AllocError, Global};
 use std::marker::Model;
 use std::mem;
@@ -13,7 +13,7 @@ use std::mem;
 /// An element whose index is open: where it stands, the parts before it, and its name.
 #[derive(Drop)]
 pub struct Frame {
-    spot: Spot,
+    context: Context,
     before: Parts,
     name: Bytes,
 }
@@ -76,12 +76,12 @@ pub struct Draft {
 
 impl Model for Draft {
     ghost use Rattle.std.specs.Prelude.{◌++◌};
-    ghost use Rattle.dg_words.specs.Frames.{pieces, spots};
+    ghost use Rattle.dg_words.specs.Frames.{pieces, contexts};
     ghost use Rattle.dg_words.specs.Machine.{Draft};
 
     ghost Value = { Draft };
 
-    ghost view = { λ d. record { words = d.words; expand = d.expand; indices = spots d.frames; parts = pieces d.frames ++ d.parts; text = d.text } };
+    ghost view = { λ d. record { words = d.words; expand = d.expand; indices = contexts d.frames; parts = pieces d.frames ++ d.parts; text = d.text } };
 }
 
 impl Draft {
@@ -127,14 +127,6 @@ impl Draft {
         self.text.extend(bytes)
     }
 
-    fn put_code(&mut self, code: char) -> Result<(), AllocError>
-        ensures { OnOk result (self.new ≡ perform (Deed.Code code) self.old) }
-    {
-        let mut space = [0u8; 4];
-        let text = code.encode_utf8(&mut space);
-        self.text.extend(text.as_bytes())
-    }
-
     /// The text that is open is taken.
     fn take_text(&mut self) -> Bytes
         ensures taken { result ≡ self.old.text }
@@ -169,7 +161,7 @@ impl Draft {
     }
 
     fn value(&mut self) -> Result<(), AllocError>
-        ensures { OnOk result (self.new ≡ perform Deed.Value self.old) }
+        ensures { OnOk result (self.new ≡ perform Effect.Value self.old) }
     {
         let text = self.take_text();
         self.push(Part::Variable(text))
@@ -193,69 +185,80 @@ impl Draft {
     }
 
     /// Does what a byte made.
-    pub fn perform(&mut self, deed: Deed) -> Result<(), AllocError>
-        ensures { OnOk result (self.new ≡ perform deed self.old) }
+    pub fn perform(&mut self, effect: Effect) -> Result<(), AllocError>
+        ensures { OnOk result (self.new ≡ perform effect self.old) }
     {
-        match deed {
-            Deed::Nothing => Ok(()),
-            Deed::Byte(byte) => self.put(byte),
-            Deed::Code(code) => self.put_code(code),
-            Deed::Dollar => self.put(b'$'),
-            Deed::DollarColon => self.text.extend(b"$:"),
-            Deed::Close => self.close(),
-            Deed::Global => {
+        match effect {
+            Effect::Nothing => Ok(()),
+            Effect::Byte(byte) => self.put(byte),
+            Effect::Code(code) => push_code(&mut self.text, code),
+            Effect::Dollar => self.put(b'$'),
+            Effect::DollarColon => self.text.extend(b"$:"),
+            Effect::Close => self.close(),
+            Effect::Global => {
                 self.close()?;
                 self.text.extend(b"::")
             }
-            Deed::Value => self.value(),
-            Deed::Expand => {
+            Effect::Value => self.value(),
+            Effect::Expand => {
                 self.text.clear();
                 self.expand = true;
                 Ok(())
             }
-            Deed::Word => self.end_word(),
+            Effect::Word => self.end_word(),
         }
     }
 
-    /// The word that is open ends after two deeds.
-    fn end(&mut self, first: Deed, second: Deed) -> Result<(), AllocError>
-        ensures { OnOk result (self.new ≡ perform Deed.Word (perform second (perform first self.old))) }
+    /// The word that is open ends after two effects.
+    fn end(&mut self, first: Effect, second: Effect) -> Result<(), AllocError>
+        ensures { OnOk result (self.new ≡ perform Effect.Word (perform second (perform first self.old))) }
     {
         self.perform(first)?;
         self.perform(second)?;
-        self.perform(Deed::Word)
+        self.perform(Effect::Word)
     }
 
-    /// The words, once the word that is open has ended after two deeds.
-    pub fn ended(mut self, first: Deed, second: Deed) -> Result<Seq<Word>, AllocError>
-        ensures { IfOk result (λ words. words ≡ (perform Deed.Word (perform second (perform first self))).words) }
+    /// The words, once the word that is open has ended after two effects.
+    pub fn ended(mut self, first: Effect, second: Effect) -> Result<Seq<Word>, AllocError>
+        ensures { IfOk result (λ words. words ≡ (perform Effect.Word (perform second (perform first self))).words) }
     {
         self.end(first, second)?;
         Ok(self.into_words())
     }
 
     /// The text is the name of an element, whose index begins.
-    pub fn open_index(&mut self, spot: Spot) -> Result<(), AllocError>
-        ensures { OnOk result (self.new ≡ open_index spot self.old) }
+    pub fn open_index(&mut self, context: Context) -> Result<(), AllocError>
+        ensures { OnOk result (self.new ≡ open_index context self.old) }
     {
         let name = self.take_text();
         let before = mem::replace(&mut self.parts, Parts::new(self.alloc));
-        self.frames.push(Frame { spot, before, name })
+        self.frames.push(Frame {
+            context,
+            before,
+            name,
+        })
     }
 
     /// The innermost index ends, where there is one.
-    pub fn close_index(&mut self) -> Result<Option<Spot>, AllocError>
-        ensures { IfOk result (λ spot. MatchOption spot ((self.old.indices ≡ []) × (self.new ≡ self.old)) (λ s. self.old.indices ≡ s ∷ self.new.indices × self.new ≡ close_index self.new.indices self.old)) }
+    pub fn close_index(&mut self) -> Result<Option<Context>, AllocError>
+        ensures { IfOk result (λ context. MatchOption context ((self.old.indices ≡ []) × (self.new ≡ self.old)) (λ s. self.old.indices ≡ s ∷ self.new.indices × self.new ≡ close_index self.new.indices self.old)) }
     {
         if self.frames.len() == 0 {
             return Ok(None);
         }
         self.close()?;
-        let Some(Frame { spot, before, name }) = self.frames.pop() else {
+        let Some(
+            Frame {
+                context,
+                before,
+                name,
+            },
+        ) = self.frames.pop()
+        else {
             return Ok(None);
         };
         let index = mem::replace(&mut self.parts, before);
         self.parts.push(Part::Element(name, index))?;
-        Ok(Some(spot))
+        Ok(Some(context))
     }
 }

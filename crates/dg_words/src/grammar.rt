@@ -1,22 +1,16 @@
-//! The grammar of scripts and lists as relations, by Tcl(n): what is spelled so is read, and what is read is
+//! The grammar of scripts as relations, by Tcl(n): what is spelled so is read, and what is read is
 //! spelled so.
 
-mod lists;
 mod operands;
 mod words;
 
-pub use crate::grammar::lists::{
-    list_fault_can_go_on, list_fault_has_its_place, list_fault_is_first,
-    list_fault_says_what_is_wrong, read_list_is_spelled, spelled_list_is_read,
-};
 pub use crate::grammar::operands::{
     open_operand_misses_its_inmost_end, operand_fault_has_its_place, read_operand_is_spelled,
     spelled_operand_is_read, what_is_wrong_in_an_operand_is_told,
 };
 pub use crate::grammar::words::{
-    command_fault_has_its_place, fault_can_go_on, open_command_misses_its_inmost_end,
-    open_ends_are_one, open_words_miss_their_inmost_end, read_command_is_spelled,
-    read_words_are_spelled, spelled_command_is_read, spelled_words_are_read,
-    what_is_wrong_in_a_command_is_told, what_is_wrong_in_words_is_told, words_fault_can_go_on,
-    words_fault_has_its_place, words_fault_is_first,
+    command_fault_has_its_place, open_command_misses_its_inmost_end, open_ends_are_one,
+    open_words_miss_their_inmost_end, read_command_is_spelled, read_words_are_spelled,
+    spelled_command_is_read, spelled_words_are_read, what_is_wrong_in_a_command_is_told,
+    what_is_wrong_in_words_is_told, words_fault_has_its_place,
 };

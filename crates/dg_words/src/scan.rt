@@ -4,17 +4,19 @@ ghost use Rattle.dg_words.specs.Answers.{Gives, Made};
 ghost use Rattle.dg_words.specs.First.{FirstCommand, FirstFault};
 ghost use Rattle.dg_words.specs.Grammar.Spelling.{IsCommandFault, IsOperandFault, IsWordsFault, SpellsCommand, SpellsOperand};
 ghost use Rattle.dg_words.specs.Grammar.Words.{WordsOf};
-ghost use Rattle.dg_words.specs.Machine.{Go, follow, follow_inside, fresh, has_room, is_none, leaves, level_in, read, spot_of, step, stop, stopped, take_turn};
+ghost use Rattle.dg_words.specs.Machine.{Go, follow, follow_inside, fresh, has_room, is_none, leaves, level_in, read, context_of, step, stop, stopped, take_transition};
 ghost use Rattle.dg_words.specs.Reading.{command_at, kind_of, operand_at, words_of};
 ghost use Rattle.dg_words.specs.Runs.{Reaches};
 
 use crate::draft::Draft;
-use crate::fault::WordFault;
-use crate::kinds::{Deed, Ending, Level, Mode, Next, Outer, Spot, Turn};
-use crate::run::{braced_run, comment_run};
-use crate::turn::class_of;
+use crate::kinds::{Level, Opener};
+use crate::run::{comment_run, text_run};
+use crate::transition::ends;
 use crate::word::{Parsed, Word};
 use dg_bytes::Seq;
+use dg_lists::{
+    Context, Effect, Ending, Mode, Target, Transition, WordFault, braced_run, class_of,
+};
 use std::alloc::{AllocError, Global};
 use std::marker::Model;
 
@@ -23,7 +25,7 @@ const NESTING: usize = 100;
 
 /// What a byte made of a reading: it goes on, it is over with so many bytes more, or nothing goes on.
 #[derive(Clone, Copy)]
-pub enum Pace {
+pub enum Step {
     Go,
     Over(usize),
     Bad(WordFault),
@@ -31,24 +33,24 @@ pub enum Pace {
 
 /// The brackets and indices that are open in brackets. A contract sees the innermost first.
 #[derive(Drop)]
-struct Outers {
-    inner: Vec<Outer>,
+struct Openers {
+    inner: Vec<Opener>,
 }
 
-impl Model for Outers {
+impl Model for Openers {
     ghost use Rattle.std.specs.Prelude.{List, reverse};
-    ghost use Rattle.dg_words.specs.declared.kinds.Outer.{Outer};
+    ghost use Rattle.dg_words.specs.declared.kinds.Opener.{Opener};
 
-    ghost Value = { List Outer };
+    ghost Value = { List Opener };
 
     ghost view = { λ o. reverse o.inner.items };
 }
 
-impl Outers {
-    fn new(alloc: Global) -> Outers
+impl Openers {
+    fn new(alloc: Global) -> Openers
         ensures { result ≡ [] }
     {
-        Outers {
+        Openers {
             inner: Vec::new(alloc),
         }
     }
@@ -65,26 +67,26 @@ impl Outers {
         self.inner.is_empty()
     }
 
-    fn push(&mut self, outer: Outer) -> Result<(), AllocError>
-        ensures { OnOk result (self.new ≡ outer ∷ self.old) }
+    fn push(&mut self, opener: Opener) -> Result<(), AllocError>
+        ensures { OnOk result (self.new ≡ opener ∷ self.old) }
     {
-        self.inner.push(outer)?;
+        self.inner.push(opener)?;
         Ok(())
     }
 
-    fn pop(&mut self) -> Option<Outer>
+    fn pop(&mut self) -> Option<Opener>
         ensures { MatchOption result ((self.old ≡ []) × (self.new ≡ [])) (λ o. self.old ≡ o ∷ self.new) }
     {
         self.inner.pop()
     }
 }
 
-impl Outer {
-    fn spot(self) -> Spot
-        ensures { result ≡ spot_of self }
+impl Opener {
+    fn context(self) -> Context
+        ensures { result ≡ context_of self }
     {
         match self {
-            Outer::Bracket(spot) | Outer::Paren(spot) => spot,
+            Opener::Bracket(context) | Opener::Paren(context) => context,
         }
     }
 }
@@ -94,7 +96,7 @@ impl Outer {
 struct Scanner {
     mode: Mode,
     depth: u64,
-    inner: Outers,
+    inner: Openers,
     draft: Draft,
 }
 
@@ -113,7 +115,7 @@ impl Scanner {
         Scanner {
             mode,
             depth: 0,
-            inner: Outers::new(alloc),
+            inner: Openers::new(alloc),
             draft: Draft::new(alloc),
         }
     }
@@ -127,56 +129,56 @@ impl Scanner {
     }
 
     /// Goes there outside of brackets.
-    fn follow(&mut self, next: Next) -> Result<Pace, AllocError>
+    fn follow(&mut self, next: Target) -> Result<Step, AllocError>
         requires inner { self.now.inner ≡ [] }
         requires depth { self.now.depth + 1 < 2 ^ 64 }
-        ensures { IfOk result (λ pace. Made (follow next self.old.depth self.old.draft) pace self.new) }
+        ensures { IfOk result (λ made. Made (follow next self.old.depth self.old.draft) made self.new) }
     {
         match next {
-            Next::To(mode) => self.mode = mode,
-            Next::Deeper => {
+            Target::To(mode) => self.mode = mode,
+            Target::Deeper => {
                 self.mode = Mode::Braced;
                 self.depth += 1;
             }
-            Next::Shallower => {
+            Target::Shallower => {
                 self.mode = Mode::Braced;
                 self.depth = self.depth.saturating_sub(1);
             }
-            Next::Bracket(spot) => {
+            Target::Bracket(context) => {
                 if !self.has_room() {
-                    return Ok(Pace::Bad(WordFault::MissingBracket));
+                    return Ok(Step::Bad(WordFault::MissingBracket));
                 }
                 self.draft.close()?;
-                self.inner.push(Outer::Bracket(spot))?;
+                self.inner.push(Opener::Bracket(context))?;
                 self.mode = Mode::Start;
             }
-            Next::Paren(spot) => {
+            Target::Paren(context) => {
                 if !self.has_room() {
-                    return Ok(Pace::Bad(WordFault::MissingParen));
+                    return Ok(Step::Bad(WordFault::MissingParen));
                 }
-                self.draft.open_index(spot)?;
-                self.mode = Mode::In(Spot::Index);
+                self.draft.open_index(context)?;
+                self.mode = Mode::In(Context::Index);
             }
-            Next::Leave => {
-                let spot = self.draft.close_index()?;
-                self.mode = Mode::In(spot.unwrap_or(Spot::Bare));
+            Target::Leave => {
+                let context = self.draft.close_index()?;
+                self.mode = Mode::In(context.unwrap_or(Context::Bare));
             }
-            Next::End => return Ok(Pace::Over(1)),
-            Next::Rest => return Ok(Pace::Over(0)),
-            Next::Bad(fault) => return Ok(Pace::Bad(fault)),
+            Target::End => return Ok(Step::Over(1)),
+            Target::Rest => return Ok(Step::Over(0)),
+            Target::Bad(fault) => return Ok(Step::Bad(fault)),
         }
-        Ok(Pace::Go)
+        Ok(Step::Go)
     }
 
     /// The innermost bracket or index within brackets ends.
     fn leave(&mut self, byte: u8) -> Result<(), AllocError>
         ensures { OnOk result (leaves self.old.inner self.old.depth self.old.draft byte ≡ Go self.new) }
     {
-        let Some(outer) = self.inner.pop() else {
-            self.mode = Mode::In(Spot::Bare);
+        let Some(opener) = self.inner.pop() else {
+            self.mode = Mode::In(Context::Bare);
             return Ok(());
         };
-        self.mode = Mode::In(outer.spot());
+        self.mode = Mode::In(opener.context());
         if self.inner.is_empty() {
             self.draft.command()
         } else {
@@ -185,70 +187,70 @@ impl Scanner {
     }
 
     /// Goes there within brackets, whose text every byte belongs to. Behind a command another may begin.
-    fn follow_inside(&mut self, next: Next, byte: u8) -> Result<Pace, AllocError>
+    fn follow_inside(&mut self, next: Target, byte: u8) -> Result<Step, AllocError>
         requires { self.now.depth + 1 < 2 ^ 64 }
-        ensures { IfOk result (λ pace. Made (follow_inside next self.old.depth self.old.inner self.old.draft byte) pace self.new) }
+        ensures { IfOk result (λ made. Made (follow_inside next self.old.depth self.old.inner self.old.draft byte) made self.new) }
     {
         match next {
-            Next::To(mode) => self.mode = mode,
-            Next::Deeper => {
+            Target::To(mode) => self.mode = mode,
+            Target::Deeper => {
                 self.mode = Mode::Braced;
                 self.depth += 1;
             }
-            Next::Shallower => {
+            Target::Shallower => {
                 self.mode = Mode::Braced;
                 self.depth = self.depth.saturating_sub(1);
             }
-            Next::Bracket(spot) => {
+            Target::Bracket(context) => {
                 if !self.has_room() {
-                    return Ok(Pace::Bad(WordFault::MissingBracket));
+                    return Ok(Step::Bad(WordFault::MissingBracket));
                 }
-                self.inner.push(Outer::Bracket(spot))?;
+                self.inner.push(Opener::Bracket(context))?;
                 self.mode = Mode::Start;
             }
-            Next::Paren(spot) => {
+            Target::Paren(context) => {
                 if !self.has_room() {
-                    return Ok(Pace::Bad(WordFault::MissingParen));
+                    return Ok(Step::Bad(WordFault::MissingParen));
                 }
-                self.inner.push(Outer::Paren(spot))?;
-                self.mode = Mode::In(Spot::Index);
+                self.inner.push(Opener::Paren(context))?;
+                self.mode = Mode::In(Context::Index);
             }
-            Next::Leave => {
+            Target::Leave => {
                 self.leave(byte)?;
-                return Ok(Pace::Go);
+                return Ok(Step::Go);
             }
-            Next::End | Next::Rest => self.mode = Mode::Start,
-            Next::Bad(fault) => return Ok(Pace::Bad(fault)),
+            Target::End | Target::Rest => self.mode = Mode::Start,
+            Target::Bad(fault) => return Ok(Step::Bad(fault)),
         }
         self.draft.put(byte)?;
-        Ok(Pace::Go)
+        Ok(Step::Go)
     }
 
-    fn take_turn(&mut self, turn: Turn, byte: u8) -> Result<Pace, AllocError>
+    fn take_transition(&mut self, transition: Transition, byte: u8) -> Result<Step, AllocError>
         requires { self.now.depth + 1 < 2 ^ 64 }
-        ensures { IfOk result (λ pace. Made (take_turn turn self.old.depth self.old.inner self.old.draft byte) pace self.new) }
+        ensures { IfOk result (λ made. Made (take_transition transition self.old.depth self.old.inner self.old.draft byte) made self.new) }
     {
         if !self.inner.is_empty() {
-            return self.follow_inside(turn.next, byte);
+            return self.follow_inside(transition.next, byte);
         }
-        self.draft.perform(turn.first)?;
-        self.draft.perform(turn.second)?;
-        self.follow(turn.next)
+        self.draft.perform(transition.first)?;
+        self.draft.perform(transition.second)?;
+        self.follow(transition.next)
     }
 
     /// One more byte.
     #[tactic(auto, unfolding(crate::specs::Machine::step))]
-    fn step(&mut self, level: Level, byte: u8) -> Result<Pace, AllocError>
+    fn step(&mut self, level: Level, byte: u8) -> Result<Step, AllocError>
         requires { self.now.depth + 1 < 2 ^ 64 }
-        ensures { IfOk result (λ pace. Made (step level self.old byte) pace self.new) }
+        ensures { IfOk result (λ made. Made (step level self.old byte) made self.new) }
     {
         let here = if self.inner.is_empty() {
             level
         } else {
             Level::Inside
         };
-        let turn = self.mode.turn(here, self.depth > 0, class_of(byte), byte);
-        self.take_turn(turn, byte)
+        let transition = here.transition(self.mode, self.depth > 0, class_of(byte), byte);
+        self.take_transition(transition, byte)
     }
 
     /// Passes over the bytes from a place on that only add to what is open, and tells the place behind them.
@@ -264,8 +266,8 @@ impl Scanner {
                 self.draft.put_all(&text[from..run.end])?;
                 Ok(run.end)
             }
-            Mode::In(spot) => {
-                let end = spot.text_run(text, from);
+            Mode::In(context) => {
+                let end = text_run(context, text, from);
                 self.draft.put_all(&text[from..end])?;
                 Ok(end)
             }
@@ -286,7 +288,7 @@ impl Scanner {
     fn stop(self) -> Result<Seq<Word>, WordFault>
         ensures { MatchResult result (λ words. stop self ≡ Ok words) (λ f. (f ≡ WordFault.Memory) ⊎ (stop self ≡ Err f)) }
     {
-        let ending = self.mode.ends(self.inner.is_empty());
+        let ending = ends(self.mode, self.inner.is_empty());
         let Scanner { draft, .. } = self;
         match ending {
             Ending::Word(first, second) => Ok(draft.ended(first, second)?),
@@ -326,9 +328,9 @@ impl Scanner {
         let mut place = at;
         while place < text.len() {
             match self.step(level, text[place])? {
-                Pace::Go => place = self.pass(text, place + 1)?,
-                Pace::Over(taken) => return Ok(Some(place + taken)),
-                Pace::Bad(fault) => return Err(fault),
+                Step::Go => place = self.pass(text, place + 1)?,
+                Step::Over(taken) => return Ok(Some(place + taken)),
+                Step::Bad(fault) => return Err(fault),
             }
         }
         Ok(None)

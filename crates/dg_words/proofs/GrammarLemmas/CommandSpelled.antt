@@ -4,33 +4,34 @@ use Rattle.std.proofs.Common.{inl, inr, ◌∙◌, ap, sym, arith, subst, append
 use Rattle.std.proofs.lemmas.List.{append-nil}
 use Rattle.std.proofs.lemmas.Bool.{eqb-true, eqb-false}
 use Rattle.dg_words.specs.Piece.{Piece}
-use Rattle.dg_words.specs.declared.fault.WordFault.{WordFault}
-use Rattle.dg_words.specs.declared.fault.WordFault.TheVariants.{MissingBrace}
-use Rattle.dg_words.specs.declared.kinds.Class.{Class}
-use Rattle.dg_words.specs.declared.kinds.Class.TheVariants as class
-use Rattle.dg_words.specs.declared.kinds.Deed.TheVariants as deed
+use Rattle.dg_lists.specs.declared.fault.WordFault.{WordFault}
+use Rattle.dg_lists.specs.declared.fault.WordFault.TheVariants.{MissingBrace}
+use Rattle.dg_lists.specs.declared.kinds.Class.{Class}
+use Rattle.dg_lists.specs.declared.kinds.Class.TheVariants as class
+use Rattle.dg_lists.specs.declared.kinds.Effect.TheVariants as effect
 use Rattle.dg_words.specs.declared.kinds.Level.{Level}
 use Rattle.dg_words.specs.declared.kinds.Level.TheVariants as level
-use Rattle.dg_words.specs.declared.kinds.Mode.{Mode}
-use Rattle.dg_words.specs.declared.kinds.Mode.TheVariants as mode
-use Rattle.dg_words.specs.declared.kinds.Next.TheVariants as next
-use Rattle.dg_words.specs.declared.kinds.Outer.{Outer}
-use Rattle.dg_words.specs.declared.kinds.Outer.TheVariants as outer
-use Rattle.dg_words.specs.declared.kinds.Spot.TheVariants as spot
+use Rattle.dg_lists.specs.declared.kinds.Mode.{Mode}
+use Rattle.dg_lists.specs.declared.kinds.Mode.TheVariants as mode
+use Rattle.dg_lists.specs.declared.kinds.Target.TheVariants as target
+use Rattle.dg_words.specs.declared.kinds.Opener.{Opener}
+use Rattle.dg_words.specs.declared.kinds.Opener.TheVariants as opener
+use Rattle.dg_lists.specs.declared.kinds.Context.TheVariants as context
 use Rattle.dg_words.specs.declared.word.Word.{Word}
-use Rattle.dg_words.specs.Classes.{class_of}
-use Rattle.dg_words.specs.Turns.{does, ends, goes, is_space, turn, whole, with_digit}
+use Rattle.dg_lists.specs.Classes.{class_of}
+use Rattle.dg_lists.specs.Transitions.{does, goes, is_space, whole, with_digit}
+use Rattle.dg_words.specs.Transitions.{ends, transition}
 use Rattle.dg_words.specs.Machine.{Answer, fresh, read}
 use Rattle.dg_words.specs.Grammar.Operands as operands
 use Rattle.dg_words.proofs.GrammarLemmas.OperandRead.{spelled_operand_is_read}
 use Rattle.dg_words.specs.Reading.{operand_at, command_at, kind_of, words_of, words_only}
 use Rattle.dg_words.specs.Grammar.Words as grammar
 use Rattle.dg_words.specs.Grammar.Words.{begins, begins_with_hash, Begun, Comment, ends_word, is_hash, OneCommand, plain_comment, Script, skipped, Words, WordsOf}
-use Rattle.dg_words.proofs.GrammarLemmas.Bytes.{is_class}
-use Rattle.dg_words.proofs.GrammarLemmas.ListRead.{backslash_is, newline_is, quote_is}
+use Rattle.dg_lists.proofs.GrammarLemmas.Bytes.{is_class}
+use Rattle.dg_lists.proofs.GrammarLemmas.ListRead.{backslash_is, newline_is, quote_is}
 use Rattle.dg_words.proofs.GrammarLemmas.Segments.{at}
 use Rattle.dg_words.proofs.GrammarLemmas.Pieces.{open_is}
-use Rattle.dg_words.proofs.GrammarLemmas.Between.{comment_turn, gap_backslash, HasCommands, Outermost, skip_turn, start_backslash, start_hash}
+use Rattle.dg_words.proofs.GrammarLemmas.Between.{comment_transition, gap_backslash, HasCommands, Outermost, skip_transition, start_backslash, start_hash}
 use Rattle.dg_words.proofs.GrammarLemmas.PartRead.{at_gap, at_star, at_start, no_hash}
 use Rattle.dg_words.proofs.GrammarLemmas.WordRead.{entry_open, spelled_command_is_read, spelled_words_are_read}
 use Rattle.dg_words.proofs.GrammarLemmas.Readings.{level_at, Reads, reads_leave, reads_to, stops_bad, stops_inside, taken}
@@ -42,11 +43,11 @@ use Rattle.dg_words.proofs.GrammarLemmas.NameSpelled.{brace_name_case, colon_beh
 use Rattle.dg_words.proofs.GrammarLemmas.WordSpelled.{alone, behind_case, behind_pair_case, behind_pair_stop, behind_star_case, behind_star_stop, behind_stop, brace_first_case, brace_star_case, braced_case, braced_join_case, braced_pair_case, entry_bare, entry_escaped, entry_last, entry_quoted, expanded, star_pair_case}
 
 -- between words
-gap_bare : (l : Level) (stack : List Outer) (n : ℕ) → Standing l stack n spot.Bare → (c : Class) (b : ℕ) (bs : List ℕ) → class_of b ≡ c → begins c ≡ true → c ≢ class.Backslash → ends_word (level_at l stack) (class_of b) ≡ false → Rec l bs →
+gap_bare : (l : Level) (stack : List Opener) (n : ℕ) → Standing l stack n context.Bare → (c : Class) (b : ℕ) (bs : List ℕ) → class_of b ≡ c → begins c ≡ true → c ≢ class.Backslash → ends_word (level_at l stack) (class_of b) ≡ false → Rec l bs →
     Reads l mode.Gap 0 stack (b ∷ bs) → WordsLeft l stack n (b ∷ bs)
 gap_bare l stack n g c b bs e h nb x rec r = words_word l stack n (b ∷ bs) (alone l stack n (b ∷ bs) (entry_bare l stack n g at_gap b bs (ap begins e ∙ h) x (λ y. nb (sym e ∙ y)) refl rec r))
 
-gap_word : (l : Level) (stack : List Outer) (n : ℕ) → Standing l stack n spot.Bare → (c : Class) (b : ℕ) (bs : List ℕ) → class_of b ≡ c → ends_word (level_at l stack) (class_of b) ≡ false → Rec l bs →
+gap_word : (l : Level) (stack : List Opener) (n : ℕ) → Standing l stack n context.Bare → (c : Class) (b : ℕ) (bs : List ℕ) → class_of b ≡ c → ends_word (level_at l stack) (class_of b) ≡ false → Rec l bs →
     Reads l mode.Gap 0 stack (b ∷ bs) → WordsLeft l stack n (b ∷ bs)
 gap_word l stack n g class.Quote b bs e x rec r =
     let is = is_class b class.Quote e in
@@ -56,115 +57,115 @@ gap_word l stack n g class.Open b bs e x rec r =
     let s = subst (λ y. Reads l mode.Gap 0 stack (y ∷ bs)) is r in
     subst (λ y. WordsLeft l stack n (y ∷ bs)) (sym is)
     (words_word l stack n (123 ∷ bs)
-    (rec mode.BraceFirst 0 stack n (reads_to l deed.Nothing deed.Nothing mode.BraceFirst 0 stack 123 bs (taken l mode.Gap 0 stack 123 bs class.Open (goes mode.BraceFirst) open_is (entry_open (level_at l stack) at_gap) s)) refl g))
+    (rec mode.BraceFirst 0 stack n (reads_to l effect.Nothing effect.Nothing mode.BraceFirst 0 stack 123 bs (taken l mode.Gap 0 stack 123 bs class.Open (goes mode.BraceFirst) open_is (entry_open (level_at l stack) at_gap) s)) refl g))
 gap_word l stack n g class.Backslash b bs e x rec r =
     subst (λ y. WordsLeft l stack n (y ∷ bs)) (sym (is_class b class.Backslash e))
-    (rec mode.GapPair 0 stack n (reads_to l deed.Nothing deed.Nothing mode.GapPair 0 stack b bs (taken l mode.Gap 0 stack b bs class.Backslash (goes mode.GapPair) e (gap_backslash (level_at l stack) b) r)) refl g)
+    (rec mode.GapPair 0 stack n (reads_to l effect.Nothing effect.Nothing mode.GapPair 0 stack b bs (taken l mode.Gap 0 stack b bs class.Backslash (goes mode.GapPair) e (gap_backslash (level_at l stack) b) r)) refl g)
 gap_word l stack n g c b bs e x rec r = gap_bare l stack n g c b bs e refl (λ y. absurd cc) x rec r
 
-gap_case : (l : Level) (stack : List Outer) (n : ℕ) → Standing l stack n spot.Bare → (x : Bool) (b : ℕ) (bs : List ℕ) → ends_word (level_at l stack) (class_of b) ≡ x → Rec l bs → Reads l mode.Gap 0 stack (b ∷ bs) → WordsLeft l stack n (b ∷ bs)
+gap_case : (l : Level) (stack : List Opener) (n : ℕ) → Standing l stack n context.Bare → (x : Bool) (b : ℕ) (bs : List ℕ) → ends_word (level_at l stack) (class_of b) ≡ x → Rec l bs → Reads l mode.Gap 0 stack (b ∷ bs) → WordsLeft l stack n (b ∷ bs)
 gap_case l stack n g true b bs e rec r = gap_ends l stack n g (class_of b) b bs refl e rec r
 gap_case l stack n g false b bs e rec r = gap_word l stack n g (class_of b) b bs refl e rec r
 
-gap_stop : (l : Level) (stack : List Outer) (n : ℕ) → Standing l stack n spot.Bare → Reads l mode.Gap 0 stack [] → WordsLeft l stack n []
+gap_stop : (l : Level) (stack : List Opener) (n : ℕ) → Standing l stack n context.Bare → Reads l mode.Gap 0 stack [] → WordsLeft l stack n []
 gap_stop l [] n g r = last_words l n
-gap_stop l (outer.Bracket s ∷ stack) n g r = absurd (stops_inside l mode.Gap 0 s stack r)
-gap_stop l (outer.Paren s ∷ stack) n g r = absurd g.sound
+gap_stop l (opener.Bracket s ∷ stack) n g r = absurd (stops_inside l mode.Gap 0 s stack r)
+gap_stop l (opener.Paren s ∷ stack) n g r = absurd g.sound
 
-gap_pair_case : (l : Level) (stack : List Outer) (n : ℕ) → Standing l stack n spot.Bare → (x : Bool) (b : ℕ) (bs : List ℕ) → (b == 10) ≡ x → Rec l bs → Reads l mode.GapPair 0 stack (b ∷ bs) → WordsLeft l stack n (92 ∷ b ∷ bs)
-unfolding turn
+gap_pair_case : (l : Level) (stack : List Opener) (n : ℕ) → Standing l stack n context.Bare → (x : Bool) (b : ℕ) (bs : List ℕ) → (b == 10) ≡ x → Rec l bs → Reads l mode.GapPair 0 stack (b ∷ bs) → WordsLeft l stack n (92 ∷ b ∷ bs)
+unfolding transition
 gap_pair_case l stack n g true b bs e rec r =
     let is = eqb-true b 10 e in
     let s = subst (λ y. Reads l mode.GapPair 0 stack (y ∷ bs)) is r in
     subst (λ y. WordsLeft l stack n (92 ∷ y ∷ bs)) (sym is)
-    (words_line l stack n bs (rec mode.Gap 0 stack n (reads_to l deed.Nothing deed.Nothing mode.Gap 0 stack 10 bs (taken l mode.GapPair 0 stack 10 bs class.Newline (goes mode.Gap) newline_is refl s)) refl g))
+    (words_line l stack n bs (rec mode.Gap 0 stack n (reads_to l effect.Nothing effect.Nothing mode.Gap 0 stack 10 bs (taken l mode.GapPair 0 stack 10 bs class.Newline (goes mode.Gap) newline_is refl s)) refl g))
 gap_pair_case l stack n g false b bs e rec r = words_word l stack n (92 ∷ b ∷ bs) (alone l stack n (92 ∷ b ∷ bs) (entry_escaped l stack n g at_gap b bs (eqb-false b 10 e) e rec r))
 
 -- before a command
 no_hash_first : (c : Class) (b : ℕ) (bs : List ℕ) → class_of b ≡ c → is_hash c ≡ false → begins_with_hash (b ∷ bs) ≡ false
 no_hash_first c b bs e h = ap is_hash e ∙ h
 
-start_skips : (l : Level) (stack : List Outer) (n : ℕ) → Standing l stack n spot.Bare → HasCommands (level_at l stack) → (b : ℕ) (bs : List ℕ) → skipped (class_of b) ≡ true → Rec l bs → Reads l mode.Start 0 stack (b ∷ bs) → StartLeft l stack n (b ∷ bs)
+start_skips : (l : Level) (stack : List Opener) (n : ℕ) → Standing l stack n context.Bare → HasCommands (level_at l stack) → (b : ℕ) (bs : List ℕ) → skipped (class_of b) ≡ true → Rec l bs → Reads l mode.Start 0 stack (b ∷ bs) → StartLeft l stack n (b ∷ bs)
 start_skips l stack n g hc b bs h rec r =
     start_front l stack n (b ∷ []) bs (skips_byte b h)
-    (rec mode.Start 0 stack n (reads_to l deed.Nothing deed.Nothing mode.Start 0 stack b bs (taken l mode.Start 0 stack b bs (class_of b) (goes mode.Start) refl (skip_turn (level_at l stack) (class_of b) b hc h) r)) refl g hc)
+    (rec mode.Start 0 stack n (reads_to l effect.Nothing effect.Nothing mode.Start 0 stack b bs (taken l mode.Start 0 stack b bs (class_of b) (goes mode.Start) refl (skip_transition (level_at l stack) (class_of b) b hc h) r)) refl g hc)
 
 -- a comment
-last_comment : (l : Level) (stack : List Outer) (n : ℕ) (t : List ℕ) → stack ≡ [] → Comment [] t → StartLeft l stack n (35 ∷ t)
+last_comment : (l : Level) (stack : List Opener) (n : ℕ) (t : List ℕ) → stack ≡ [] → Comment [] t → StartLeft l stack n (35 ∷ t)
 last_comment l [] n t e i = ([], length (35 ∷ t), grammar.Begun.whole (grammar.OneCommand.no_command (grammar.Skipped.last_comment refl i)))
-last_comment l (outer.Bracket s ∷ stack) n t e i = absurd cc
-last_comment l (outer.Paren s ∷ stack) n t e i = absurd cc
+last_comment l (opener.Bracket s ∷ stack) n t e i = absurd cc
+last_comment l (opener.Paren s ∷ stack) n t e i = absurd cc
 
-comment_begins : (l : Level) (stack : List Outer) (n : ℕ) (t : List ℕ) → CommentLeft l stack n t → StartLeft l stack n (35 ∷ t)
+comment_begins : (l : Level) (stack : List Opener) (n : ℕ) (t : List ℕ) → CommentLeft l stack n t → StartLeft l stack n (35 ∷ t)
 comment_begins l stack n t (inl x) =
     subst (λ y. StartLeft l stack n (35 ∷ y)) (append_assoc x.0 (10 ∷ []) x.1 ∙ sym x.2) (start_front l stack n (35 ∷ x.0 ++ 10 ∷ []) x.1 (skips_comment x.0 x.3) x.4)
 comment_begins l stack n t (inr x) = last_comment l stack n t x.1 x.0
 
-comment_front : (l : Level) (stack : List Outer) (n : ℕ) (a t : List ℕ) → ((after c : List ℕ) → Comment after c → Comment after (a ++ c)) → CommentLeft l stack n t → CommentLeft l stack n (a ++ t)
+comment_front : (l : Level) (stack : List Opener) (n : ℕ) (a t : List ℕ) → ((after c : List ℕ) → Comment after c → Comment after (a ++ c)) → CommentLeft l stack n t → CommentLeft l stack n (a ++ t)
 comment_front l stack n a t f (inl x) = inl (a ++ x.0, x.1, ap (λ y. a ++ y) x.2 ∙ sym (append_assoc a x.0 (10 ∷ x.1)), f (10 ∷ []) x.0 x.3, x.4)
 comment_front l stack n a t f (inr x) = inr (f [] t x.0, x.1)
 
-comment_more : (l : Level) (stack : List Outer) (n : ℕ) → Standing l stack n spot.Bare → HasCommands (level_at l stack) → (b : ℕ) (bs : List ℕ) → plain_comment (class_of b) ≡ true → Rec l bs → Reads l mode.Comment 0 stack (b ∷ bs) → CommentLeft l stack n (b ∷ bs)
-unfolding turn
+comment_more : (l : Level) (stack : List Opener) (n : ℕ) → Standing l stack n context.Bare → HasCommands (level_at l stack) → (b : ℕ) (bs : List ℕ) → plain_comment (class_of b) ≡ true → Rec l bs → Reads l mode.Comment 0 stack (b ∷ bs) → CommentLeft l stack n (b ∷ bs)
+unfolding transition
 comment_more l stack n g hc b bs h rec r =
     comment_front l stack n (b ∷ []) bs (λ after c i. grammar.Comment.byte b h i)
-    (rec mode.Comment 0 stack n (reads_to l deed.Nothing deed.Nothing mode.Comment 0 stack b bs (taken l mode.Comment 0 stack b bs (class_of b) (goes mode.Comment) refl (comment_turn (class_of b) h) r)) refl g hc)
+    (rec mode.Comment 0 stack n (reads_to l effect.Nothing effect.Nothing mode.Comment 0 stack b bs (taken l mode.Comment 0 stack b bs (class_of b) (goes mode.Comment) refl (comment_transition (class_of b) h) r)) refl g hc)
 
-comment_case : (l : Level) (stack : List Outer) (n : ℕ) → Standing l stack n spot.Bare → HasCommands (level_at l stack) → (c : Class) (b : ℕ) (bs : List ℕ) → class_of b ≡ c → Rec l bs → Reads l mode.Comment 0 stack (b ∷ bs) → CommentLeft l stack n (b ∷ bs)
-unfolding turn
+comment_case : (l : Level) (stack : List Opener) (n : ℕ) → Standing l stack n context.Bare → HasCommands (level_at l stack) → (c : Class) (b : ℕ) (bs : List ℕ) → class_of b ≡ c → Rec l bs → Reads l mode.Comment 0 stack (b ∷ bs) → CommentLeft l stack n (b ∷ bs)
+unfolding transition
 comment_case l stack n g hc class.Newline b bs e rec r =
-    inl ([], bs, ap (λ y. y ∷ bs) (is_class b class.Newline e), grammar.Comment.nothing, rec mode.Start 0 stack n (reads_to l deed.Nothing deed.Nothing mode.Start 0 stack b bs (taken l mode.Comment 0 stack b bs class.Newline (goes mode.Start) e refl r)) refl g hc)
+    inl ([], bs, ap (λ y. y ∷ bs) (is_class b class.Newline e), grammar.Comment.nothing, rec mode.Start 0 stack n (reads_to l effect.Nothing effect.Nothing mode.Start 0 stack b bs (taken l mode.Comment 0 stack b bs class.Newline (goes mode.Start) e refl r)) refl g hc)
 comment_case l stack n g hc class.Backslash b bs e rec r =
     subst (λ y. CommentLeft l stack n (y ∷ bs)) (sym (is_class b class.Backslash e))
-    (rec mode.CommentPair 0 stack n (reads_to l deed.Nothing deed.Nothing mode.CommentPair 0 stack b bs (taken l mode.Comment 0 stack b bs class.Backslash (goes mode.CommentPair) e refl r)) refl g hc)
+    (rec mode.CommentPair 0 stack n (reads_to l effect.Nothing effect.Nothing mode.CommentPair 0 stack b bs (taken l mode.Comment 0 stack b bs class.Backslash (goes mode.CommentPair) e refl r)) refl g hc)
 comment_case l stack n g hc c b bs e rec r = comment_more l stack n g hc b bs (ap plain_comment e) rec r
 
-comment_pair_case : (l : Level) (stack : List Outer) (n : ℕ) → Standing l stack n spot.Bare → HasCommands (level_at l stack) → (b : ℕ) (bs : List ℕ) → Rec l bs → Reads l mode.CommentPair 0 stack (b ∷ bs) → CommentLeft l stack n (92 ∷ b ∷ bs)
-unfolding turn
+comment_pair_case : (l : Level) (stack : List Opener) (n : ℕ) → Standing l stack n context.Bare → HasCommands (level_at l stack) → (b : ℕ) (bs : List ℕ) → Rec l bs → Reads l mode.CommentPair 0 stack (b ∷ bs) → CommentLeft l stack n (92 ∷ b ∷ bs)
+unfolding transition
 comment_pair_case l stack n g hc b bs rec r =
     comment_front l stack n (92 ∷ b ∷ []) bs (λ after c i. grammar.Comment.pair b i)
-    (rec mode.Comment 0 stack n (reads_to l deed.Nothing deed.Nothing mode.Comment 0 stack b bs (taken l mode.CommentPair 0 stack b bs (class_of b) (goes mode.Comment) refl refl r)) refl g hc)
+    (rec mode.Comment 0 stack n (reads_to l effect.Nothing effect.Nothing mode.Comment 0 stack b bs (taken l mode.CommentPair 0 stack b bs (class_of b) (goes mode.Comment) refl refl r)) refl g hc)
 
-comment_stop : (l : Level) (stack : List Outer) (n : ℕ) → Standing l stack n spot.Bare → Reads l mode.Comment 0 stack [] → CommentLeft l stack n []
+comment_stop : (l : Level) (stack : List Opener) (n : ℕ) → Standing l stack n context.Bare → Reads l mode.Comment 0 stack [] → CommentLeft l stack n []
 comment_stop l [] n g r = inr (grammar.Comment.nothing, refl)
-comment_stop l (outer.Bracket s ∷ stack) n g r = absurd (stops_inside l mode.Comment 0 s stack r)
-comment_stop l (outer.Paren s ∷ stack) n g r = absurd g.sound
+comment_stop l (opener.Bracket s ∷ stack) n g r = absurd (stops_inside l mode.Comment 0 s stack r)
+comment_stop l (opener.Paren s ∷ stack) n g r = absurd g.sound
 
-comment_pair_stop : (l : Level) (stack : List Outer) (n : ℕ) → Standing l stack n spot.Bare → Reads l mode.CommentPair 0 stack [] → CommentLeft l stack n (92 ∷ [])
+comment_pair_stop : (l : Level) (stack : List Opener) (n : ℕ) → Standing l stack n context.Bare → Reads l mode.CommentPair 0 stack [] → CommentLeft l stack n (92 ∷ [])
 comment_pair_stop l [] n g r = inr (grammar.Comment.last_backslash refl, refl)
-comment_pair_stop l (outer.Bracket s ∷ stack) n g r = absurd (stops_inside l mode.CommentPair 0 s stack r)
-comment_pair_stop l (outer.Paren s ∷ stack) n g r = absurd g.sound
+comment_pair_stop l (opener.Bracket s ∷ stack) n g r = absurd (stops_inside l mode.CommentPair 0 s stack r)
+comment_pair_stop l (opener.Paren s ∷ stack) n g r = absurd g.sound
 
 -- a command begins with a word
-start_bare : (l : Level) (stack : List Outer) (n : ℕ) → Standing l stack n spot.Bare → HasCommands (level_at l stack) → (c : Class) (b : ℕ) (bs : List ℕ) → class_of b ≡ c → begins c ≡ true → ends_word (level_at l stack) c ≡ false →
+start_bare : (l : Level) (stack : List Opener) (n : ℕ) → Standing l stack n context.Bare → HasCommands (level_at l stack) → (c : Class) (b : ℕ) (bs : List ℕ) → class_of b ≡ c → begins c ≡ true → ends_word (level_at l stack) c ≡ false →
     c ≢ class.Backslash → is_hash c ≡ false → no_hash at_start c ≡ true → Rec l bs → Reads l mode.Start 0 stack (b ∷ bs) → StartLeft l stack n (b ∷ bs)
 start_bare l stack n g hc c b bs e h x nb nh na rec r =
     start_word l stack (outermost l stack n g) hc n (b ∷ bs) g.room (no_hash_first c b bs e nh)
     (alone l stack n (b ∷ bs) (entry_bare l stack n g at_start b bs (ap begins e ∙ h) (ap (ends_word (level_at l stack)) e ∙ x) (λ y. nb (sym e ∙ y)) (ap (no_hash at_start) e ∙ na) rec r))
 
-start_quote : (l : Level) (stack : List Outer) (n : ℕ) → Standing l stack n spot.Bare → HasCommands (level_at l stack) → (b : ℕ) (bs : List ℕ) → class_of b ≡ class.Quote → Rec l bs → Reads l mode.Start 0 stack (b ∷ bs) → StartLeft l stack n (b ∷ bs)
+start_quote : (l : Level) (stack : List Opener) (n : ℕ) → Standing l stack n context.Bare → HasCommands (level_at l stack) → (b : ℕ) (bs : List ℕ) → class_of b ≡ class.Quote → Rec l bs → Reads l mode.Start 0 stack (b ∷ bs) → StartLeft l stack n (b ∷ bs)
 start_quote l stack n g hc b bs e rec r =
     let is = is_class b class.Quote e in
     subst (λ y. StartLeft l stack n (y ∷ bs)) (sym is)
     (start_word l stack (outermost l stack n g) hc n (34 ∷ bs) g.room (no_hash_first class.Quote 34 bs quote_is refl) (alone l stack n (34 ∷ bs) (entry_quoted l stack n g at_start bs rec (subst (λ y. Reads l mode.Start 0 stack (y ∷ bs)) is r))))
 
-start_open : (l : Level) (stack : List Outer) (n : ℕ) → Standing l stack n spot.Bare → HasCommands (level_at l stack) → (b : ℕ) (bs : List ℕ) → class_of b ≡ class.Open → Rec l bs → Reads l mode.Start 0 stack (b ∷ bs) → StartLeft l stack n (b ∷ bs)
+start_open : (l : Level) (stack : List Opener) (n : ℕ) → Standing l stack n context.Bare → HasCommands (level_at l stack) → (b : ℕ) (bs : List ℕ) → class_of b ≡ class.Open → Rec l bs → Reads l mode.Start 0 stack (b ∷ bs) → StartLeft l stack n (b ∷ bs)
 start_open l stack n g hc b bs e rec r =
     let is = is_class b class.Open e in
     let s = subst (λ y. Reads l mode.Start 0 stack (y ∷ bs)) is r in
     subst (λ y. StartLeft l stack n (y ∷ bs)) (sym is)
     (start_word l stack (outermost l stack n g) hc n (123 ∷ bs) g.room (no_hash_first class.Open 123 bs open_is refl)
-    (rec mode.BraceFirst 0 stack n (reads_to l deed.Nothing deed.Nothing mode.BraceFirst 0 stack 123 bs (taken l mode.Start 0 stack 123 bs class.Open (goes mode.BraceFirst) open_is (entry_open (level_at l stack) at_start) s)) refl g))
+    (rec mode.BraceFirst 0 stack n (reads_to l effect.Nothing effect.Nothing mode.BraceFirst 0 stack 123 bs (taken l mode.Start 0 stack 123 bs class.Open (goes mode.BraceFirst) open_is (entry_open (level_at l stack) at_start) s)) refl g))
 
-start_escape : (l : Level) (stack : List Outer) (n : ℕ) → Standing l stack n spot.Bare → HasCommands (level_at l stack) → (b : ℕ) (bs : List ℕ) → class_of b ≡ class.Backslash → Rec l bs → Reads l mode.Start 0 stack (b ∷ bs) → StartLeft l stack n (b ∷ bs)
+start_escape : (l : Level) (stack : List Opener) (n : ℕ) → Standing l stack n context.Bare → HasCommands (level_at l stack) → (b : ℕ) (bs : List ℕ) → class_of b ≡ class.Backslash → Rec l bs → Reads l mode.Start 0 stack (b ∷ bs) → StartLeft l stack n (b ∷ bs)
 start_escape l stack n g hc b bs e rec r =
     subst (λ y. StartLeft l stack n (y ∷ bs)) (sym (is_class b class.Backslash e))
-    (rec mode.StartPair 0 stack n (reads_to l deed.Nothing deed.Nothing mode.StartPair 0 stack b bs (taken l mode.Start 0 stack b bs class.Backslash (goes mode.StartPair) e (start_backslash (level_at l stack) b) r)) refl g hc)
+    (rec mode.StartPair 0 stack n (reads_to l effect.Nothing effect.Nothing mode.StartPair 0 stack b bs (taken l mode.Start 0 stack b bs class.Backslash (goes mode.StartPair) e (start_backslash (level_at l stack) b) r)) refl g hc)
 
-start_comment : (l : Level) (stack : List Outer) (n : ℕ) → Standing l stack n spot.Bare → HasCommands (level_at l stack) → (b : ℕ) (bs : List ℕ) → class_of b ≡ class.Hash → Rec l bs → Reads l mode.Start 0 stack (b ∷ bs) → StartLeft l stack n (b ∷ bs)
+start_comment : (l : Level) (stack : List Opener) (n : ℕ) → Standing l stack n context.Bare → HasCommands (level_at l stack) → (b : ℕ) (bs : List ℕ) → class_of b ≡ class.Hash → Rec l bs → Reads l mode.Start 0 stack (b ∷ bs) → StartLeft l stack n (b ∷ bs)
 start_comment l stack n g hc b bs e rec r =
     subst (λ y. StartLeft l stack n (y ∷ bs)) (sym (is_class b class.Hash e))
-    (comment_begins l stack n bs (rec mode.Comment 0 stack n (reads_to l deed.Nothing deed.Nothing mode.Comment 0 stack b bs (taken l mode.Start 0 stack b bs class.Hash (goes mode.Comment) e (start_hash (level_at l stack) b hc) r)) refl g hc))
+    (comment_begins l stack n bs (rec mode.Comment 0 stack n (reads_to l effect.Nothing effect.Nothing mode.Comment 0 stack b bs (taken l mode.Start 0 stack b bs class.Hash (goes mode.Comment) e (start_hash (level_at l stack) b hc) r)) refl g hc))
 
 -- what begins a bare word at each level that has commands
 opens_word : Class → Bool
@@ -178,16 +179,16 @@ opens_word class.RightBracket = false
 opens_word class.Backslash = false
 opens_word c = true
 
-start_closes : (l : Level) (stack : List Outer) (n : ℕ) → Standing l stack n spot.Bare → HasCommands (level_at l stack) → (b : ℕ) (bs : List ℕ) → class_of b ≡ class.RightBracket → Rec l bs → Reads l mode.Start 0 stack (b ∷ bs) → StartLeft l stack n (b ∷ bs)
-unfolding turn
+start_closes : (l : Level) (stack : List Opener) (n : ℕ) → Standing l stack n context.Bare → HasCommands (level_at l stack) → (b : ℕ) (bs : List ℕ) → class_of b ≡ class.RightBracket → Rec l bs → Reads l mode.Start 0 stack (b ∷ bs) → StartLeft l stack n (b ∷ bs)
+unfolding transition
 start_closes level.Top [] n g hc b bs e rec r = start_bare level.Top [] n g hc class.RightBracket b bs e refl refl (λ y. absurd cc) refl refl rec r
 start_closes level.List [] n g hc b bs e rec r = absurd hc
 start_closes level.Inside [] n g hc b bs e rec r = absurd g.sound
 start_closes level.Alone [] n g hc b bs e rec r = absurd g.sound
-start_closes l (outer.Bracket s ∷ stack) n g hc b bs e rec r =
-    let p = rec (mode.In s) 0 stack (suc n) (reads_leave l 0 (outer.Bracket s) stack b bs (taken l mode.Start 0 (outer.Bracket s ∷ stack) b bs class.RightBracket (does deed.Nothing next.Leave) e refl r)) refl (behind_bracket l stack n s g) in
+start_closes l (opener.Bracket s ∷ stack) n g hc b bs e rec r =
+    let p = rec (mode.In s) 0 stack (suc n) (reads_leave l 0 (opener.Bracket s) stack b bs (taken l mode.Start 0 (opener.Bracket s ∷ stack) b bs class.RightBracket (does effect.Nothing target.Leave) e refl r)) refl (behind_bracket l stack n s g) in
     ScriptLeft.script [] bs (ap (λ y. y ∷ bs) (is_class b class.RightBracket e)) (grammar.Script.last (grammar.OneCommand.no_command grammar.Skipped.nothing)) p
-start_closes l (outer.Paren s ∷ stack) n g hc b bs e rec r = absurd g.sound
+start_closes l (opener.Paren s ∷ stack) n g hc b bs e rec r = absurd g.sound
 
 never_ends : (l : Level) (c : Class) → opens_word c ≡ true → ends_word l c ≡ false
 unfolding opens_word
@@ -200,7 +201,7 @@ never_ends level.List c h = refl
 never_ends level.Inside c h = refl
 never_ends level.Alone c h = refl
 
-start_case : (l : Level) (stack : List Outer) (n : ℕ) → Standing l stack n spot.Bare → HasCommands (level_at l stack) → (c : Class) (b : ℕ) (bs : List ℕ) → class_of b ≡ c → Rec l bs → Reads l mode.Start 0 stack (b ∷ bs) → StartLeft l stack n (b ∷ bs)
+start_case : (l : Level) (stack : List Opener) (n : ℕ) → Standing l stack n context.Bare → HasCommands (level_at l stack) → (c : Class) (b : ℕ) (bs : List ℕ) → class_of b ≡ c → Rec l bs → Reads l mode.Start 0 stack (b ∷ bs) → StartLeft l stack n (b ∷ bs)
 unfolding opens_word
 start_case l stack n g hc class.Blank b bs e rec r = start_skips l stack n g hc b bs (ap skipped e) rec r
 start_case l stack n g hc class.Newline b bs e rec r = start_skips l stack n g hc b bs (ap skipped e) rec r
@@ -212,28 +213,28 @@ start_case l stack n g hc class.RightBracket b bs e rec r = start_closes l stack
 start_case l stack n g hc class.Backslash b bs e rec r = start_escape l stack n g hc b bs e rec r
 start_case l stack n g hc c b bs e rec r = start_bare l stack n g hc c b bs e refl (never_ends (level_at l stack) c refl) (λ y. absurd cc) refl refl rec r
 
-start_stop : (l : Level) (stack : List Outer) (n : ℕ) → Standing l stack n spot.Bare → Reads l mode.Start 0 stack [] → StartLeft l stack n []
+start_stop : (l : Level) (stack : List Opener) (n : ℕ) → Standing l stack n context.Bare → Reads l mode.Start 0 stack [] → StartLeft l stack n []
 start_stop l [] n g r = ([], 0, grammar.Begun.whole (grammar.OneCommand.no_command grammar.Skipped.nothing))
-start_stop l (outer.Bracket s ∷ stack) n g r = absurd (stops_inside l mode.Start 0 s stack r)
-start_stop l (outer.Paren s ∷ stack) n g r = tt
+start_stop l (opener.Bracket s ∷ stack) n g r = absurd (stops_inside l mode.Start 0 s stack r)
+start_stop l (opener.Paren s ∷ stack) n g r = tt
 
-start_pair_case : (l : Level) (stack : List Outer) (n : ℕ) → Standing l stack n spot.Bare → HasCommands (level_at l stack) → (x : Bool) (b : ℕ) (bs : List ℕ) → (b == 10) ≡ x → Rec l bs → Reads l mode.StartPair 0 stack (b ∷ bs) →
+start_pair_case : (l : Level) (stack : List Opener) (n : ℕ) → Standing l stack n context.Bare → HasCommands (level_at l stack) → (x : Bool) (b : ℕ) (bs : List ℕ) → (b == 10) ≡ x → Rec l bs → Reads l mode.StartPair 0 stack (b ∷ bs) →
     StartLeft l stack n (92 ∷ b ∷ bs)
-unfolding turn
+unfolding transition
 start_pair_case l stack n g hc true b bs e rec r =
     let is = eqb-true b 10 e in
     let s = subst (λ y. Reads l mode.StartPair 0 stack (y ∷ bs)) is r in
     subst (λ y. StartLeft l stack n (92 ∷ y ∷ bs)) (sym is)
     (start_front l stack n (92 ∷ 10 ∷ []) bs skips_line
-    (rec mode.Start 0 stack n (reads_to l deed.Nothing deed.Nothing mode.Start 0 stack 10 bs (taken l mode.StartPair 0 stack 10 bs class.Newline (goes mode.Start) newline_is refl s)) refl g hc))
+    (rec mode.Start 0 stack n (reads_to l effect.Nothing effect.Nothing mode.Start 0 stack 10 bs (taken l mode.StartPair 0 stack 10 bs class.Newline (goes mode.Start) newline_is refl s)) refl g hc))
 start_pair_case l stack n g hc false b bs e rec r =
     start_word l stack (outermost l stack n g) hc n (92 ∷ b ∷ bs) g.room (no_hash_first class.Backslash 92 (b ∷ bs) backslash_is refl) (alone l stack n (92 ∷ b ∷ bs) (entry_escaped l stack n g at_start b bs (eqb-false b 10 e) e rec r))
 
-start_pair_stop : (l : Level) (stack : List Outer) (n : ℕ) → Standing l stack n spot.Bare → HasCommands (level_at l stack) → Reads l mode.StartPair 0 stack [] → StartLeft l stack n (92 ∷ [])
+start_pair_stop : (l : Level) (stack : List Opener) (n : ℕ) → Standing l stack n context.Bare → HasCommands (level_at l stack) → Reads l mode.StartPair 0 stack [] → StartLeft l stack n (92 ∷ [])
 start_pair_stop l stack n g hc r = start_word l stack (outermost l stack n g) hc n (92 ∷ []) g.room (no_hash_first class.Backslash 92 [] backslash_is refl) (alone l stack n (92 ∷ []) (entry_last l stack n g at_start r))
 
 -- every mode
-closed_up : (l : Level) (m : Mode) (k : ℕ) (stack : List Outer) (t : List ℕ) → k ≡ 0 → Reads l m k stack t → Reads l m 0 stack t
+closed_up : (l : Level) (m : Mode) (k : ℕ) (stack : List Opener) (t : List ℕ) → k ≡ 0 → Reads l m k stack t → Reads l m 0 stack t
 closed_up l m k stack t e r = subst (λ x. Reads l m x stack t) e r
 
 claim_next : (l : Level) (b : ℕ) (bs : List ℕ) → Rec l bs → Rec l (b ∷ bs)
@@ -294,7 +295,7 @@ claims l [] = claim_end l
 claims l (b ∷ bs) = claim_next l b bs (claims l bs)
 
 -- from the beginning
-nothing_open : (l : Level) → Outermost l → Standing l [] 100 spot.Bare
+nothing_open : (l : Level) → Outermost l → Standing l [] 100 context.Bare
 nothing_open l o = record { room = omega arith; sound = o }
 
 begins_so : (l : Level) (m : Mode) (t : List ℕ) (p : ℕ) (a : List Word × ℕ) → read l t (fresh m) p ≡ Ok a → Reads l m 0 [] t

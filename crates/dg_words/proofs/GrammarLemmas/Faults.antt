@@ -2,55 +2,38 @@
 use Rattle.std.specs.Prelude.{◌≡◌, ℕ, ◌+◌, List, [], ◌∷◌, ◌++◌, length, refl, Ok, Err, Result, drop, ◌⊎◌}
 use Rattle.std.proofs.Common.{inl, inr, ◌∙◌, ap, sym, arith, subst, append_assoc, length-append}
 use Rattle.std.proofs.lemmas.List.{append-nil}
-use Rattle.dg_words.specs.declared.fault.WordFault.{WordFault}
-use Rattle.dg_words.specs.declared.fault.WordFault.TheVariants as fault
-use Rattle.dg_words.specs.declared.kinds.Class.TheVariants as class
+use Rattle.dg_lists.specs.declared.fault.WordFault.{WordFault}
+use Rattle.dg_lists.specs.declared.fault.WordFault.TheVariants as fault
+use Rattle.dg_lists.specs.declared.kinds.Class.TheVariants as class
 use Rattle.dg_words.specs.declared.kinds.Level.{Level}
 use Rattle.dg_words.specs.declared.kinds.Level.TheVariants as level
-use Rattle.dg_words.specs.declared.kinds.Mode.{Mode}
-use Rattle.dg_words.specs.declared.kinds.Mode.TheVariants as mode
+use Rattle.dg_lists.specs.declared.kinds.Mode.{Mode}
+use Rattle.dg_lists.specs.declared.kinds.Mode.TheVariants as mode
 use Rattle.dg_words.specs.declared.word.Word.{Word}
-use Rattle.dg_words.specs.Machine.{Answer, Go, Fails, Over, Move, State, fresh, level_in, onward, read, step, stop, stopped}
+use Rattle.dg_words.specs.Machine.{Answer, Go, Fails, Over, Stepped, State, fresh, level_in, onward, read, step, stop, stopped}
 use Rattle.dg_words.specs.Reading.{command_at, kind_of, operand_at, words_of, words_only}
-use Rattle.dg_words.specs.Grammar.Continuing.{CanGoOn, GoesOn, HasCommand, HasNoCommand, HasNoOperand, HasOperand, IsNoWords, IsNot, IsRead, IsWords, StopsAt}
+use Rattle.dg_lists.specs.Grammar.Continuing.{GoesOn, IsNot, StopsAt}
+use Rattle.dg_words.proofs.GrammarLemmas.Reads.{HasCommand, HasOperand, IsRead, IsWords}
+use Rattle.dg_words.specs.Grammar.Continuing.{HasNoCommand, HasNoOperand, IsNoWords}
 use Rattle.dg_words.proofs.GrammarLemmas.Openings.{IsOther}
 use Rattle.dg_words.proofs.GrammarLemmas.Segments.{Leads, lead_one, lead_none, lead_both}
-use Rattle.dg_words.specs.Classes.{class_of}
+use Rattle.dg_lists.specs.Classes.{class_of}
 use Rattle.dg_words.specs.Grammar.Ends.{Open, missing}
 use Rattle.dg_words.specs.Grammar.Saying.{EndsWord, IsWrong, OpensNothing, TooMany, Unwritten}
-use Rattle.dg_words.proofs.GrammarLemmas.Bytes.{is_class}
+use Rattle.dg_lists.proofs.GrammarLemmas.Bytes.{is_class}
 use Rattle.dg_words.proofs.GrammarLemmas.Closers.{ends_at}
 use Rattle.dg_words.proofs.GrammarLemmas.Trails.{Cause, IsNested, Reached, Trail, cause, reached_step}
 use Rattle.dg_words.proofs.GrammarLemmas.OneKind.{is_missing, one_kind, one_place}
-use Rattle.dg_words.proofs.GrammarLemmas.Plain.{Opener, bracket_opens, paren_opens, plain}
+use Rattle.dg_words.proofs.GrammarLemmas.Plain.{OpensOne, bracket_opens, paren_opens, plain}
 use Rattle.dg_words.proofs.GrammarLemmas.Wrong.{IsWrongAt, wrong_at, wrong_end}
 use Rattle.dg_words.proofs.GrammarLemmas.InOrder.{in_nothing, same_open}
 use Rattle.dg_words.proofs.GrammarLemmas.Inmost.{IsInmost, IsMissing, inmost, needed}
 use Rattle.dg_words.proofs.GrammarLemmas.Missing.{IsAt, fail_step}
-use Rattle.dg_words.proofs.GrammarLemmas.GoOn.{Fine, FineMove, closing, fine_step}
+use Rattle.dg_lists.proofs.GrammarLemmas.Endable.{Fine}
+use Rattle.dg_words.proofs.GrammarLemmas.GoOn.{FineStep, closing, fine_step}
 use Rattle.dg_words.proofs.GrammarLemmas.WordRead.{spelled_command_is_read, spelled_words_are_read}
 use Rattle.dg_words.proofs.GrammarLemmas.OperandRead.{spelled_operand_is_read}
-
--- What is so of a text is so of it under another name.
-pub stops_as : (Is Such : List ℕ → Type 0) (text : List ℕ) (place : ℕ) → ((t : List ℕ) → Is t → Such t) → StopsAt Is text place → StopsAt Such text place
-stops_as Is Such text place f s = record {
-  front = s.front;
-  place_is = s.place_is;
-  why = elim s.why [
-    | inl (e, h) ↦ inl (e, f text h)
-    | inr (b, rest, e, h) ↦ inr (b, rest, e, λ more. f (s.front ++ b ∷ more) (h more))
-  ];
-}
-
-pub goes_as : (Is Such : List ℕ → Type 0) (text : List ℕ) (place : ℕ) → ((t : List ℕ) → Is t → Such t) → GoesOn Is text place → GoesOn Such text place
-goes_as Is Such text place f g = record {
-  front = g.front;
-  rest = g.rest;
-  split = g.split;
-  place_is = g.place_is;
-  closing = g.closing;
-  is_such = f (g.front ++ g.closing) g.is_such;
-}
+use Rattle.dg_lists.proofs.GrammarLemmas.Answered.{goes_as, stops_as}
 
 -- why a reading stops at a place, where this is left of the text
 abbrev Why : Level → State → List ℕ → WordFault → Type 0
@@ -87,8 +70,8 @@ same_fault {f = f} e = ap (fault_of f) e
 here : (l : Level) (s : State) (text : List ℕ) (f : WordFault) (p q : ℕ) → p ≡ q → Fine s.mode → Why l s text f → Before l s text f p q
 here l s text f p q e h w = record { front = []; rest = text; state = s; split = refl; place_is = omega (arith, e); leads = λ after. lead_none l after s; fine = h; reached = λ m past r. subst (λ t. Reached l m t s) (sym (append-nil past)) r; why = w }
 
-before_turn : (l : Level) (s : State) (b : ℕ) (bs : List ℕ) (f : WordFault) (p q : ℕ) (m : Move) → step l s b ≡ m → Fine s.mode → FineMove m → ((n : State) → Fine n.mode → read l bs n (p + 1) ≡ Err (f, q) → Before l n bs f (p + 1) q) → onward m p (λ n. read l bs n (p + 1)) ≡ Err (f, q) → Before l s (b ∷ bs) f p q
-before_turn l s b bs f p q (Go n) e h k rec r =
+before_transition : (l : Level) (s : State) (b : ℕ) (bs : List ℕ) (f : WordFault) (p q : ℕ) (m : Stepped) → step l s b ≡ m → Fine s.mode → FineStep m → ((n : State) → Fine n.mode → read l bs n (p + 1) ≡ Err (f, q) → Before l n bs f (p + 1) q) → onward m p (λ n. read l bs n (p + 1)) ≡ Err (f, q) → Before l s (b ∷ bs) f p q
+before_transition l s b bs f p q (Go n) e h k rec r =
     let x = rec n k r in
     record {
       front = b ∷ x.front;
@@ -101,8 +84,8 @@ before_turn l s b bs f p q (Go n) e h k rec r =
       reached = λ m past r. subst (λ t. Reached l m t x.state) (append_assoc past (b ∷ []) x.front) (x.reached m (past ++ b ∷ []) (reached_step l m past s n b r e));
       why = x.why;
     }
-before_turn l s b bs f p q (Over ws n) e h k rec r = absurd cc
-before_turn l s b bs f p q (Fails g) e h k rec r = here l s (b ∷ bs) f p q (same_place r) h (inr (b, bs, refl, e ∙ ap Fails (same_fault r)))
+before_transition l s b bs f p q (Over ws n) e h k rec r = absurd cc
+before_transition l s b bs f p q (Fails g) e h k rec r = here l s (b ∷ bs) f p q (same_place r) h (inr (b, bs, refl, e ∙ ap Fails (same_fault r)))
 
 before_end : (l : Level) (s : State) (f : WordFault) (p q : ℕ) (r : Result (List Word) WordFault) → stop s ≡ r → Fine s.mode → stopped r p ≡ Err (f, q) → Before l s [] f p q
 before_end l s f p q (Ok ws) i h e = absurd cc
@@ -111,7 +94,7 @@ before_end l s f p q (Err g) i h e = here l s [] f p q (same_place e) h (inl (re
 before : (l : Level) (text : List ℕ) (s : State) (f : WordFault) (p q : ℕ) → Fine s.mode → read l text s p ≡ Err (f, q) → Before l s text f p q
 unfolding read
 before l [] s f p q h e = before_end l s f p q (stop s) refl h e
-before l (b ∷ bs) s f p q h e = before_turn l s b bs f p q (step l s b) refl h (fine_step l s b h) (λ n k r. before l bs n f (p + 1) q k r) e
+before l (b ∷ bs) s f p q h e = before_transition l s b bs f p q (step l s b) refl h (fine_step l s b h) (λ n k r. before l bs n f (p + 1) q k r) e
 
 -- this fault is told of a text, wherever its reading begins
 abbrev Tells : Level → Mode → WordFault → List ℕ → Type 0
@@ -158,7 +141,7 @@ wrong_where_it_ends : (Is : List ℕ → Type 0) (text : List ℕ) (place : ℕ)
 wrong_where_it_ends Is text place [] f h w e o = both Is text place f (w h) (λ _. o)
 wrong_where_it_ends Is text place (k ∷ ks) f h w e o = lacks_first Is text place k ks f h e o
 
-too_many : (l : Level) (m : Mode) (text front bs : List ℕ) (s : State) (b k : ℕ) (f : WordFault) → text ≡ front ++ b ∷ bs → b ≡ k → Opener k → IsNested f → Reached l m front s → step l s b ≡ Fails f → TooMany (IsRead l m) k text (length front)
+too_many : (l : Level) (m : Mode) (text front bs : List ℕ) (s : State) (b k : ℕ) (f : WordFault) → text ≡ front ++ b ∷ bs → b ≡ k → OpensOne k → IsNested f → Reached l m front s → step l s b ≡ Fails f → TooMany (IsRead l m) k text (length front)
 too_many l m text front bs s b k f e i o n r w =
     let x = plain l m front s k f r o n (ap (λ c. step l s c) (sym i) ∙ w) in
     record { front = front; rest = bs; split = e ∙ ap (λ c. front ++ c ∷ bs) i; place_is = refl; more = x.0; is_such = x.1 }
@@ -185,7 +168,7 @@ is_wrong l m text f p q t h x =
     ]
 
 -- what is so by one name is so by another
-open_as : (Is Such : List ℕ → Type 0) (text ks : List ℕ) → ((t : List ℕ) → Is t → Such t) → ((t : List ℕ) → Such t → Is t) → Open Is text ks → Open Such text ks
+pub open_as : (Is Such : List ℕ → Type 0) (text ks : List ℕ) → ((t : List ℕ) → Is t → Such t) → ((t : List ℕ) → Such t → Is t) → Open Is text ks → Open Such text ks
 open_as Is Such text ks f g o = record { closing = o.closing; is_such = f (text ++ o.closing) o.is_such; just = o.just; needed = λ more h. o.needed more (g (text ++ more) h) }
 
 ends_as : (Is Such : List ℕ → Type 0) (k : ℕ) (text : List ℕ) (place : ℕ) → ((t : List ℕ) → Such t → Is t) → EndsWord Is k text place → EndsWord Such k text place
@@ -320,9 +303,6 @@ decided_as l m Such text place f t h to from x y w =
     decided l m text place f t h (goes_as Such (IsRead l m) text place from x) (stops_as (IsNot Such) (IsNot (IsRead l m)) text place (λ u n r. n (to u r)) y) (wrong_as Such (IsRead l m) text place f from to w)
 
 -- a command
-pub fault_can_go_on : (text : List ℕ) (fault : WordFault) (place : ℕ) → read level.Top text (fresh mode.Start) 0 ≡ Err (fault, place) → CanGoOn text place
-fault_can_go_on text fault place e = goes_on level.Top mode.Start text fault place tt tt e
-
 has_command : (text : List ℕ) → IsRead level.Top mode.Start text → HasCommand text
 unfolding command_at
 has_command text (ws, next, e) = (ws, next, ap kind_of e)

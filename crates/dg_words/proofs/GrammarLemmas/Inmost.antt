@@ -2,38 +2,39 @@
 use Rattle.std.specs.Prelude.{◌≡◌, ℕ, zero, suc, ◌+◌, ◌-◌, List, [], ◌∷◌, refl, Ok, Err, Result, Bool, true, false, Option, None, Some, cond, nat_lt}
 use Rattle.std.proofs.Common.{◌∙◌, ap, sym, arith, subst}
 use Rattle.std.proofs.lemmas.Bool.{lt-ltb}
-use Rattle.dg_words.specs.declared.fault.WordFault.{WordFault}
-use Rattle.dg_words.specs.declared.fault.WordFault.TheVariants as fault
-use Rattle.dg_words.specs.declared.kinds.Class.{Class}
-use Rattle.dg_words.specs.declared.kinds.Class.TheVariants as class
-use Rattle.dg_words.specs.declared.kinds.Deed.{Deed}
-use Rattle.dg_words.specs.declared.kinds.Deed.TheVariants as deed
-use Rattle.dg_words.specs.declared.kinds.Delimiter.TheVariants as delimiter
+use Rattle.dg_lists.specs.declared.fault.WordFault.{WordFault}
+use Rattle.dg_lists.specs.declared.fault.WordFault.TheVariants as fault
+use Rattle.dg_lists.specs.declared.kinds.Class.{Class}
+use Rattle.dg_lists.specs.declared.kinds.Class.TheVariants as class
+use Rattle.dg_lists.specs.declared.kinds.Effect.{Effect}
+use Rattle.dg_lists.specs.declared.kinds.Effect.TheVariants as effect
+use Rattle.dg_lists.specs.declared.kinds.Delimiter.TheVariants as delimiter
 use Rattle.dg_words.specs.declared.kinds.Level.{Level}
-use Rattle.dg_words.specs.declared.kinds.Mode.{Mode}
-use Rattle.dg_words.specs.declared.kinds.Mode.TheVariants as mode
-use Rattle.dg_words.specs.declared.kinds.Next.{Next}
-use Rattle.dg_words.specs.declared.kinds.Next.TheVariants as next
-use Rattle.dg_words.specs.declared.kinds.Outer.{Outer}
-use Rattle.dg_words.specs.declared.kinds.Spot.{Spot}
-use Rattle.dg_words.specs.declared.kinds.Spot.TheVariants as spot
-use Rattle.dg_words.specs.declared.kinds.Turn.{Turn}
+use Rattle.dg_lists.specs.declared.kinds.Mode.{Mode}
+use Rattle.dg_lists.specs.declared.kinds.Mode.TheVariants as mode
+use Rattle.dg_lists.specs.declared.kinds.Target.{Target}
+use Rattle.dg_lists.specs.declared.kinds.Target.TheVariants as target
+use Rattle.dg_words.specs.declared.kinds.Opener.{Opener}
+use Rattle.dg_lists.specs.declared.kinds.Context.{Context}
+use Rattle.dg_lists.specs.declared.kinds.Context.TheVariants as context
+use Rattle.dg_lists.specs.declared.kinds.Transition.{Transition}
 use Rattle.dg_words.specs.declared.word.Word.{Word}
-use Rattle.dg_words.specs.Classes.{class_of}
-use Rattle.dg_words.specs.Turns.{ends, goes, in_brace_first, in_brace_star, in_braced, in_braced_pair, in_name_brace, is_space, number_ends, spot_ends, turn, whole}
-use Rattle.dg_words.specs.Machine.{Draft, Go, Fails, Over, Move, State, ended, follow, follow_inside, has_room, is_none, leaves, leaves_index, level_in, onward, opens, perform, read, spot_of, step, stop, stopped, take_turn}
+use Rattle.dg_lists.specs.Classes.{class_of}
+use Rattle.dg_lists.specs.Transitions.{goes, is_space, whole}
+use Rattle.dg_words.specs.Transitions.{ends, in_brace_first, in_brace_star, in_braced, in_braced_pair, in_name_brace, number_ends, context_ends, transition}
+use Rattle.dg_words.specs.Machine.{Draft, Go, Fails, Over, Stepped, State, ended, follow, follow_inside, has_room, is_none, leaves, leaves_index, level_in, onward, opens, perform, read, context_of, step, stop, stopped, take_transition}
 use Rattle.dg_words.specs.Grammar.Ends.{InOrder}
-use Rattle.dg_words.proofs.GrammarLemmas.Bytes.{is_class}
+use Rattle.dg_lists.proofs.GrammarLemmas.Bytes.{is_class}
 use Rattle.dg_words.proofs.GrammarLemmas.Closers.{brace_ends, deep_ends, ends_at, ends_of, part_ends, top_ends}
 use Rattle.dg_words.proofs.GrammarLemmas.InOrder.{in_both, in_same}
-use Rattle.dg_words.proofs.GrammarLemmas.Openings.{Going, IsWordy, deed_indices, going, inside_ends, spot_in, IsOther}
+use Rattle.dg_words.proofs.GrammarLemmas.Openings.{Going, IsWordy, effect_indices, going, inside_ends, context_in, IsOther}
 
 -- what stays of the ends behind a byte: all, or all but the first
 data Kept (b : ℕ) (ks ls : List ℕ) : Type 0 where
   all : InOrder ks ls → Kept b ks ls
   first : {js : List ℕ} → ks ≡ b ∷ js → InOrder js ls → Kept b ks ls
 
-abbrev KeptMove : ℕ → List ℕ → Move → Type 0
+abbrev KeptMove : ℕ → List ℕ → Stepped → Type 0
 KeptMove b ks (Go s) = Kept b ks (ends_at s)
 KeptMove b ks (Over ws n) = ks ≡ []
 KeptMove b ks (Fails f) = Unit {0}
@@ -52,52 +53,52 @@ brace_more mode.BracedJoin n ks = InOrder.past 125 (deep_more n ks)
 brace_more m n ks = in_same ks
 
 -- outside of braces
-kept_same : (b : ℕ) (s : Spot) (m : Mode) (n : ℕ) (os : List Outer) (is : List Spot) → spot_in m ≡ s → Kept b (part_ends s os is) (ends_of os m n is)
-kept_same b s m n os is e = Kept.all (subst (λ t. InOrder (part_ends t os is) (ends_of os m n is)) e (brace_more m n (part_ends (spot_in m) os is)))
+kept_same : (b : ℕ) (s : Context) (m : Mode) (n : ℕ) (os : List Opener) (is : List Context) → context_in m ≡ s → Kept b (part_ends s os is) (ends_of os m n is)
+kept_same b s m n os is e = Kept.all (subst (λ t. InOrder (part_ends t os is) (ends_of os m n is)) e (brace_more m n (part_ends (context_in m) os is)))
 
-bare_in : (t : Spot) (os : List Outer) (is : List Spot) → IsWordy t → InOrder (part_ends spot.Bare os is) (part_ends t os is)
-bare_in spot.Bare os is h = in_same _
-bare_in spot.Alone [] is h = InOrder.none
-bare_in spot.Alone (o ∷ os) is h = in_same _
-bare_in spot.Quoted [] is h = InOrder.none
-bare_in spot.Quoted (o ∷ os) is h = InOrder.past 34 (in_same _)
-bare_in spot.Index os is h = absurd h
+bare_in : (t : Context) (os : List Opener) (is : List Context) → IsWordy t → InOrder (part_ends context.Bare os is) (part_ends t os is)
+bare_in context.Bare os is h = in_same _
+bare_in context.Alone [] is h = InOrder.none
+bare_in context.Alone (o ∷ os) is h = in_same _
+bare_in context.Quoted [] is h = InOrder.none
+bare_in context.Quoted (o ∷ os) is h = InOrder.past 34 (in_same _)
+bare_in context.Index os is h = absurd h
 
-alone_is : (os : List Outer) (is : List Spot) → part_ends spot.Alone os is ≡ part_ends spot.Bare os is
+alone_is : (os : List Opener) (is : List Context) → part_ends context.Alone os is ≡ part_ends context.Bare os is
 alone_is [] is = refl
 alone_is (o ∷ os) is = refl
 
-quoted_is : (os : List Outer) (is : List Spot) → part_ends spot.Quoted os is ≡ 34 ∷ part_ends spot.Bare os is
+quoted_is : (os : List Opener) (is : List Context) → part_ends context.Quoted os is ≡ 34 ∷ part_ends context.Bare os is
 quoted_is [] is = refl
 quoted_is (o ∷ os) is = refl
 
-kept_words : (b : ℕ) (s : Spot) (m : Mode) (n : ℕ) (os : List Outer) (is : List Spot) → IsWordy s → IsWordy (spot_in m) → (s ≡ spot.Quoted → class_of b ≡ class.Quote) → Kept b (part_ends s os is) (ends_of os m n is)
-kept_words b spot.Bare m n os is i j f = Kept.all (in_both (bare_in (spot_in m) os is j) (brace_more m n _))
-kept_words b spot.Alone m n os is i j f = Kept.all (in_both (subst (λ ks. InOrder ks (part_ends (spot_in m) os is)) (sym (alone_is os is)) (bare_in (spot_in m) os is j)) (brace_more m n _))
-kept_words b spot.Quoted m n os is i j f =
+kept_words : (b : ℕ) (s : Context) (m : Mode) (n : ℕ) (os : List Opener) (is : List Context) → IsWordy s → IsWordy (context_in m) → (s ≡ context.Quoted → class_of b ≡ class.Quote) → Kept b (part_ends s os is) (ends_of os m n is)
+kept_words b context.Bare m n os is i j f = Kept.all (in_both (bare_in (context_in m) os is j) (brace_more m n _))
+kept_words b context.Alone m n os is i j f = Kept.all (in_both (subst (λ ks. InOrder ks (part_ends (context_in m) os is)) (sym (alone_is os is)) (bare_in (context_in m) os is j)) (brace_more m n _))
+kept_words b context.Quoted m n os is i j f =
     let e : b ≡ 34 = is_class b class.Quote (f refl) in
-    Kept.first (quoted_is os is ∙ ap (λ k. k ∷ part_ends spot.Bare os is) (sym e)) (in_both (bare_in (spot_in m) os is j) (brace_more m n _))
-kept_words b spot.Index m n os is i j f = absurd i
+    Kept.first (quoted_is os is ∙ ap (λ k. k ∷ part_ends context.Bare os is) (sym e)) (in_both (bare_in (context_in m) os is j) (brace_more m n _))
+kept_words b context.Index m n os is i j f = absurd i
 
 kept_opens : (b : ℕ) (ks : List ℕ) (x : Bool) (f : WordFault) (s : State) → InOrder ks (ends_at s) → KeptMove b ks (opens x f s)
 kept_opens b ks true f s h = Kept.all h
 kept_opens b ks false f s h = tt
 
-kept_index : (b : ℕ) (is : List Spot) (n : ℕ) (d : Draft) → b ≡ 41 → KeptMove b (top_ends spot.Index is) (leaves_index is n d)
+kept_index : (b : ℕ) (is : List Context) (n : ℕ) (d : Draft) → b ≡ 41 → KeptMove b (top_ends context.Index is) (leaves_index is n d)
 kept_index b [] n d e = Kept.first (ap (λ k. k ∷ []) (sym e)) InOrder.none
 kept_index b (s ∷ is) n d e = Kept.first (ap (λ k. k ∷ top_ends s is) (sym e)) (in_same _)
 
-kept_bare : (b : ℕ) (is : List Spot) (n : ℕ) (d : Draft) → KeptMove b [] (leaves_index is n d)
+kept_bare : (b : ℕ) (is : List Context) (n : ℕ) (d : Draft) → KeptMove b [] (leaves_index is n d)
 kept_bare b [] n d = Kept.all InOrder.none
 kept_bare b (s ∷ is) n d = Kept.all InOrder.none
 
-rest_none : (s : Spot) (is : List Spot) → IsWordy s → (s ≡ spot.Quoted → ⊥) → top_ends s is ≡ []
-rest_none spot.Bare is i f = refl
-rest_none spot.Alone is i f = refl
-rest_none spot.Quoted is i f = absurd (f refl)
-rest_none spot.Index is i f = absurd i
+rest_none : (s : Context) (is : List Context) → IsWordy s → (s ≡ context.Quoted → ⊥) → top_ends s is ≡ []
+rest_none context.Bare is i f = refl
+rest_none context.Alone is i f = refl
+rest_none context.Quoted is i f = absurd (f refl)
+rest_none context.Index is i f = absurd i
 
-kept_follow : (s : Spot) (b : ℕ) (x : Next) (n : ℕ) (d : Draft) → Going s (class_of b) x → KeptMove b (part_ends s [] d.indices) (follow x n d)
+kept_follow : (s : Context) (b : ℕ) (x : Target) (n : ℕ) (d : Draft) → Going s (class_of b) x → KeptMove b (part_ends s [] d.indices) (follow x n d)
 kept_follow s b x n d (Going.stays {m = m} e) = kept_same b s m n [] d.indices e
 kept_follow s b x n d (Going.words {m = m} i j f) = kept_words b s m n [] d.indices i j f
 kept_follow s b x n d (Going.deeper e) = kept_same b s mode.Braced (n + 1) [] d.indices (sym e)
@@ -111,11 +112,11 @@ kept_follow s b x n d (Going.rests i f) = rest_none s d.indices i f
 kept_follow s b x n d (Going.fails f) = tt
 
 -- within brackets
-kept_leaves : (b : ℕ) (ks : List ℕ) (o : Outer) (os : List Outer) (n : ℕ) (d : Draft) → ks ≡ b ∷ part_ends (spot_of o) os d.indices → KeptMove b ks (leaves (o ∷ os) n d b)
+kept_leaves : (b : ℕ) (ks : List ℕ) (o : Opener) (os : List Opener) (n : ℕ) (d : Draft) → ks ≡ b ∷ part_ends (context_of o) os d.indices → KeptMove b ks (leaves (o ∷ os) n d b)
 kept_leaves b ks o [] n d e = Kept.first e (in_same _)
 kept_leaves b ks o (p ∷ ps) n d e = Kept.first e (in_same _)
 
-kept_inside : (s : Spot) (b : ℕ) (x : Next) (n : ℕ) (o : Outer) (os : List Outer) (d : Draft) → Going s (class_of b) x → KeptMove b (part_ends s (o ∷ os) d.indices) (follow_inside x n (o ∷ os) d b)
+kept_inside : (s : Context) (b : ℕ) (x : Target) (n : ℕ) (o : Opener) (os : List Opener) (d : Draft) → Going s (class_of b) x → KeptMove b (part_ends s (o ∷ os) d.indices) (follow_inside x n (o ∷ os) d b)
 kept_inside s b x n o os d (Going.stays {m = m} e) = kept_same b s m n (o ∷ os) d.indices e
 kept_inside s b x n o os d (Going.words {m = m} i j f) = kept_words b s m n (o ∷ os) d.indices i j f
 kept_inside s b x n o os d (Going.deeper e) = kept_same b s mode.Braced (n + 1) (o ∷ os) d.indices (sym e)
@@ -123,29 +124,29 @@ kept_inside s b x n o os d (Going.shallower e) = kept_same b s mode.Braced (n - 
 kept_inside s b x n o os d (Going.bracket e) = kept_opens b _ (has_room d (o ∷ os)) fault.MissingBracket _ (InOrder.past 93 (in_same _))
 kept_inside s b x n o os d (Going.paren e) = kept_opens b _ (has_room d (o ∷ os)) fault.MissingParen _ (InOrder.past 41 (in_same _))
 kept_inside s b x n o os d (Going.ends_index i e) =
-    kept_leaves b _ o os n d (ap (λ t. part_ends t (o ∷ os) d.indices) i ∙ ap (λ k. k ∷ part_ends (spot_of o) os d.indices) (sym (is_class b class.RightParen e)))
+    kept_leaves b _ o os n d (ap (λ t. part_ends t (o ∷ os) d.indices) i ∙ ap (λ k. k ∷ part_ends (context_of o) os d.indices) (sym (is_class b class.RightParen e)))
 kept_inside s b x n o os d (Going.ends_bracket i e) =
-    kept_leaves b _ o os n d (ap (λ t. part_ends t (o ∷ os) d.indices) i ∙ ap (λ k. k ∷ part_ends (spot_of o) os d.indices) (sym (is_class b class.RightBracket e)))
+    kept_leaves b _ o os n d (ap (λ t. part_ends t (o ∷ os) d.indices) i ∙ ap (λ k. k ∷ part_ends (context_of o) os d.indices) (sym (is_class b class.RightBracket e)))
 kept_inside s b x n o os d (Going.ends_command e) = kept_same b s mode.Start n (o ∷ os) d.indices (sym e)
 kept_inside s b x n o os d (Going.rests i f) = kept_words b s mode.Start n (o ∷ os) d.indices i tt (λ e. absurd (f e))
 kept_inside s b x n o os d (Going.fails f) = tt
 
-kept_take : (s : Spot) (b : ℕ) (t : Turn) (n : ℕ) (os : List Outer) (d : Draft) → Going s (class_of b) t.next → KeptMove b (part_ends s os d.indices) (take_turn t n os d b)
+kept_take : (s : Context) (b : ℕ) (t : Transition) (n : ℕ) (os : List Opener) (d : Draft) → Going s (class_of b) t.next → KeptMove b (part_ends s os d.indices) (take_transition t n os d b)
 kept_take s b t n [] d g =
     let e = perform t.first d in
-    subst (λ is. KeptMove b (part_ends s [] is) (follow t.next n (perform t.second e))) (deed_indices t.second e ∙ deed_indices t.first d) (kept_follow s b t.next n (perform t.second e) g)
+    subst (λ is. KeptMove b (part_ends s [] is) (follow t.next n (perform t.second e))) (effect_indices t.second e ∙ effect_indices t.first d) (kept_follow s b t.next n (perform t.second e) g)
 kept_take s b t n (o ∷ os) d g = kept_inside s b t.next n o os d g
 
 -- inside of braces
-data Bracing (m : Mode) (n b : ℕ) : Next → Type 0 where
-  to : {k : Mode} → spot_in k ≡ spot_in m → ((ks : List ℕ) → Kept b (brace_ends m n ks) (brace_ends k n ks)) → Bracing m n b (next.To k)
-  deeper : spot_in m ≡ spot.Bare → ((ks : List ℕ) → Kept b (brace_ends m n ks) (125 ∷ deep_ends (n + 1) ks)) → Bracing m n b next.Deeper
-  shallower : spot_in m ≡ spot.Bare → ((ks : List ℕ) → Kept b (brace_ends m n ks) (125 ∷ deep_ends (n - 1) ks)) → Bracing m n b next.Shallower
+data Bracing (m : Mode) (n b : ℕ) : Target → Type 0 where
+  to : {k : Mode} → context_in k ≡ context_in m → ((ks : List ℕ) → Kept b (brace_ends m n ks) (brace_ends k n ks)) → Bracing m n b (target.To k)
+  deeper : context_in m ≡ context.Bare → ((ks : List ℕ) → Kept b (brace_ends m n ks) (125 ∷ deep_ends (n + 1) ks)) → Bracing m n b target.Deeper
+  shallower : context_in m ≡ context.Bare → ((ks : List ℕ) → Kept b (brace_ends m n ks) (125 ∷ deep_ends (n - 1) ks)) → Bracing m n b target.Shallower
 
 closes : {b : ℕ} (ks : List ℕ) → b ≡ 125 → Kept b (125 ∷ ks) ks
 closes ks e = Kept.first (ap (λ k. k ∷ ks) (sym e)) (in_same ks)
 
-bracing_name : (s : Spot) (n b : ℕ) (c : Class) → class_of b ≡ c → Bracing (mode.NameBrace s) n b (in_name_brace s c b).next
+bracing_name : (s : Context) (n b : ℕ) (c : Class) → class_of b ≡ c → Bracing (mode.NameBrace s) n b (in_name_brace s c b).next
 bracing_name s n b class.Close e = Bracing.to refl (λ ks. closes ks (is_class b class.Close e))
 bracing_name s n b c e = Bracing.to refl (λ ks. Kept.all (in_same _))
 
@@ -216,58 +217,58 @@ bracing_join : (n b : ℕ) (x y : Bool) (c : Class) → nat_lt 0 n ≡ y → cla
 bracing_join n b true y c d e = Bracing.to refl (λ ks. Kept.all (in_same _))
 bracing_join n b false y c d e = bracing_braced mode.BracedJoin tt n b y c d e
 
-brace_follow : (m : Mode) (b : ℕ) (x : Next) (n : ℕ) (d : Draft) → Bracing m n b x → KeptMove b (ends_of [] m n d.indices) (follow x n d)
+brace_follow : (m : Mode) (b : ℕ) (x : Target) (n : ℕ) (d : Draft) → Bracing m n b x → KeptMove b (ends_of [] m n d.indices) (follow x n d)
 brace_follow m b x n d (Bracing.to {k = k} e f) = subst (λ t. Kept b (brace_ends m n (part_ends t [] d.indices)) (ends_of [] k n d.indices)) e (f _)
 brace_follow m b x n d (Bracing.deeper e f) = subst (λ t. Kept b (brace_ends m n (part_ends t [] d.indices)) (ends_of [] mode.Braced (n + 1) d.indices)) (sym e) (f _)
 brace_follow m b x n d (Bracing.shallower e f) = subst (λ t. Kept b (brace_ends m n (part_ends t [] d.indices)) (ends_of [] mode.Braced (n - 1) d.indices)) (sym e) (f _)
 
-brace_inside : (m : Mode) (b : ℕ) (x : Next) (n : ℕ) (o : Outer) (os : List Outer) (d : Draft) → Bracing m n b x → KeptMove b (ends_of (o ∷ os) m n d.indices) (follow_inside x n (o ∷ os) d b)
+brace_inside : (m : Mode) (b : ℕ) (x : Target) (n : ℕ) (o : Opener) (os : List Opener) (d : Draft) → Bracing m n b x → KeptMove b (ends_of (o ∷ os) m n d.indices) (follow_inside x n (o ∷ os) d b)
 brace_inside m b x n o os d (Bracing.to {k = k} e f) = subst (λ t. Kept b (brace_ends m n (part_ends t (o ∷ os) d.indices)) (ends_of (o ∷ os) k n d.indices)) e (f _)
 brace_inside m b x n o os d (Bracing.deeper e f) = subst (λ t. Kept b (brace_ends m n (part_ends t (o ∷ os) d.indices)) (ends_of (o ∷ os) mode.Braced (n + 1) d.indices)) (sym e) (f _)
 brace_inside m b x n o os d (Bracing.shallower e f) = subst (λ t. Kept b (brace_ends m n (part_ends t (o ∷ os) d.indices)) (ends_of (o ∷ os) mode.Braced (n - 1) d.indices)) (sym e) (f _)
 
-brace_take : (m : Mode) (b : ℕ) (t : Turn) (n : ℕ) (os : List Outer) (d : Draft) → Bracing m n b t.next → KeptMove b (ends_of os m n d.indices) (take_turn t n os d b)
+brace_take : (m : Mode) (b : ℕ) (t : Transition) (n : ℕ) (os : List Opener) (d : Draft) → Bracing m n b t.next → KeptMove b (ends_of os m n d.indices) (take_transition t n os d b)
 brace_take m b t n [] d g =
     let e = perform t.first d in
-    subst (λ is. KeptMove b (ends_of [] m n is) (follow t.next n (perform t.second e))) (deed_indices t.second e ∙ deed_indices t.first d) (brace_follow m b t.next n (perform t.second e) g)
+    subst (λ is. KeptMove b (ends_of [] m n is) (follow t.next n (perform t.second e))) (effect_indices t.second e ∙ effect_indices t.first d) (brace_follow m b t.next n (perform t.second e) g)
 brace_take m b t n (o ∷ os) d g = brace_inside m b t.next n o os d g
 
-kept_at : (l : Level) (m : Mode) (n : ℕ) (os : List Outer) (d : Draft) (b : ℕ) → KeptMove b (ends_of os m n d.indices) (take_turn (turn (level_in l os) (nat_lt 0 n) m (class_of b) b) n os d b)
-unfolding turn
+kept_at : (l : Level) (m : Mode) (n : ℕ) (os : List Opener) (d : Draft) (b : ℕ) → KeptMove b (ends_of os m n d.indices) (take_transition (transition (level_in l os) (nat_lt 0 n) m (class_of b) b) n os d b)
+unfolding transition
 kept_at l (mode.NameBrace s) n os d b = brace_take (mode.NameBrace s) b _ n os d (bracing_name s n b (class_of b) refl)
 kept_at l mode.BraceFirst n os d b = brace_take mode.BraceFirst b _ n os d (bracing_brace n b (class_of b) refl)
 kept_at l mode.BraceStar n os d b = brace_take mode.BraceStar b _ n os d (bracing_star n b (class_of b) refl)
 kept_at l mode.Braced n os d b = brace_take mode.Braced b _ n os d (bracing_braced mode.Braced tt n b (nat_lt 0 n) (class_of b) refl refl)
 kept_at l mode.BracedPair n os d b = brace_take mode.BracedPair b _ n os d (bracing_pair n b (class_of b))
 kept_at l mode.BracedJoin n os d b = brace_take mode.BracedJoin b _ n os d (bracing_join n b (is_space b) (nat_lt 0 n) (class_of b) refl refl)
-kept_at l m n os d b = kept_take (spot_in m) b (turn (level_in l os) (nat_lt 0 n) m (class_of b) b) n os d (going (level_in l os) (nat_lt 0 n) m (class_of b) b)
+kept_at l m n os d b = kept_take (context_in m) b (transition (level_in l os) (nat_lt 0 n) m (class_of b) b) n os d (going (level_in l os) (nat_lt 0 n) m (class_of b) b)
 
 kept_step : (l : Level) (s : State) (b : ℕ) → KeptMove b (ends_at s) (step l s b)
 unfolding step
 kept_step l s b = kept_at l s.mode s.depth s.inner s.draft b
 
 -- where a text may end nothing is open
-spot_none : (s : Spot) (is : List Spot) (x y : Deed) (d : Draft) (ws : List Word) → ended (spot_ends true s x y) d ≡ Ok ws → top_ends s is ≡ []
-spot_none spot.Quoted is x y d ws e = absurd cc
-spot_none spot.Index is x y d ws e = absurd cc
-spot_none spot.Bare is x y d ws e = refl
-spot_none spot.Alone is x y d ws e = refl
+context_none : (s : Context) (is : List Context) (x y : Effect) (d : Draft) (ws : List Word) → ended (context_ends true s x y) d ≡ Ok ws → top_ends s is ≡ []
+context_none context.Quoted is x y d ws e = absurd cc
+context_none context.Index is x y d ws e = absurd cc
+context_none context.Bare is x y d ws e = refl
+context_none context.Alone is x y d ws e = refl
 
-number_none : (s : Spot) (r : Option Deed) (is : List Spot) (d : Draft) (ws : List Word) → ended (number_ends true s r) d ≡ Ok ws → top_ends s is ≡ []
-number_none s (Some x) is d ws e = spot_none s is deed.Nothing x d ws e
-number_none spot.Bare None is d ws e = refl
-number_none spot.Alone None is d ws e = refl
-number_none spot.Quoted None is d ws e = absurd cc
-number_none spot.Index None is d ws e = absurd cc
+number_none : (s : Context) (r : Option Effect) (is : List Context) (d : Draft) (ws : List Word) → ended (number_ends true s r) d ≡ Ok ws → top_ends s is ≡ []
+number_none s (Some x) is d ws e = context_none s is effect.Nothing x d ws e
+number_none context.Bare None is d ws e = refl
+number_none context.Alone None is d ws e = refl
+number_none context.Quoted None is d ws e = absurd cc
+number_none context.Index None is d ws e = absurd cc
 
-none_top : (m : Mode) (n : ℕ) (is : List Spot) (d : Draft) (ws : List Word) → ended (ends true m) d ≡ Ok ws → ends_of [] m n is ≡ []
+none_top : (m : Mode) (n : ℕ) (is : List Context) (d : Draft) (ws : List Word) → ended (ends true m) d ≡ Ok ws → ends_of [] m n is ≡ []
 unfolding ends
-none_top (mode.In s) n is d ws e = spot_none s is deed.Nothing deed.Nothing d ws e
-none_top (mode.Pair s) n is d ws e = spot_none s is deed.Nothing (deed.Byte 92) d ws e
-none_top (mode.Join s) n is d ws e = spot_none s is deed.Nothing deed.Nothing d ws e
-none_top (mode.Dollar s) n is d ws e = spot_none s is deed.Nothing deed.Dollar d ws e
-none_top (mode.Colon s) n is d ws e = spot_none s is deed.Nothing deed.DollarColon d ws e
-none_top (mode.Name s) n is d ws e = spot_none s is deed.Nothing deed.Value d ws e
+none_top (mode.In s) n is d ws e = context_none s is effect.Nothing effect.Nothing d ws e
+none_top (mode.Pair s) n is d ws e = context_none s is effect.Nothing (effect.Byte 92) d ws e
+none_top (mode.Join s) n is d ws e = context_none s is effect.Nothing effect.Nothing d ws e
+none_top (mode.Dollar s) n is d ws e = context_none s is effect.Nothing effect.Dollar d ws e
+none_top (mode.Colon s) n is d ws e = context_none s is effect.Nothing effect.DollarColon d ws e
+none_top (mode.Name s) n is d ws e = context_none s is effect.Nothing effect.Value d ws e
 none_top (mode.Number s x) n is d ws e = number_none s (whole x) is d ws e
 none_top (mode.NameBrace s) n is d ws e = absurd cc
 none_top mode.BraceFirst n is d ws e = absurd cc
@@ -277,7 +278,7 @@ none_top mode.BracedPair n is d ws e = absurd cc
 none_top mode.BracedJoin n is d ws e = absurd cc
 none_top m n is d ws e = refl
 
-none_at : (m : Mode) (n : ℕ) (os : List Outer) (is : List Spot) (d : Draft) (ws : List Word) → ended (ends (is_none os) m) d ≡ Ok ws → ends_of os m n is ≡ []
+none_at : (m : Mode) (n : ℕ) (os : List Opener) (is : List Context) (d : Draft) (ws : List Word) → ended (ends (is_none os) m) d ≡ Ok ws → ends_of os m n is ≡ []
 none_at m n [] is d ws e = none_top m n is d ws e
 none_at m n (o ∷ os) is d ws e = absurd (inside_ends m d ws e)
 
@@ -289,15 +290,15 @@ needed_kept : (b : ℕ) (bs ks ls : List ℕ) → Kept b ks ls → InOrder ls bs
 needed_kept b bs ks ls (Kept.all h) i = InOrder.past b (in_both h i)
 needed_kept b bs ks ls (Kept.first e h) i = subst (λ js. InOrder js (b ∷ bs)) (sym e) (InOrder.here b (in_both h i))
 
-needed_turn : (l : Level) (b : ℕ) (bs ks : List ℕ) (p : ℕ) (x : List Word × ℕ) (m : Move) → KeptMove b ks m → ((n : State) → read l bs n (p + 1) ≡ Ok x → InOrder (ends_at n) bs) → onward m p (λ n. read l bs n (p + 1)) ≡ Ok x → InOrder ks (b ∷ bs)
-needed_turn l b bs ks p x (Go n) h f e = needed_kept b bs ks (ends_at n) h (f n e)
-needed_turn l b bs ks p x (Over ws n) h f e = subst (λ js. InOrder js (b ∷ bs)) (sym h) InOrder.none
-needed_turn l b bs ks p x (Fails g) h f e = absurd cc
+needed_transition : (l : Level) (b : ℕ) (bs ks : List ℕ) (p : ℕ) (x : List Word × ℕ) (m : Stepped) → KeptMove b ks m → ((n : State) → read l bs n (p + 1) ≡ Ok x → InOrder (ends_at n) bs) → onward m p (λ n. read l bs n (p + 1)) ≡ Ok x → InOrder ks (b ∷ bs)
+needed_transition l b bs ks p x (Go n) h f e = needed_kept b bs ks (ends_at n) h (f n e)
+needed_transition l b bs ks p x (Over ws n) h f e = subst (λ js. InOrder js (b ∷ bs)) (sym h) InOrder.none
+needed_transition l b bs ks p x (Fails g) h f e = absurd cc
 
 pub needed : (l : Level) (more : List ℕ) (s : State) (p : ℕ) (x : List Word × ℕ) → read l more s p ≡ Ok x → InOrder (ends_at s) more
 unfolding read stop
 needed l [] s p x e = needed_end (ends_at s) (stop s) p x (λ ws i. none_at s.mode s.depth s.inner s.draft.indices s.draft ws i) e
-needed l (b ∷ bs) s p x e = needed_turn l b bs (ends_at s) p x (step l s b) (kept_step l s b) (λ n j. needed l bs n (p + 1) x j) e
+needed l (b ∷ bs) s p x e = needed_transition l b bs (ends_at s) p x (step l s b) (kept_step l s b) (λ n j. needed l bs n (p + 1) x j) e
 
 -- what the end of a text tells of these ends
 abbrev pub IsMissing : WordFault → ℕ → Type 0
@@ -322,33 +323,33 @@ err_same {f = f} e = ap (fault_in f) e
 told : (k : ℕ) (g f : WordFault) → IsMissing g k → ◌≡◌ {A = Result (List Word) WordFault} (Err g) (Err f) → IsMissing f k
 told k g f h e = subst (λ x. IsMissing x k) (err_same e) h
 
-inmost_spot : (s : Spot) (os : List Outer) (is : List Spot) (x y : Deed) (d : Draft) (f : WordFault) → ended (spot_ends (is_none os) s x y) d ≡ Err f → IsInmost f (part_ends s os is)
-inmost_spot spot.Quoted [] is x y d f e = told 34 fault.MissingQuote f refl e
-inmost_spot spot.Quoted (o ∷ os) is x y d f e = told 34 fault.MissingQuote f refl e
-inmost_spot spot.Index [] [] x y d f e = told 41 fault.MissingParen f refl e
-inmost_spot spot.Index [] (i ∷ is) x y d f e = told 41 fault.MissingParen f refl e
-inmost_spot spot.Index (o ∷ os) is x y d f e = told 41 fault.MissingParen f refl e
-inmost_spot spot.Bare [] is x y d f e = absurd cc
-inmost_spot spot.Alone [] is x y d f e = absurd cc
-inmost_spot spot.Bare (o ∷ os) is x y d f e = told 93 fault.MissingBracket f refl e
-inmost_spot spot.Alone (o ∷ os) is x y d f e = told 93 fault.MissingBracket f refl e
+inmost_context : (s : Context) (os : List Opener) (is : List Context) (x y : Effect) (d : Draft) (f : WordFault) → ended (context_ends (is_none os) s x y) d ≡ Err f → IsInmost f (part_ends s os is)
+inmost_context context.Quoted [] is x y d f e = told 34 fault.MissingQuote f refl e
+inmost_context context.Quoted (o ∷ os) is x y d f e = told 34 fault.MissingQuote f refl e
+inmost_context context.Index [] [] x y d f e = told 41 fault.MissingParen f refl e
+inmost_context context.Index [] (i ∷ is) x y d f e = told 41 fault.MissingParen f refl e
+inmost_context context.Index (o ∷ os) is x y d f e = told 41 fault.MissingParen f refl e
+inmost_context context.Bare [] is x y d f e = absurd cc
+inmost_context context.Alone [] is x y d f e = absurd cc
+inmost_context context.Bare (o ∷ os) is x y d f e = told 93 fault.MissingBracket f refl e
+inmost_context context.Alone (o ∷ os) is x y d f e = told 93 fault.MissingBracket f refl e
 
-inmost_number : (s : Spot) (os : List Outer) (is : List Spot) (r : Option Deed) (d : Draft) (f : WordFault) → ended (number_ends (is_none os) s r) d ≡ Err f → IsInmost f (part_ends s os is)
-inmost_number s os is (Some x) d f e = inmost_spot s os is deed.Nothing x d f e
-inmost_number spot.Bare [] is None d f e = subst IsOther (err_same e) tt
-inmost_number spot.Alone [] is None d f e = subst IsOther (err_same e) tt
-inmost_number spot.Quoted [] is None d f e = inmost_spot spot.Quoted [] is deed.Nothing deed.Nothing d f e
-inmost_number spot.Index [] is None d f e = inmost_spot spot.Index [] is deed.Nothing deed.Nothing d f e
-inmost_number s (o ∷ os) is None d f e = inmost_spot s (o ∷ os) is deed.Nothing deed.Nothing d f e
+inmost_number : (s : Context) (os : List Opener) (is : List Context) (r : Option Effect) (d : Draft) (f : WordFault) → ended (number_ends (is_none os) s r) d ≡ Err f → IsInmost f (part_ends s os is)
+inmost_number s os is (Some x) d f e = inmost_context s os is effect.Nothing x d f e
+inmost_number context.Bare [] is None d f e = subst IsOther (err_same e) tt
+inmost_number context.Alone [] is None d f e = subst IsOther (err_same e) tt
+inmost_number context.Quoted [] is None d f e = inmost_context context.Quoted [] is effect.Nothing effect.Nothing d f e
+inmost_number context.Index [] is None d f e = inmost_context context.Index [] is effect.Nothing effect.Nothing d f e
+inmost_number s (o ∷ os) is None d f e = inmost_context s (o ∷ os) is effect.Nothing effect.Nothing d f e
 
-inmost_at : (m : Mode) (n : ℕ) (os : List Outer) (is : List Spot) (d : Draft) (f : WordFault) → ended (ends (is_none os) m) d ≡ Err f → IsInmost f (ends_of os m n is)
+inmost_at : (m : Mode) (n : ℕ) (os : List Opener) (is : List Context) (d : Draft) (f : WordFault) → ended (ends (is_none os) m) d ≡ Err f → IsInmost f (ends_of os m n is)
 unfolding ends
-inmost_at (mode.In s) n os is d f e = inmost_spot s os is deed.Nothing deed.Nothing d f e
-inmost_at (mode.Pair s) n os is d f e = inmost_spot s os is deed.Nothing (deed.Byte 92) d f e
-inmost_at (mode.Join s) n os is d f e = inmost_spot s os is deed.Nothing deed.Nothing d f e
-inmost_at (mode.Dollar s) n os is d f e = inmost_spot s os is deed.Nothing deed.Dollar d f e
-inmost_at (mode.Colon s) n os is d f e = inmost_spot s os is deed.Nothing deed.DollarColon d f e
-inmost_at (mode.Name s) n os is d f e = inmost_spot s os is deed.Nothing deed.Value d f e
+inmost_at (mode.In s) n os is d f e = inmost_context s os is effect.Nothing effect.Nothing d f e
+inmost_at (mode.Pair s) n os is d f e = inmost_context s os is effect.Nothing (effect.Byte 92) d f e
+inmost_at (mode.Join s) n os is d f e = inmost_context s os is effect.Nothing effect.Nothing d f e
+inmost_at (mode.Dollar s) n os is d f e = inmost_context s os is effect.Nothing effect.Dollar d f e
+inmost_at (mode.Colon s) n os is d f e = inmost_context s os is effect.Nothing effect.DollarColon d f e
+inmost_at (mode.Name s) n os is d f e = inmost_context s os is effect.Nothing effect.Value d f e
 inmost_at (mode.Number s x) n os is d f e = inmost_number s os is (whole x) d f e
 inmost_at (mode.NameBrace s) n os is d f e = told 125 fault.MissingBrace f refl e
 inmost_at mode.BraceFirst n os is d f e = told 125 fault.MissingBrace f refl e

@@ -3,25 +3,26 @@ use Rattle.std.specs.Prelude.{◌≡◌, ◌≢◌, ℕ, suc, ◌+◌, ◌≤◌
 use Rattle.std.proofs.Common.{inl, inr, ◌∙◌, ap, sym, arith, subst, append_assoc, length-append}
 use Rattle.std.proofs.lemmas.Bool.Decides.{leb_tells}
 use lib.Utf8.{scalar}
-use Rattle.dg_words.specs.declared.fault.WordFault.{WordFault}
-use Rattle.dg_words.specs.declared.fault.WordFault.TheVariants as fault
-use Rattle.dg_words.specs.declared.kinds.Delimiter.{Delimiter}
-use Rattle.dg_words.specs.declared.kinds.Delimiter.TheVariants as delimiter
-use Rattle.dg_words.specs.declared.kinds.Escape.{Escape}
-use Rattle.dg_words.specs.declared.kinds.Escape.TheVariants.{Octal, Byte, Short, Long}
+use Rattle.dg_lists.specs.declared.fault.WordFault.{WordFault}
+use Rattle.dg_lists.specs.declared.fault.WordFault.TheVariants as fault
+use Rattle.dg_lists.specs.declared.kinds.Delimiter.{Delimiter}
+use Rattle.dg_lists.specs.declared.kinds.Delimiter.TheVariants as delimiter
+use Rattle.dg_lists.specs.declared.kinds.Escape.{Escape}
+use Rattle.dg_lists.specs.declared.kinds.Escape.TheVariants.{Octal, Byte, Short, Long}
 use Rattle.dg_words.specs.declared.kinds.Level.TheVariants as level
-use Rattle.dg_words.specs.Classes.{class_of}
-use Rattle.dg_words.specs.Turns.{after, digits_of, letter_of}
-use Rattle.dg_words.specs.Grammar.Continuing.{GoesOn, IsNot, StopsAt}
+use Rattle.dg_lists.specs.Classes.{class_of}
+use Rattle.dg_lists.specs.Transitions.{digits_of, letter_of}
+use Rattle.dg_words.specs.Transitions.{after}
+use Rattle.dg_lists.specs.Grammar.Continuing.{GoesOn, IsNot, StopsAt}
 use Rattle.dg_words.specs.Grammar.Ends.{Open, missing}
-use Rattle.dg_words.specs.Grammar.Escapes.{each, value_from}
+use Rattle.dg_lists.specs.Grammar.Escapes.{each, value_from}
 use Rattle.dg_words.specs.Grammar.Saying.{EndsWord, IsWrong, OpensNothing, TooMany, Unwritten, is_hex}
 use Rattle.dg_words.specs.Grammar.Words.{Parted, ends_word}
-use Rattle.dg_words.proofs.GrammarLemmas.GoOn.{dot_is}
+use Rattle.dg_lists.proofs.GrammarLemmas.Endable.{dot_is}
 use Rattle.dg_words.proofs.GrammarLemmas.Inmost.{IsMissing}
 use Rattle.dg_words.proofs.GrammarLemmas.InOrder.{same_open}
-use Rattle.dg_words.proofs.GrammarLemmas.ListRead.{backslash_is}
-use Rattle.dg_words.proofs.GrammarLemmas.Numbers.{and_left, and_right}
+use Rattle.dg_lists.proofs.GrammarLemmas.ListRead.{backslash_is}
+use Rattle.dg_lists.proofs.GrammarLemmas.Numbers.{and_left, and_right}
 use Rattle.dg_words.proofs.GrammarLemmas.Trails.{mark}
 
 head_of : List ℕ → ℕ

@@ -4,37 +4,38 @@ use Rattle.std.proofs.Common.{◌∙◌, ap, sym, arith, subst, append_assoc}
 use Rattle.std.proofs.lemmas.List.{append-nil}
 use Rattle.std.proofs.lemmas.Bool.{lt-ltb}
 use Rattle.dg_words.specs.Piece.{Piece, Text, Variable, Element, End, Command}
-use Rattle.dg_words.specs.declared.kinds.Class.{Class}
-use Rattle.dg_words.specs.declared.kinds.Class.TheVariants as class
-use Rattle.dg_words.specs.declared.kinds.Deed.{Deed}
-use Rattle.dg_words.specs.declared.kinds.Deed.TheVariants as deed
+use Rattle.dg_lists.specs.declared.kinds.Class.{Class}
+use Rattle.dg_lists.specs.declared.kinds.Class.TheVariants as class
+use Rattle.dg_lists.specs.declared.kinds.Effect.{Effect}
+use Rattle.dg_lists.specs.declared.kinds.Effect.TheVariants as effect
 use Rattle.dg_words.specs.declared.kinds.Level.{Level}
 use Rattle.dg_words.specs.declared.kinds.Level.TheVariants as level
-use Rattle.dg_words.specs.declared.kinds.Mode.{Mode}
-use Rattle.dg_words.specs.declared.kinds.Mode.TheVariants as mode
-use Rattle.dg_words.specs.declared.kinds.Next.TheVariants as next
-use Rattle.dg_words.specs.declared.kinds.Outer.{Outer}
-use Rattle.dg_words.specs.declared.kinds.Spot.{Spot}
-use Rattle.dg_words.specs.declared.kinds.Spot.TheVariants as spot
-use Rattle.dg_words.specs.declared.kinds.Turn.{Turn}
-use Rattle.dg_words.specs.Classes.{class_of}
-use Rattle.dg_words.specs.Turns.{behind_deed, ends, does, goes, in_spot, turn}
-use Rattle.dg_words.specs.Machine.{Draft, Go, State, add, close, closed, command, level_in, perform, read, step, stop, take_turn}
-use Rattle.dg_words.specs.Turns.{escaped, letter_of}
+use Rattle.dg_lists.specs.declared.kinds.Mode.{Mode}
+use Rattle.dg_lists.specs.declared.kinds.Mode.TheVariants as mode
+use Rattle.dg_lists.specs.declared.kinds.Target.TheVariants as target
+use Rattle.dg_words.specs.declared.kinds.Opener.{Opener}
+use Rattle.dg_lists.specs.declared.kinds.Context.{Context}
+use Rattle.dg_lists.specs.declared.kinds.Context.TheVariants as context
+use Rattle.dg_lists.specs.declared.kinds.Transition.{Transition}
+use Rattle.dg_lists.specs.Classes.{class_of}
+use Rattle.dg_lists.specs.Transitions.{behind_effect, does, goes}
+use Rattle.dg_words.specs.Transitions.{ends, in_context, transition}
+use Rattle.dg_words.specs.Machine.{Draft, Go, State, add, close, closed, command, level_in, perform, read, step, stop, take_transition}
+use Rattle.dg_lists.specs.Transitions.{escaped, letter_of}
 use Rattle.dg_words.specs.Machine.{close_index, has_room, leaves_index, open_index, opens}
-use Rattle.dg_words.specs.Grammar.Escapes as spec
-use Rattle.dg_words.specs.Grammar.Escapes.{Escaped, stands_for}
+use Rattle.dg_lists.specs.Grammar.Escapes as spec
+use Rattle.dg_lists.specs.Grammar.Escapes.{Escaped, stands_for}
 use Rattle.dg_words.specs.Grammar.Words as words
 use Rattle.dg_words.specs.Grammar.Words.{plain, ends_word, Named, with_text}
-use Rattle.dg_words.proofs.GrammarLemmas.Numbers.{Paired, paired}
-use Rattle.dg_words.proofs.GrammarLemmas.Bytes.{is_class}
-use Rattle.dg_words.proofs.GrammarLemmas.ListRead.{backslash_is}
-use Rattle.dg_words.proofs.GrammarLemmas.Segments.{at, Leads, lead_one, lead_both, step_by, read_step, read_end, moved, add_add, add_none, Seg, seg_one, does_in, pend_step, pend_turn}
+use Rattle.dg_lists.proofs.GrammarLemmas.Numbers.{Paired, paired}
+use Rattle.dg_lists.proofs.GrammarLemmas.Bytes.{is_class}
+use Rattle.dg_lists.proofs.GrammarLemmas.ListRead.{backslash_is}
+use Rattle.dg_words.proofs.GrammarLemmas.Segments.{at, Leads, lead_one, lead_both, step_by, read_step, read_end, moved, add_add, add_none, Seg, seg_one, does_in, pend_step, pend_transition}
 use Rattle.dg_words.specs.Grammar.Words.{Parts, Gap, begins, Begins}
 use Rattle.dg_words.proofs.GrammarLemmas.Pieces.{same, seg_backslash}
-use Rattle.dg_words.proofs.GrammarLemmas.Pieces.{begun, behind_nothing, escaped_turn, letter_line, octal_line, dollar_is, left_bracket_is, right_bracket_is, right_paren_is, paren_is, bracket_turn, seg_dollar, seg_named, varied}
-use Rattle.dg_words.specs.declared.kinds.Outer.TheVariants as outer
-use Rattle.dg_words.specs.declared.fault.WordFault.TheVariants.{MissingBracket, MissingParen}
+use Rattle.dg_words.proofs.GrammarLemmas.Pieces.{begun, behind_nothing, escaped_transition, letter_line, octal_line, dollar_is, left_bracket_is, right_bracket_is, right_paren_is, paren_is, bracket_transition, seg_dollar, seg_named, varied}
+use Rattle.dg_words.specs.declared.kinds.Opener.TheVariants as opener
+use Rattle.dg_lists.specs.declared.fault.WordFault.TheVariants.{MissingBracket, MissingParen}
 
 -- pieces and the text behind them
 pub text_text : (u v : List ℕ) (ps : List Piece) → with_text (u ++ v) ps ≡ with_text u (with_text v ps)
@@ -64,46 +65,46 @@ closed_command ps qs [] n = refl
 closed_command ps qs (b ∷ bs) n = append_assoc ps (Text (b ∷ bs) ∷ []) (Command n ∷ qs)
 
 -- the draft e is d behind the text t, which spells ps
-abbrev pub Behind : List Outer → Draft → List ℕ → List Piece → Draft → Type 0
+abbrev pub Behind : List Opener → Draft → List ℕ → List Piece → Draft → Type 0
 Behind [] d t ps e = (e.words ≡ d.words) × (e.expand ≡ d.expand) × (e.indices ≡ d.indices) × (closed e.parts e.text ≡ d.parts ++ with_text d.text ps)
 Behind (o ∷ os) d t ps e = e ≡ add t d
 
 -- so whatever pieces follow
-abbrev pub Atom : List Outer → Draft → List ℕ → (List Piece → List Piece) → Draft → Type 0
+abbrev pub Atom : List Opener → Draft → List ℕ → (List Piece → List Piece) → Draft → Type 0
 Atom [] d t q e = (e.words ≡ d.words) × (e.expand ≡ d.expand) × (e.indices ≡ d.indices) × ((ps : List Piece) → e.parts ++ with_text e.text ps ≡ d.parts ++ with_text d.text (q ps))
 Atom (o ∷ os) d t q e = e ≡ add t d
 
-pub atom_then : (inner : List Outer) (d e f : Draft) (a t : List ℕ) (q : List Piece → List Piece) (ps : List Piece) → Atom inner d a q e → Behind inner e t ps f → Behind inner d (a ++ t) (q ps) f
+pub atom_then : (inner : List Opener) (d e f : Draft) (a t : List ℕ) (q : List Piece → List Piece) (ps : List Piece) → Atom inner d a q e → Behind inner e t ps f → Behind inner d (a ++ t) (q ps) f
 atom_then [] d e f a t q ps x y = (y.0 ∙ x.0, y.1 ∙ x.1, y.2 ∙ x.2, y.3 ∙ x.3 ps)
 atom_then (o ∷ os) d e f a t q ps x y = y ∙ ap (add t) x ∙ add_add a t d
 
-pub behind_none : (inner : List Outer) (d : Draft) → Behind inner d [] [] d
+pub behind_none : (inner : List Opener) (d : Draft) → Behind inner d [] [] d
 behind_none [] d = (refl, refl, refl, closed_is d.parts d.text)
 behind_none (o ∷ os) d = sym (add_none d)
 
-pub atom_indices : (inner : List Outer) (d e : Draft) (a : List ℕ) (q : List Piece → List Piece) → Atom inner d a q e → e.indices ≡ d.indices
+pub atom_indices : (inner : List Opener) (d e : Draft) (a : List ℕ) (q : List Piece → List Piece) → Atom inner d a q e → e.indices ≡ d.indices
 atom_indices [] d e a q x = x.2
 atom_indices (o ∷ os) d e a q x = ap (λ (y : Draft). y.indices) x
 
-pub behind_indices : (inner : List Outer) (d e : Draft) (t : List ℕ) (ps : List Piece) → Behind inner d t ps e → e.indices ≡ d.indices
+pub behind_indices : (inner : List Opener) (d e : Draft) (t : List ℕ) (ps : List Piece) → Behind inner d t ps e → e.indices ≡ d.indices
 behind_indices [] d e t ps x = x.2
 behind_indices (o ∷ os) d e t ps x = ap (λ (y : Draft). y.indices) x
 
-pub text_atom : (inner : List Outer) (d : Draft) (a w : List ℕ) → Atom inner d a (with_text w) (moved inner a (add w) d)
+pub text_atom : (inner : List Opener) (d : Draft) (a w : List ℕ) → Atom inner d a (with_text w) (moved inner a (add w) d)
 text_atom [] d a w = (refl, refl, refl, λ ps. ap (λ x. d.parts ++ x) (text_text d.text w ps))
 text_atom (o ∷ os) d a w = refl
 
-pub variable_atom : (inner : List Outer) (d : Draft) (a name : List ℕ) → Atom inner d a (λ ps. Variable name ∷ ps) (moved inner a (varied name) d)
+pub variable_atom : (inner : List Opener) (d : Draft) (a name : List ℕ) → Atom inner d a (λ ps. Variable name ∷ ps) (moved inner a (varied name) d)
 variable_atom [] d a name = (refl, refl, refl, λ ps. append_assoc (closed d.parts d.text) (Variable name ∷ []) ps ∙ closed_variable d.parts ps d.text name)
 variable_atom (o ∷ os) d a name = refl
 
 -- parts that were read from d on
-pub record Leading (l : Level) (inner : List Outer) (after : List ℕ) (s : Spot) (d : Draft) (t : List ℕ) (ps : List Piece) : Type 0 where
+pub record Leading (l : Level) (inner : List Opener) (after : List ℕ) (s : Context) (d : Draft) (t : List ℕ) (ps : List Piece) : Type 0 where
   pub draft : Draft
   pub leads : Leads l after (at inner (mode.In s) 0 d) t (at inner (mode.In s) 0 draft)
   pub behind : Behind inner d t ps draft
 
-pub by_seg : (l : Level) (inner : List Outer) (after : List ℕ) (s : Spot) (d : Draft) (a t : List ℕ) (f : Draft → Draft) (q : List Piece → List Piece) (ps : List Piece) →
+pub by_seg : (l : Level) (inner : List Opener) (after : List ℕ) (s : Context) (d : Draft) (a t : List ℕ) (f : Draft → Draft) (q : List Piece → List Piece) (ps : List Piece) →
     Seg l inner (t ++ after) (mode.In s) 0 a f (mode.In s) 0 → Atom inner d a q (moved inner a f d) → Leading l inner after s (moved inner a f d) t ps → Leading l inner after s d (a ++ t) (q ps)
 by_seg l inner after s d a t f q ps x y r = record {
   draft = r.draft;
@@ -112,45 +113,45 @@ by_seg l inner after s d a t f q ps x y r = record {
 }
 
 -- room for more brackets and indices
-abbrev pub Room : ℕ → List Outer → Draft → Type 0
+abbrev pub Room : ℕ → List Opener → Draft → Type 0
 Room n inner d = n + (length d.indices + length inner) ≡ 100
 
-pub room_as : (n : ℕ) (inner : List Outer) (d e : Draft) → e.indices ≡ d.indices → Room n inner d → Room n inner e
+pub room_as : (n : ℕ) (inner : List Opener) (d e : Draft) → e.indices ≡ d.indices → Room n inner d → Room n inner e
 room_as n inner d e h r = subst (λ x. n + (length x + length inner) ≡ 100) (sym h) r
 
-pub has_room_is : (n : ℕ) (inner : List Outer) (d : Draft) → Room (suc n) inner d → has_room d inner ≡ true
+pub has_room_is : (n : ℕ) (inner : List Opener) (d : Draft) → Room (suc n) inner d → has_room d inner ≡ true
 has_room_is n inner d r = lt-ltb (length d.indices + length inner) 100 (omega (arith, r))
 
 -- an index opens and closes
-abbrev pub entered : Spot → List Outer → List Outer
+abbrev pub entered : Context → List Opener → List Opener
 entered s [] = []
-entered s (o ∷ os) = outer.Paren s ∷ o ∷ os
+entered s (o ∷ os) = opener.Paren s ∷ o ∷ os
 
-pub entered_level : (l : Level) (s : Spot) (inner : List Outer) → level_in l (entered s inner) ≡ level_in l inner
+pub entered_level : (l : Level) (s : Context) (inner : List Opener) → level_in l (entered s inner) ≡ level_in l inner
 entered_level l s [] = refl
 entered_level l s (o ∷ os) = refl
 
-abbrev pub indexed : Spot → List Outer → List ℕ → List ℕ → Draft → Draft
+abbrev pub indexed : Context → List Opener → List ℕ → List ℕ → Draft → Draft
 indexed s [] a name d = open_index s (begun name d)
 indexed s (o ∷ os) a name d = add a d
 
-pub entered_room : (n : ℕ) (s : Spot) (inner : List Outer) (a name : List ℕ) (d : Draft) → Room (suc n) inner d → Room n (entered s inner) (indexed s inner a name d)
+pub entered_room : (n : ℕ) (s : Context) (inner : List Opener) (a name : List ℕ) (d : Draft) → Room (suc n) inner d → Room n (entered s inner) (indexed s inner a name d)
 entered_room n s [] a name d r = omega (arith, r)
 entered_room n s (o ∷ os) a name d r = omega (arith, r)
 
-abbrev pub unindexed : Spot → List Outer → List Spot → Draft → Draft
+abbrev pub unindexed : Context → List Opener → List Context → Draft → Draft
 unindexed s [] rest d = close_index rest d
 unindexed s (o ∷ os) rest d = add (41 ∷ []) d
 
-pub index_closes : (l : Level) (after : List ℕ) (s : Spot) (inner : List Outer) (a name : List ℕ) (d e : Draft) (i : List ℕ) (is : List Piece) → Behind (entered s inner) (indexed s inner a name d) i is e →
-    Leads l after (at (entered s inner) (mode.In spot.Index) 0 e) (41 ∷ []) (at inner (mode.In s) 0 (unindexed s inner d.indices e))
-unfolding turn
+pub index_closes : (l : Level) (after : List ℕ) (s : Context) (inner : List Opener) (a name : List ℕ) (d e : Draft) (i : List ℕ) (is : List Piece) → Behind (entered s inner) (indexed s inner a name d) i is e →
+    Leads l after (at (entered s inner) (mode.In context.Index) 0 e) (41 ∷ []) (at inner (mode.In s) 0 (unindexed s inner d.indices e))
+unfolding transition
 index_closes l after s [] a name d e i is h =
-    lead_one l after _ _ 41 (step_by l (at [] (mode.In spot.Index) 0 e) 41 class.RightParen (does deed.Nothing next.Leave) right_paren_is refl ∙ ap (λ x. leaves_index x 0 e) h.2)
+    lead_one l after _ _ 41 (step_by l (at [] (mode.In context.Index) 0 e) 41 class.RightParen (does effect.Nothing target.Leave) right_paren_is refl ∙ ap (λ x. leaves_index x 0 e) h.2)
 index_closes l after s (o ∷ os) a name d e i is h =
-    lead_one l after _ _ 41 (step_by l (at (outer.Paren s ∷ o ∷ os) (mode.In spot.Index) 0 e) 41 class.RightParen (does deed.Nothing next.Leave) right_paren_is refl)
+    lead_one l after _ _ 41 (step_by l (at (opener.Paren s ∷ o ∷ os) (mode.In context.Index) 0 e) 41 class.RightParen (does effect.Nothing target.Leave) right_paren_is refl)
 
-pub element_atom : (inner : List Outer) (s : Spot) (d e : Draft) (a name i : List ℕ) (is : List Piece) → Behind (entered s inner) (indexed s inner a name d) i is e →
+pub element_atom : (inner : List Opener) (s : Context) (d e : Draft) (a name i : List ℕ) (is : List Piece) → Behind (entered s inner) (indexed s inner a name d) i is e →
     Atom inner d (a ++ i ++ 41 ∷ []) (λ ps. Element name ∷ is ++ End ∷ ps) (unindexed s inner d.indices e)
 element_atom [] s d e a name i is h = (
   h.0,
@@ -167,66 +168,66 @@ element_atom [] s d e a name i is h = (
 element_atom (o ∷ os) s d e a name i is h = ap (add (41 ∷ [])) h ∙ ap (add (41 ∷ [])) (add_add a i d) ∙ add_add (a ++ i) (41 ∷ []) d
 
 -- `$`, a name and `(`
-abbrev pub opened : Spot → List Outer → Deed → Draft → Draft
+abbrev pub opened : Context → List Opener → Effect → Draft → Draft
 opened s [] f d = open_index s (perform f d)
 opened s (o ∷ os) f d = add (40 ∷ []) d
 
-pub paren_taken : (s : Spot) (inner : List Outer) (f : Deed) (d : Draft) → has_room (does_in inner f d) inner ≡ true →
-    take_turn (record { first = f; second = deed.Nothing; next = next.Paren s }) 0 inner d 40 ≡ Go (at (entered s inner) (mode.In spot.Index) 0 (opened s inner f d))
-paren_taken s [] f d r = ap (λ x. opens x MissingParen (at [] (mode.In spot.Index) 0 (open_index s (perform f d)))) r
-paren_taken s (o ∷ os) f d r = ap (λ x. opens x MissingParen (at (outer.Paren s ∷ o ∷ os) (mode.In spot.Index) 0 (add (40 ∷ []) d))) r
+pub paren_taken : (s : Context) (inner : List Opener) (f : Effect) (d : Draft) → has_room (does_in inner f d) inner ≡ true →
+    take_transition (record { first = f; second = effect.Nothing; next = target.Paren s }) 0 inner d 40 ≡ Go (at (entered s inner) (mode.In context.Index) 0 (opened s inner f d))
+paren_taken s [] f d r = ap (λ x. opens x MissingParen (at [] (mode.In context.Index) 0 (open_index s (perform f d)))) r
+paren_taken s (o ∷ os) f d r = ap (λ x. opens x MissingParen (at (opener.Paren s ∷ o ∷ os) (mode.In context.Index) 0 (add (40 ∷ []) d))) r
 
-pub paren_lead : (l : Level) (inner : List Outer) (after : List ℕ) (s : Spot) (m : Mode) (f : Deed) (d : Draft) → turn (level_in l inner) false m class.LeftParen 40 ≡ record { first = f; second = deed.Nothing; next = next.Paren s } →
-    has_room (does_in inner f d) inner ≡ true → Leads l after (at inner m 0 d) (40 ∷ []) (at (entered s inner) (mode.In spot.Index) 0 (opened s inner f d))
+pub paren_lead : (l : Level) (inner : List Opener) (after : List ℕ) (s : Context) (m : Mode) (f : Effect) (d : Draft) → transition (level_in l inner) false m class.LeftParen 40 ≡ record { first = f; second = effect.Nothing; next = target.Paren s } →
+    has_room (does_in inner f d) inner ≡ true → Leads l after (at inner m 0 d) (40 ∷ []) (at (entered s inner) (mode.In context.Index) 0 (opened s inner f d))
 paren_lead l inner after s m f d h r = lead_one l after _ _ 40 (step_by l (at inner m 0 d) 40 class.LeftParen _ paren_is h ∙ paren_taken s inner f d r)
 
-pub element_opens : (l : Level) (inner : List Outer) (after : List ℕ) (s : Spot) (n : ℕ) (name : List ℕ) (d : Draft) → s ≢ spot.Alone → Named name → Room (suc n) inner d →
-    Leads l after (at inner (mode.In s) 0 d) (36 ∷ name ++ 40 ∷ []) (at (entered s inner) (mode.In spot.Index) 0 (indexed s inner (36 ∷ name ++ 40 ∷ []) name d))
-unfolding turn
+pub element_opens : (l : Level) (inner : List Opener) (after : List ℕ) (s : Context) (n : ℕ) (name : List ℕ) (d : Draft) → s ≢ context.Alone → Named name → Room (suc n) inner d →
+    Leads l after (at inner (mode.In s) 0 d) (36 ∷ name ++ 40 ∷ []) (at (entered s inner) (mode.In context.Index) 0 (indexed s inner (36 ∷ name ++ 40 ∷ []) name d))
+unfolding transition
 element_opens l [] after s n [] d na h r =
-    lead_both l after _ _ _ (36 ∷ []) (40 ∷ []) (seg_dollar l [] (40 ∷ after) s na d) (paren_lead l [] after s (mode.Dollar s) deed.Close d refl (has_room_is n [] (close d) r))
+    lead_both l after _ _ _ (36 ∷ []) (40 ∷ []) (seg_dollar l [] (40 ∷ after) s na d) (paren_lead l [] after s (mode.Dollar s) effect.Close d refl (has_room_is n [] (close d) r))
 element_opens l (o ∷ os) after s n [] d na h r =
-    subst (λ x. Leads l after (at (o ∷ os) (mode.In s) 0 d) (36 ∷ 40 ∷ []) (at (outer.Paren s ∷ o ∷ os) (mode.In spot.Index) 0 x)) (add_add (36 ∷ []) (40 ∷ []) d)
+    subst (λ x. Leads l after (at (o ∷ os) (mode.In s) 0 d) (36 ∷ 40 ∷ []) (at (opener.Paren s ∷ o ∷ os) (mode.In context.Index) 0 x)) (add_add (36 ∷ []) (40 ∷ []) d)
     (lead_both l after _ _ _ (36 ∷ []) (40 ∷ []) (seg_dollar l (o ∷ os) (40 ∷ after) s na d)
-    (paren_lead l (o ∷ os) after s (mode.Dollar s) deed.Close (add (36 ∷ []) d) refl (has_room_is n (o ∷ os) (add (36 ∷ []) d) r)))
+    (paren_lead l (o ∷ os) after s (mode.Dollar s) effect.Close (add (36 ∷ []) d) refl (has_room_is n (o ∷ os) (add (36 ∷ []) d) r)))
 element_opens l [] after s n (b ∷ bs) d na h r =
     lead_both l after _ _ _ (36 ∷ b ∷ bs) (40 ∷ []) (seg_named l [] (40 ∷ after) s (b ∷ bs) na h (λ e. absurd cc) d)
-    (paren_lead l [] after s (mode.Name s) deed.Nothing (begun (b ∷ bs) d) refl (has_room_is n [] (begun (b ∷ bs) d) r))
+    (paren_lead l [] after s (mode.Name s) effect.Nothing (begun (b ∷ bs) d) refl (has_room_is n [] (begun (b ∷ bs) d) r))
 element_opens l (o ∷ os) after s n (b ∷ bs) d na h r =
-    subst (λ x. Leads l after (at (o ∷ os) (mode.In s) 0 d) (36 ∷ (b ∷ bs) ++ 40 ∷ []) (at (outer.Paren s ∷ o ∷ os) (mode.In spot.Index) 0 x)) (add_add (36 ∷ b ∷ bs) (40 ∷ []) d)
+    subst (λ x. Leads l after (at (o ∷ os) (mode.In s) 0 d) (36 ∷ (b ∷ bs) ++ 40 ∷ []) (at (opener.Paren s ∷ o ∷ os) (mode.In context.Index) 0 x)) (add_add (36 ∷ b ∷ bs) (40 ∷ []) d)
     (lead_both l after _ _ _ (36 ∷ b ∷ bs) (40 ∷ []) (seg_named l (o ∷ os) (40 ∷ after) s (b ∷ bs) na h (λ e. absurd cc) d)
-    (paren_lead l (o ∷ os) after s (mode.Name s) deed.Nothing (add (36 ∷ b ∷ bs) d) refl (has_room_is n (o ∷ os) (add (36 ∷ b ∷ bs) d) r)))
+    (paren_lead l (o ∷ os) after s (mode.Name s) effect.Nothing (add (36 ∷ b ∷ bs) d) refl (has_room_is n (o ∷ os) (add (36 ∷ b ∷ bs) d) r)))
 
 -- brackets
-abbrev pub bracketed : List Outer → Draft → Draft
+abbrev pub bracketed : List Opener → Draft → Draft
 bracketed [] d = close d
 bracketed (o ∷ os) d = add (91 ∷ []) d
 
-abbrev pub unbracketed : List Outer → Draft → Draft
+abbrev pub unbracketed : List Opener → Draft → Draft
 unbracketed [] d = command d
 unbracketed (o ∷ os) d = add (93 ∷ []) d
 
-pub bracket_taken : (s : Spot) (inner : List Outer) (d : Draft) → has_room d inner ≡ true →
-    take_turn (does deed.Nothing (next.Bracket s)) 0 inner d 91 ≡ Go (at (outer.Bracket s ∷ inner) mode.Start 0 (bracketed inner d))
-bracket_taken s [] d r = ap (λ x. opens x MissingBracket (at (outer.Bracket s ∷ []) mode.Start 0 (close d))) r
-bracket_taken s (o ∷ os) d r = ap (λ x. opens x MissingBracket (at (outer.Bracket s ∷ o ∷ os) mode.Start 0 (add (91 ∷ []) d))) r
+pub bracket_taken : (s : Context) (inner : List Opener) (d : Draft) → has_room d inner ≡ true →
+    take_transition (does effect.Nothing (target.Bracket s)) 0 inner d 91 ≡ Go (at (opener.Bracket s ∷ inner) mode.Start 0 (bracketed inner d))
+bracket_taken s [] d r = ap (λ x. opens x MissingBracket (at (opener.Bracket s ∷ []) mode.Start 0 (close d))) r
+bracket_taken s (o ∷ os) d r = ap (λ x. opens x MissingBracket (at (opener.Bracket s ∷ o ∷ os) mode.Start 0 (add (91 ∷ []) d))) r
 
-pub bracket_opens : (l : Level) (inner : List Outer) (after : List ℕ) (s : Spot) (n : ℕ) (d : Draft) → s ≢ spot.Alone → Room (suc n) inner d →
-    Leads l after (at inner (mode.In s) 0 d) (91 ∷ []) (at (outer.Bracket s ∷ inner) mode.Start 0 (bracketed inner d))
-unfolding turn
+pub bracket_opens : (l : Level) (inner : List Opener) (after : List ℕ) (s : Context) (n : ℕ) (d : Draft) → s ≢ context.Alone → Room (suc n) inner d →
+    Leads l after (at inner (mode.In s) 0 d) (91 ∷ []) (at (opener.Bracket s ∷ inner) mode.Start 0 (bracketed inner d))
+unfolding transition
 bracket_opens l inner after s n d na r =
-    lead_one l after _ _ 91 (step_by l (at inner (mode.In s) 0 d) 91 class.LeftBracket (does deed.Nothing (next.Bracket s)) left_bracket_is (bracket_turn (level_in l inner) s 91 na) ∙ bracket_taken s inner d (has_room_is n inner d r))
+    lead_one l after _ _ 91 (step_by l (at inner (mode.In s) 0 d) 91 class.LeftBracket (does effect.Nothing (target.Bracket s)) left_bracket_is (bracket_transition (level_in l inner) s 91 na) ∙ bracket_taken s inner d (has_room_is n inner d r))
 
-pub bracketed_room : (n : ℕ) (s : Spot) (inner : List Outer) (d : Draft) → Room (suc n) inner d → Room n (outer.Bracket s ∷ inner) (bracketed inner d)
+pub bracketed_room : (n : ℕ) (s : Context) (inner : List Opener) (d : Draft) → Room (suc n) inner d → Room n (opener.Bracket s ∷ inner) (bracketed inner d)
 bracketed_room n s [] d r = omega (arith, r)
 bracketed_room n s (o ∷ os) d r = omega (arith, r)
 
-pub bracket_closes : (l : Level) (inner : List Outer) (after : List ℕ) (s : Spot) (e : Draft) → Leads l after (at (outer.Bracket s ∷ inner) mode.Gap 0 e) (93 ∷ []) (at inner (mode.In s) 0 (unbracketed inner e))
-unfolding turn
-bracket_closes l [] after s e = lead_one l after _ _ 93 (step_by l (at (outer.Bracket s ∷ []) mode.Gap 0 e) 93 class.RightBracket (does deed.Nothing next.Leave) right_bracket_is refl)
-bracket_closes l (o ∷ os) after s e = lead_one l after _ _ 93 (step_by l (at (outer.Bracket s ∷ o ∷ os) mode.Gap 0 e) 93 class.RightBracket (does deed.Nothing next.Leave) right_bracket_is refl)
+pub bracket_closes : (l : Level) (inner : List Opener) (after : List ℕ) (s : Context) (e : Draft) → Leads l after (at (opener.Bracket s ∷ inner) mode.Gap 0 e) (93 ∷ []) (at inner (mode.In s) 0 (unbracketed inner e))
+unfolding transition
+bracket_closes l [] after s e = lead_one l after _ _ 93 (step_by l (at (opener.Bracket s ∷ []) mode.Gap 0 e) 93 class.RightBracket (does effect.Nothing target.Leave) right_bracket_is refl)
+bracket_closes l (o ∷ os) after s e = lead_one l after _ _ 93 (step_by l (at (opener.Bracket s ∷ o ∷ os) mode.Gap 0 e) 93 class.RightBracket (does effect.Nothing target.Leave) right_bracket_is refl)
 
-pub command_atom : (inner : List Outer) (d : Draft) (c : List ℕ) → Atom inner d (91 ∷ c ++ 93 ∷ []) (λ ps. Command c ∷ ps) (unbracketed inner (add c (bracketed inner d)))
+pub command_atom : (inner : List Opener) (d : Draft) (c : List ℕ) → Atom inner d (91 ∷ c ++ 93 ∷ []) (λ ps. Command c ∷ ps) (unbracketed inner (add c (bracketed inner d)))
 command_atom [] d c = (refl, refl, refl, λ ps. append_assoc (closed d.parts d.text) (Command c ∷ []) ps ∙ closed_command d.parts ps d.text c)
 command_atom (o ∷ os) d c = ap (add (93 ∷ [])) (add_add (91 ∷ []) c d) ∙ add_add (91 ∷ c) (93 ∷ []) d
 
@@ -252,56 +253,56 @@ entry_pair at_gap = mode.GapPair
 entry_pair at_start = mode.StartPair
 entry_pair at_star = mode.StarPair
 
-abbrev pub entry_deed : Entry → Deed
-entry_deed at_gap = deed.Nothing
-entry_deed at_start = deed.Nothing
-entry_deed at_star = deed.Expand
+abbrev pub entry_effect : Entry → Effect
+entry_effect at_gap = effect.Nothing
+entry_effect at_start = effect.Nothing
+entry_effect at_star = effect.Expand
 
 abbrev pub no_hash : Entry → Class → Bool
 no_hash at_start class.Hash = false
 no_hash x c = true
 
-pub begin_turn : (l : Level) (x : Entry) (c : Class) (b : ℕ) → begins c ≡ true → ends_word l c ≡ false → c ≢ class.Backslash → no_hash x c ≡ true →
-    turn l false (entry_mode x) c b ≡ behind_deed (entry_deed x) (in_spot l spot.Bare c b)
-unfolding turn
-begin_turn l x class.Quote b h e n i = absurd cc
-begin_turn l x class.Open b h e n i = absurd cc
-begin_turn l x class.Blank b h e n i = absurd cc
-begin_turn l x class.Newline b h e n i = absurd cc
-begin_turn l x class.Backslash b h e n i = absurd (n refl)
-begin_turn level.Top x class.Semicolon b h e n i = absurd cc
-begin_turn level.Inside x class.Semicolon b h e n i = absurd cc
-begin_turn level.Inside x class.RightBracket b h e n i = absurd cc
-begin_turn level.Alone x class.Semicolon b h e n i = absurd cc
-begin_turn l at_start class.Hash b h e n i = absurd cc
-begin_turn level.Top at_gap c b h e n i = refl
-begin_turn level.Top at_start c b h e n i = refl
-begin_turn level.Top at_star c b h e n i = refl
-begin_turn level.List at_gap c b h e n i = refl
-begin_turn level.List at_start c b h e n i = refl
-begin_turn level.List at_star c b h e n i = refl
-begin_turn level.Inside at_gap c b h e n i = refl
-begin_turn level.Inside at_start c b h e n i = refl
-begin_turn level.Inside at_star c b h e n i = refl
-begin_turn level.Alone at_gap c b h e n i = refl
-begin_turn level.Alone at_start c b h e n i = refl
-begin_turn level.Alone at_star c b h e n i = refl
+pub begin_transition : (l : Level) (x : Entry) (c : Class) (b : ℕ) → begins c ≡ true → ends_word l c ≡ false → c ≢ class.Backslash → no_hash x c ≡ true →
+    transition l false (entry_mode x) c b ≡ behind_effect (entry_effect x) (in_context l context.Bare c b)
+unfolding transition
+begin_transition l x class.Quote b h e n i = absurd cc
+begin_transition l x class.Open b h e n i = absurd cc
+begin_transition l x class.Blank b h e n i = absurd cc
+begin_transition l x class.Newline b h e n i = absurd cc
+begin_transition l x class.Backslash b h e n i = absurd (n refl)
+begin_transition level.Top x class.Semicolon b h e n i = absurd cc
+begin_transition level.Inside x class.Semicolon b h e n i = absurd cc
+begin_transition level.Inside x class.RightBracket b h e n i = absurd cc
+begin_transition level.Alone x class.Semicolon b h e n i = absurd cc
+begin_transition l at_start class.Hash b h e n i = absurd cc
+begin_transition level.Top at_gap c b h e n i = refl
+begin_transition level.Top at_start c b h e n i = refl
+begin_transition level.Top at_star c b h e n i = refl
+begin_transition level.List at_gap c b h e n i = refl
+begin_transition level.List at_start c b h e n i = refl
+begin_transition level.List at_star c b h e n i = refl
+begin_transition level.Inside at_gap c b h e n i = refl
+begin_transition level.Inside at_start c b h e n i = refl
+begin_transition level.Inside at_star c b h e n i = refl
+begin_transition level.Alone at_gap c b h e n i = refl
+begin_transition level.Alone at_start c b h e n i = refl
+begin_transition level.Alone at_star c b h e n i = refl
 
 -- reading a bare word from where it begins
-abbrev pub Begun_as : Level → List Outer → Entry → Draft → List ℕ → Type 0
-Begun_as l inner x d t = (p : ℕ) → read l t (at inner (entry_mode x) 0 d) p ≡ read l t (at inner (mode.In spot.Bare) 0 (does_in inner (entry_deed x) d)) p
+abbrev pub Begun_as : Level → List Opener → Entry → Draft → List ℕ → Type 0
+Begun_as l inner x d t = (p : ℕ) → read l t (at inner (entry_mode x) 0 d) p ≡ read l t (at inner (mode.In context.Bare) 0 (does_in inner (entry_effect x) d)) p
 
-pub begin_byte : (l : Level) (inner : List Outer) (x : Entry) (d : Draft) (b : ℕ) (bs : List ℕ) → begins (class_of b) ≡ true → ends_word (level_in l inner) (class_of b) ≡ false → class_of b ≢ class.Backslash → no_hash x (class_of b) ≡ true →
+pub begin_byte : (l : Level) (inner : List Opener) (x : Entry) (d : Draft) (b : ℕ) (bs : List ℕ) → begins (class_of b) ≡ true → ends_word (level_in l inner) (class_of b) ≡ false → class_of b ≢ class.Backslash → no_hash x (class_of b) ≡ true →
     Begun_as l inner x d (b ∷ bs)
-begin_byte l inner x d b bs h e n i = λ p. read_step l _ _ b bs p (pend_step l inner (entry_mode x) spot.Bare (entry_deed x) d b (begin_turn (level_in l inner) x (class_of b) b h e n i))
+begin_byte l inner x d b bs h e n i = λ p. read_step l _ _ b bs p (pend_step l inner (entry_mode x) context.Bare (entry_effect x) d b (begin_transition (level_in l inner) x (class_of b) b h e n i))
 
-pub begin_by : (l : Level) (inner : List Outer) (x : Entry) (d : Draft) (b : ℕ) (bs : List ℕ) (c : Class) → class_of b ≡ c → begins c ≡ true → ends_word (level_in l inner) c ≡ false → c ≢ class.Backslash → no_hash x c ≡ true →
+pub begin_by : (l : Level) (inner : List Opener) (x : Entry) (d : Draft) (b : ℕ) (bs : List ℕ) (c : Class) → class_of b ≡ c → begins c ≡ true → ends_word (level_in l inner) c ≡ false → c ≢ class.Backslash → no_hash x c ≡ true →
     Begun_as l inner x d (b ∷ bs)
 begin_by l inner x d b bs c s h e n i =
     begin_byte l inner x d b bs (ap begins s ∙ h) (ap (ends_word (level_in l inner)) s ∙ e) (λ y. n (sym s ∙ y)) (ap (no_hash x) s ∙ i)
 
-pub entry_backslash : (l : Level) (x : Entry) → turn l false (entry_mode x) class.Backslash 92 ≡ goes (entry_pair x)
-unfolding turn
+pub entry_backslash : (l : Level) (x : Entry) → transition l false (entry_mode x) class.Backslash 92 ≡ goes (entry_pair x)
+unfolding transition
 entry_backslash level.Top at_gap = refl
 entry_backslash level.Top at_start = refl
 entry_backslash level.Top at_star = refl
@@ -315,29 +316,29 @@ entry_backslash level.Alone at_gap = refl
 entry_backslash level.Alone at_start = refl
 entry_backslash level.Alone at_star = refl
 
-pub paired_first : (s : Spot) (b v : ℕ) (t : Turn) → Paired s b t v → t.first ≡ deed.Nothing
+pub paired_first : (s : Context) (b v : ℕ) (t : Transition) → Paired s b t v → t.first ≡ effect.Nothing
 paired_first s b v t (Paired.one h) = refl
 paired_first s b v t (Paired.letter e n h) = refl
 paired_first s b v t (Paired.eight h) = refl
 
-pub entry_pair_turn : (l : Level) (x : Entry) (c : Class) (b : ℕ) → c ≢ class.Newline → turn l false (entry_pair x) c b ≡ behind_deed (entry_deed x) (escaped spot.Bare b)
-unfolding turn
-entry_pair_turn l at_gap class.Newline b n = absurd (n refl)
-entry_pair_turn l at_start class.Newline b n = absurd (n refl)
-entry_pair_turn l at_star class.Newline b n = absurd (n refl)
-entry_pair_turn l at_gap c b n = behind_nothing (escaped spot.Bare b) (paired_first spot.Bare b (stands_for b) (escaped spot.Bare b) (paired spot.Bare b))
-entry_pair_turn l at_start c b n = behind_nothing (escaped spot.Bare b) (paired_first spot.Bare b (stands_for b) (escaped spot.Bare b) (paired spot.Bare b))
-entry_pair_turn l at_star c b n = refl
+pub entry_pair_transition : (l : Level) (x : Entry) (c : Class) (b : ℕ) → c ≢ class.Newline → transition l false (entry_pair x) c b ≡ behind_effect (entry_effect x) (escaped context.Bare b)
+unfolding transition
+entry_pair_transition l at_gap class.Newline b n = absurd (n refl)
+entry_pair_transition l at_start class.Newline b n = absurd (n refl)
+entry_pair_transition l at_star class.Newline b n = absurd (n refl)
+entry_pair_transition l at_gap c b n = behind_nothing (escaped context.Bare b) (paired_first context.Bare b (stands_for b) (escaped context.Bare b) (paired context.Bare b))
+entry_pair_transition l at_start c b n = behind_nothing (escaped context.Bare b) (paired_first context.Bare b (stands_for b) (escaped context.Bare b) (paired context.Bare b))
+entry_pair_transition l at_star c b n = refl
 
-pub entry_pair_step : (l : Level) (inner : List Outer) (x : Entry) (d : Draft) (b : ℕ) → b ≢ 10 → step l (at inner (entry_pair x) 0 d) b ≡ step l (at inner (mode.Pair spot.Bare) 0 (does_in inner (entry_deed x) d)) b
+pub entry_pair_step : (l : Level) (inner : List Opener) (x : Entry) (d : Draft) (b : ℕ) → b ≢ 10 → step l (at inner (entry_pair x) 0 d) b ≡ step l (at inner (mode.Pair context.Bare) 0 (does_in inner (entry_effect x) d)) b
 entry_pair_step l inner x d b n =
     let c = class_of b in
     let line : class_of b ≢ class.Newline = λ e. n (is_class b class.Newline e) in
-    step_by l (at inner (entry_pair x) 0 d) b (class_of b) _ refl (entry_pair_turn (level_in l inner) x (class_of b) b line)
-    ∙ pend_turn (escaped spot.Bare b) (entry_deed x) inner d b (paired_first spot.Bare b (stands_for b) (escaped spot.Bare b) (paired spot.Bare b))
-    ∙ sym (step_by l (at inner (mode.Pair spot.Bare) 0 (does_in inner (entry_deed x) d)) b (class_of b) _ refl (escaped_turn (level_in l inner) spot.Bare (class_of b) b line))
+    step_by l (at inner (entry_pair x) 0 d) b (class_of b) _ refl (entry_pair_transition (level_in l inner) x (class_of b) b line)
+    ∙ pend_transition (escaped context.Bare b) (entry_effect x) inner d b (paired_first context.Bare b (stands_for b) (escaped context.Bare b) (paired context.Bare b))
+    ∙ sym (step_by l (at inner (mode.Pair context.Bare) 0 (does_in inner (entry_effect x) d)) b (class_of b) _ refl (escaped_transition (level_in l inner) context.Bare (class_of b) b line))
 
-pub entry_pair_stop : (inner : List Outer) (x : Entry) (d : Draft) → stop (at inner (entry_pair x) 0 d) ≡ stop (at inner (mode.Pair spot.Bare) 0 (does_in inner (entry_deed x) d))
+pub entry_pair_stop : (inner : List Opener) (x : Entry) (d : Draft) → stop (at inner (entry_pair x) 0 d) ≡ stop (at inner (mode.Pair context.Bare) 0 (does_in inner (entry_effect x) d))
 unfolding stop ends
 entry_pair_stop [] at_gap d = refl
 entry_pair_stop [] at_start d = refl
@@ -346,19 +347,19 @@ entry_pair_stop (o ∷ os) at_gap d = refl
 entry_pair_stop (o ∷ os) at_start d = refl
 entry_pair_stop (o ∷ os) at_star d = refl
 
-pub kept_deed : (inner : List Outer) (a : List ℕ) (e : Deed) (d : Draft) → does_in inner e (moved inner a same d) ≡ moved inner a same (does_in inner e d)
-kept_deed [] a e d = refl
-kept_deed (o ∷ os) a e d = refl
+pub kept_effect : (inner : List Opener) (a : List ℕ) (e : Effect) (d : Draft) → does_in inner e (moved inner a same d) ≡ moved inner a same (does_in inner e d)
+kept_effect [] a e d = refl
+kept_effect (o ∷ os) a e d = refl
 
-pub begin_pair : (l : Level) (inner : List Outer) (x : Entry) (d : Draft) (t : List ℕ) → ((p : ℕ) (e : Draft) → read l t (at inner (entry_pair x) 0 e) p ≡ read l t (at inner (mode.Pair spot.Bare) 0 (does_in inner (entry_deed x) e)) p) →
+pub begin_pair : (l : Level) (inner : List Opener) (x : Entry) (d : Draft) (t : List ℕ) → ((p : ℕ) (e : Draft) → read l t (at inner (entry_pair x) 0 e) p ≡ read l t (at inner (mode.Pair context.Bare) 0 (does_in inner (entry_effect x) e)) p) →
     Begun_as l inner x d (92 ∷ t)
 begin_pair l inner x d t h = λ p.
-    (seg_one l inner t (entry_mode x) (entry_pair x) 0 92 class.Backslash deed.Nothing deed.Nothing backslash_is (entry_backslash (level_in l inner) x) d).on p
+    (seg_one l inner t (entry_mode x) (entry_pair x) 0 92 class.Backslash effect.Nothing effect.Nothing backslash_is (entry_backslash (level_in l inner) x) d).on p
     ∙ h (p + 1) (moved inner (92 ∷ []) same d)
-    ∙ ap (λ y. read l t (at inner (mode.Pair spot.Bare) 0 y) (p + 1)) (kept_deed inner (92 ∷ []) (entry_deed x) d)
-    ∙ sym ((seg_backslash l inner t spot.Bare (λ e. absurd cc) (does_in inner (entry_deed x) d)).on p)
+    ∙ ap (λ y. read l t (at inner (mode.Pair context.Bare) 0 y) (p + 1)) (kept_effect inner (92 ∷ []) (entry_effect x) d)
+    ∙ sym ((seg_backslash l inner t context.Bare (λ e. absurd cc) (does_in inner (entry_effect x) d)).on p)
 
-pub begin_escape : (l : Level) (inner : List Outer) (x : Entry) (d : Draft) (e w rest after : List ℕ) → Escaped after e w → Begun_as l inner x d (92 ∷ e ++ rest)
+pub begin_escape : (l : Level) (inner : List Opener) (x : Entry) (d : Draft) (e w rest after : List ℕ) → Escaped after e w → Begun_as l inner x d (92 ∷ e ++ rest)
 begin_escape l inner x d e w rest after (spec.Escaped.byte b n h) = begin_pair l inner x d (b ∷ rest) (λ p y. read_step l _ _ b rest p (entry_pair_step l inner x y b n))
 begin_escape l inner x d e w rest after (spec.Escaped.number {ds = ds} k n h i) =
     begin_pair l inner x d (letter_of k ∷ ds ++ rest) (λ p y. read_step l _ _ (letter_of k) (ds ++ rest) p (entry_pair_step l inner x y (letter_of k) (letter_line k n)))
@@ -369,7 +370,7 @@ pub not_true : (x : Bool) → not x ≡ true → x ≡ false
 not_true true h = absurd cc
 not_true false h = refl
 
-pub plain_goes_on : (l : Level) (c : Class) → plain l spot.Bare c ≡ true → (ends_word l c ≡ false) × (c ≢ class.Backslash)
+pub plain_goes_on : (l : Level) (c : Class) → plain l context.Bare c ≡ true → (ends_word l c ≡ false) × (c ≢ class.Backslash)
 plain_goes_on l class.LeftBracket h = absurd cc
 plain_goes_on l class.Backslash h = absurd cc
 plain_goes_on l class.Dollar h = absurd cc
@@ -392,7 +393,7 @@ abbrev pub NoHash : Entry → List ℕ → Type 0
 NoHash x [] = Unit {0}
 NoHash x (b ∷ bs) = no_hash x (class_of b) ≡ true
 
-pub begin_dollar : (l : Level) (inner : List Outer) (x : Entry) (d : Draft) (t : List ℕ) → Begun_as l inner x d (36 ∷ t)
+pub begin_dollar : (l : Level) (inner : List Opener) (x : Entry) (d : Draft) (t : List ℕ) → Begun_as l inner x d (36 ∷ t)
 begin_dollar l inner x d t = begin_by l inner x d 36 t class.Dollar dollar_is refl (dollar_goes_on (level_in l inner)) (λ e. absurd cc) (no_hash_dollar x)
   where
     no_hash_dollar : (x : Entry) → no_hash x class.Dollar ≡ true
@@ -400,7 +401,7 @@ begin_dollar l inner x d t = begin_by l inner x d 36 t class.Dollar dollar_is re
     no_hash_dollar at_start = refl
     no_hash_dollar at_star = refl
 
-pub begin_bracket : (l : Level) (inner : List Outer) (x : Entry) (d : Draft) (t : List ℕ) → Begun_as l inner x d (91 ∷ t)
+pub begin_bracket : (l : Level) (inner : List Opener) (x : Entry) (d : Draft) (t : List ℕ) → Begun_as l inner x d (91 ∷ t)
 begin_bracket l inner x d t = begin_by l inner x d 91 t class.LeftBracket left_bracket_is refl (bracket_goes_on (level_in l inner)) (λ e. absurd cc) (no_hash_bracket x)
   where
     no_hash_bracket : (x : Entry) → no_hash x class.LeftBracket ≡ true
@@ -408,10 +409,10 @@ begin_bracket l inner x d t = begin_by l inner x d 91 t class.LeftBracket left_b
     no_hash_bracket at_start = refl
     no_hash_bracket at_star = refl
 
-pub bare_begins : (x : Entry) (l L : Level) (n : ℕ) (s : Spot) (after t : List ℕ) (ps : List Piece) → Parts L n s after t ps → (inner : List Outer) (d : Draft) → s ≡ spot.Bare → L ≡ level_in l inner → Begins t → NoHash x t → Begun_as l inner x d (t ++ after)
+pub bare_begins : (x : Entry) (l L : Level) (n : ℕ) (s : Context) (after t : List ℕ) (ps : List Piece) → Parts L n s after t ps → (inner : List Opener) (d : Draft) → s ≡ context.Bare → L ≡ level_in l inner → Begins t → NoHash x t → Begun_as l inner x d (t ++ after)
 bare_begins x l L n s after t ps words.Parts.nothing inner d i e h k = absurd h
 bare_begins x l L n s after t ps (words.Parts.byte {t = u} b f r) inner d i e h k =
-    let g = plain_goes_on (level_in l inner) (class_of b) (subst (λ y. plain y spot.Bare (class_of b) ≡ true) e (subst (λ y. plain L y (class_of b) ≡ true) i f)) in
+    let g = plain_goes_on (level_in l inner) (class_of b) (subst (λ y. plain y context.Bare (class_of b) ≡ true) e (subst (λ y. plain L y (class_of b) ≡ true) i f)) in
     begin_byte l inner x d b (u ++ after) h g.0 g.1 k
 bare_begins x l L n s after t ps (words.Parts.escape {t = u} y w f r) inner d i e h k =
     subst (λ z. Begun_as l inner x d (92 ∷ z)) (sym (append_assoc y u after)) (begin_escape l inner x d y w (u ++ after) (u ++ after) f)

@@ -1,8 +1,8 @@
 -- Texts that the grammar spells.
 use Rattle.std.specs.Prelude.{[], ◌∷◌, refl, false}
 use Rattle.dg_words.specs.Piece.{Element, End, Text, Variable}
-use Rattle.dg_words.specs.Classes.{class_of}
-use Rattle.dg_words.specs.Grammar.Lists as lists
+use Rattle.dg_lists.specs.Classes.{class_of}
+use Rattle.dg_lists.specs.Grammar.Lists as lists
 use Rattle.dg_words.specs.Grammar.Words as words
 use Rattle.dg_words.specs.Grammar.Operands as operands
 

@@ -2,34 +2,37 @@
 use Rattle.std.specs.Prelude.{◌≡◌, ◌≢◌, ℕ, zero, suc, ◌+◌, ◌*◌, List, [], ◌∷◌, ◌++◌, length, refl, Bool, true, false, Option, None, Some, cond, nat_lt, ◌⊎◌}
 use Rattle.std.proofs.Common.{inl, inr, ◌∙◌, ap, sym, arith, subst, append_assoc, length-append}
 use Rattle.std.specs.Char.{digit_value}
-use Rattle.dg_words.specs.declared.fault.WordFault.{WordFault}
-use Rattle.dg_words.specs.declared.fault.WordFault.TheVariants as fault
-use Rattle.dg_words.specs.declared.kinds.Class.{Class}
-use Rattle.dg_words.specs.declared.kinds.Class.TheVariants as class
-use Rattle.dg_words.specs.declared.kinds.Deed.{Deed}
-use Rattle.dg_words.specs.declared.kinds.Delimiter.{Delimiter}
-use Rattle.dg_words.specs.declared.kinds.Delimiter.TheVariants as delimiter
-use Rattle.dg_words.specs.declared.kinds.Digits as kinds
-use Rattle.dg_words.specs.declared.kinds.Escape.{Escape}
-use Rattle.dg_words.specs.declared.kinds.Escape.TheVariants.{Octal}
+use Rattle.dg_lists.specs.declared.fault.WordFault.{WordFault}
+use Rattle.dg_lists.specs.declared.fault.WordFault.TheVariants as fault
+use Rattle.dg_lists.specs.declared.kinds.Class.{Class}
+use Rattle.dg_lists.specs.declared.kinds.Class.TheVariants as class
+use Rattle.dg_lists.specs.declared.kinds.Effect.{Effect}
+use Rattle.dg_lists.specs.declared.kinds.Delimiter.{Delimiter}
+use Rattle.dg_lists.specs.declared.kinds.Delimiter.TheVariants as delimiter
+use Rattle.dg_lists.specs.declared.kinds.Digits as kinds
+use Rattle.dg_lists.specs.declared.kinds.Escape.{Escape}
+use Rattle.dg_lists.specs.declared.kinds.Escape.TheVariants.{Octal}
 use Rattle.dg_words.specs.declared.kinds.Level.{Level}
 use Rattle.dg_words.specs.declared.kinds.Level.TheVariants as level
-use Rattle.dg_words.specs.declared.kinds.Mode.{Mode}
-use Rattle.dg_words.specs.declared.kinds.Mode.TheVariants as mode
-use Rattle.dg_words.specs.declared.kinds.Next.{Next}
-use Rattle.dg_words.specs.declared.kinds.Next.TheVariants as next
-use Rattle.dg_words.specs.declared.kinds.Outer.{Outer}
-use Rattle.dg_words.specs.declared.kinds.Spot.{Spot}
-use Rattle.dg_words.specs.declared.kinds.Spot.TheVariants as spot
-use Rattle.dg_words.specs.declared.kinds.Turn.{Turn}
-use Rattle.dg_words.specs.Classes.{class_of, heard}
-use Rattle.dg_words.specs.Turns.{after, base_of, behind, behind_number, behind_pair, behind_star, counted, digits_of, escaped, goes, in_bare, in_brace_first, in_brace_star, in_braced, in_braced_pair, in_colon, in_comment, in_dollar, in_gap, in_gap_pair, in_name, in_name_brace, in_operand, in_pair, in_spot, in_star_pair, in_start, in_start_pair, is_space, letter_of, numbered, turn, whole, with_digit, written}
-use Rattle.dg_words.specs.Machine.{Draft, Go, Fails, Over, Move, State, follow, follow_inside, fresh, has_room, leaves, leaves_index, level_in, opens, perform, step, take_turn}
-use Rattle.dg_words.specs.Grammar.Escapes.{each, stands_for, value_from}
-use Rattle.dg_words.proofs.GrammarLemmas.Bytes.{is_class}
-use Rattle.dg_words.proofs.GrammarLemmas.GoOn.{Fine, FineMove, Good, fine_step}
-use Rattle.dg_words.proofs.GrammarLemmas.ListSteps.{each_more, value_more}
-use Rattle.dg_words.proofs.GrammarLemmas.Numbers.{Paired, digit_some, is_digit, number, paired}
+use Rattle.dg_lists.specs.declared.kinds.Mode.{Mode}
+use Rattle.dg_lists.specs.declared.kinds.Mode.TheVariants as mode
+use Rattle.dg_lists.specs.declared.kinds.Target.{Target}
+use Rattle.dg_lists.specs.declared.kinds.Target.TheVariants as target
+use Rattle.dg_words.specs.declared.kinds.Opener.{Opener}
+use Rattle.dg_lists.specs.declared.kinds.Context.{Context}
+use Rattle.dg_lists.specs.declared.kinds.Context.TheVariants as context
+use Rattle.dg_lists.specs.declared.kinds.Transition.{Transition}
+use Rattle.dg_lists.specs.Classes.{class_of}
+use Rattle.dg_words.specs.Transitions.{heard}
+use Rattle.dg_lists.specs.Transitions.{base_of, behind_number, counted, digits_of, escaped, goes, is_space, letter_of, whole, with_digit, written}
+use Rattle.dg_words.specs.Transitions.{after, behind, behind_pair, behind_star, in_bare, in_brace_first, in_brace_star, in_braced, in_braced_pair, in_colon, in_comment, in_dollar, in_gap, in_gap_pair, in_name, in_name_brace, in_operand, in_pair, in_context, in_star_pair, in_start, in_start_pair, numbered, transition}
+use Rattle.dg_words.specs.Machine.{Draft, Go, Fails, Over, Stepped, State, follow, follow_inside, fresh, has_room, leaves, leaves_index, level_in, opens, perform, step, take_transition}
+use Rattle.dg_lists.specs.Grammar.Escapes.{each, stands_for, value_from}
+use Rattle.dg_lists.proofs.GrammarLemmas.Bytes.{is_class}
+use Rattle.dg_lists.proofs.GrammarLemmas.Endable.{Fine, Good}
+use Rattle.dg_words.proofs.GrammarLemmas.GoOn.{FineStep, fine_step}
+use Rattle.dg_lists.proofs.GrammarLemmas.ListSteps.{each_more, value_more}
+use Rattle.dg_lists.proofs.GrammarLemmas.Numbers.{Paired, digit_some, is_digit, number, paired}
 use Rattle.dg_words.proofs.GrammarLemmas.Openings.{heard_is}
 use Rattle.dg_words.proofs.GrammarLemmas.Segments.{Leads, lead_both, lead_one}
 
@@ -76,13 +79,13 @@ Trail l m past k = Unit {0}
 pub data Cause (l : Level) (b : ℕ) : Mode → WordFault → Type 0 where
   behind_word : {f : WordFault} (d : Delimiter) → l ≢ level.Alone → f ≡ after d → Cause l b (mode.Behind d) f
   behind_backslash : {f : WordFault} (d : Delimiter) → f ≡ after d → Cause l b (mode.BehindPair d) f
-  last_digit : (s : Spot) (n : kinds.Digits) (v : ℕ) → n.left ≡ 1 → with_digit n b ≡ Some v → written n.escape v ≡ None → Cause l b (mode.Number s n) fault.BadCodePoint
-  no_digit : (s : Spot) (n : kinds.Digits) → whole n ≡ None → Cause l b (mode.Number s n) fault.BadCodePoint
+  last_digit : (s : Context) (n : kinds.Digits) (v : ℕ) → n.left ≡ 1 → with_digit n b ≡ Some v → written n.escape v ≡ None → Cause l b (mode.Number s n) fault.BadCodePoint
+  no_digit : (s : Context) (n : kinds.Digits) → whole n ≡ None → Cause l b (mode.Number s n) fault.BadCodePoint
 
 -- what comes behind a byte: the trail goes on, or there is such a cause
-abbrev NextTrail : Level → Mode → (WordFault → Type 0) → List ℕ → Next → Type 0
-NextTrail l m P past (next.To k) = Trail l m past k
-NextTrail l m P past (next.Bad f) = P f
+abbrev NextTrail : Level → Mode → (WordFault → Type 0) → List ℕ → Target → Type 0
+NextTrail l m P past (target.To k) = Trail l m past k
+NextTrail l m P past (target.Bad f) = P f
 NextTrail l m P past x = Unit {0}
 
 ends_in : (k : ℕ) (past : List ℕ) (b : ℕ) → b ≡ k → EndsIn k (past ++ b ∷ [])
@@ -101,7 +104,7 @@ slashed : (past : List ℕ) (b : ℕ) → IsSlash class.Backslash b → EndsIn 9
 slashed past b f = ends_in 92 past b (f refl)
 
 module _ (l₀ : Level) (m₀ : Mode) (P : WordFault → Type 0) (past : List ℕ) (b : ℕ) where
-  abbrev OnTo : Next → Type 0
+  abbrev OnTo : Target → Type 0
   OnTo x = NextTrail l₀ m₀ P (past ++ b ∷ []) x
 
   on_bare : (l : Level) (c : Class) → IsSlash c b → OnTo (in_bare l c b).next
@@ -114,25 +117,25 @@ module _ (l₀ : Level) (m₀ : Mode) (P : WordFault → Type 0) (past : List �
   on_bare l class.Dollar f = tt
   on_bare l c f = tt
 
-  on_quoted : (l : Level) (c : Class) → class_of b ≡ c → OnTo (in_spot l spot.Quoted c b).next
+  on_quoted : (l : Level) (c : Class) → class_of b ≡ c → OnTo (in_context l context.Quoted c b).next
   on_quoted l class.Quote e = ends_in 34 past b (is_class b class.Quote e)
   on_quoted l class.LeftBracket e = tt
   on_quoted l class.Backslash e = ends_in 92 past b (is_class b class.Backslash e)
   on_quoted l class.Dollar e = tt
   on_quoted l c e = tt
 
-  on_index : (l : Level) (c : Class) → class_of b ≡ c → OnTo (in_spot l spot.Index c b).next
+  on_index : (l : Level) (c : Class) → class_of b ≡ c → OnTo (in_context l context.Index c b).next
   on_index l class.RightParen e = tt
   on_index l class.LeftBracket e = tt
   on_index l class.Backslash e = ends_in 92 past b (is_class b class.Backslash e)
   on_index l class.Dollar e = tt
   on_index l c e = tt
 
-  on_spot : (l : Level) (s : Spot) → OnTo (in_spot l s (class_of b) b).next
-  on_spot l spot.Bare = on_bare l (heard l (class_of b)) (heard_slash l b)
-  on_spot l spot.Quoted = on_quoted l (class_of b) refl
-  on_spot l spot.Index = on_index l (class_of b) refl
-  on_spot l spot.Alone = tt
+  on_context : (l : Level) (s : Context) → OnTo (in_context l s (class_of b) b).next
+  on_context l context.Bare = on_bare l (heard l (class_of b)) (heard_slash l b)
+  on_context l context.Quoted = on_quoted l (class_of b) refl
+  on_context l context.Index = on_index l (class_of b) refl
+  on_context l context.Alone = tt
 
   on_gap : (l : Level) (c : Class) → IsSlash c b → OnTo (in_gap l c b).next
   on_gap l class.Blank f = tt
@@ -151,7 +154,7 @@ module _ (l₀ : Level) (m₀ : Mode) (P : WordFault → Type 0) (past : List �
   on_start l class.Backslash f = slashed past b f
   on_start l c f = on_gap l c f
 
-  on_paired : (s : Spot) (v : ℕ) (t : Turn) → Paired s b t v → EndsIn 92 past → OnTo t.next
+  on_paired : (s : Context) (v : ℕ) (t : Transition) → Paired s b t v → EndsIn 92 past → OnTo t.next
   on_paired s v t (Paired.one h) e = tt
   on_paired s v t (Paired.letter k n h) e = inr (record {
     before = e.0;
@@ -164,27 +167,27 @@ module _ (l₀ : Level) (m₀ : Mode) (P : WordFault → Type 0) (past : List �
   })
   on_paired s v t (Paired.eight h) e = inl refl
 
-  on_escaped : (s : Spot) → EndsIn 92 past → OnTo (escaped s b).next
+  on_escaped : (s : Context) → EndsIn 92 past → OnTo (escaped s b).next
   on_escaped s e = on_paired s (stands_for b) (escaped s b) (paired s b) e
 
-  on_pair : (s : Spot) (c : Class) → EndsIn 92 past → OnTo (in_pair s c b).next
-  on_pair spot.Bare class.Newline e = tt
-  on_pair spot.Quoted class.Newline e = tt
-  on_pair spot.Index class.Newline e = tt
-  on_pair spot.Alone class.Newline e = tt
+  on_pair : (s : Context) (c : Class) → EndsIn 92 past → OnTo (in_pair s c b).next
+  on_pair context.Bare class.Newline e = tt
+  on_pair context.Quoted class.Newline e = tt
+  on_pair context.Index class.Newline e = tt
+  on_pair context.Alone class.Newline e = tt
   on_pair s c e = on_escaped s e
 
   on_gap_pair : (c : Class) → EndsIn 92 past → OnTo (in_gap_pair c b).next
   on_gap_pair class.Newline e = tt
-  on_gap_pair c e = on_escaped spot.Bare e
+  on_gap_pair c e = on_escaped context.Bare e
 
   on_start_pair : (c : Class) → EndsIn 92 past → OnTo (in_start_pair c b).next
   on_start_pair class.Newline e = tt
-  on_start_pair c e = on_escaped spot.Bare e
+  on_start_pair c e = on_escaped context.Bare e
 
   on_star_pair : (c : Class) → EndsIn 92 past → OnTo (in_star_pair c b).next
   on_star_pair class.Newline e = tt
-  on_star_pair c e = on_escaped spot.Bare e
+  on_star_pair c e = on_escaped context.Bare e
 
   on_comment : (c : Class) → OnTo (in_comment c).next
   on_comment class.Newline = tt
@@ -198,27 +201,27 @@ module _ (l₀ : Level) (m₀ : Mode) (P : WordFault → Type 0) (past : List �
   on_operand class.Dollar = tt
   on_operand c = tt
 
-  on_if : (x : Bool) (t u : Turn) → OnTo t.next → OnTo u.next → OnTo (cond x t u).next
+  on_if : (x : Bool) (t u : Transition) → OnTo t.next → OnTo u.next → OnTo (cond x t u).next
   on_if true t u h k = h
   on_if false t u h k = k
 
-  on_dollar : (l : Level) (s : Spot) (c : Class) → class_of b ≡ c → OnTo (in_dollar l s c b).next
+  on_dollar : (l : Level) (s : Context) (c : Class) → class_of b ≡ c → OnTo (in_dollar l s c b).next
   on_dollar l s class.Name e = tt
   on_dollar l s class.Colon e = tt
   on_dollar l s class.LeftParen e = tt
   on_dollar l s class.Open e = tt
-  on_dollar l s c e = subst (λ x. OnTo (in_spot l s x b).next) e (on_spot l s)
+  on_dollar l s c e = subst (λ x. OnTo (in_context l s x b).next) e (on_context l s)
 
-  on_colon : (l : Level) (s : Spot) (c : Class) → class_of b ≡ c → OnTo (in_colon l s c b).next
+  on_colon : (l : Level) (s : Context) (c : Class) → class_of b ≡ c → OnTo (in_colon l s c b).next
   on_colon l s class.Colon e = tt
-  on_colon l s c e = subst (λ x. OnTo (in_spot l s x b).next) e (on_spot l s)
+  on_colon l s c e = subst (λ x. OnTo (in_context l s x b).next) e (on_context l s)
 
-  on_name : (l : Level) (s : Spot) (c : Class) → class_of b ≡ c → OnTo (in_name l s c b).next
+  on_name : (l : Level) (s : Context) (c : Class) → class_of b ≡ c → OnTo (in_name l s c b).next
   on_name l s class.Name e = tt
   on_name l s class.LeftParen e = tt
-  on_name l s c e = subst (λ x. OnTo (in_spot l s x b).next) e (on_spot l s)
+  on_name l s c e = subst (λ x. OnTo (in_context l s x b).next) e (on_context l s)
 
-  on_name_brace : (s : Spot) (c : Class) → OnTo (in_name_brace s c b).next
+  on_name_brace : (s : Context) (c : Class) → OnTo (in_name_brace s c b).next
   on_name_brace s class.Close = tt
   on_name_brace s c = tt
 
@@ -254,7 +257,7 @@ module _ (l₀ : Level) (m₀ : Mode) (P : WordFault → Type 0) (past : List �
   on_behind_star l class.Open f = tt
   on_behind_star l c f = on_bare l c f
 
-  on_behind_number : (r : Option Deed) (t : Turn) → (r ≡ None → P fault.BadCodePoint) → OnTo t.next → OnTo (behind_number r t).next
+  on_behind_number : (r : Option Effect) (t : Transition) → (r ≡ None → P fault.BadCodePoint) → OnTo t.next → OnTo (behind_number r t).next
   on_behind_number (Some d) t f h = h
   on_behind_number None t f h = f refl
 
@@ -274,19 +277,19 @@ numbered_more past e left v b w h x =
     }
 
 module _ (l₀ : Level) (m₀ : Mode) (past : List ℕ) (b : ℕ) where
-  abbrev From : Level → Mode → Next → Type 0
+  abbrev From : Level → Mode → Target → Type 0
   From l k x = NextTrail l₀ m₀ (Cause l b k) (past ++ b ∷ []) x
 
-  from_counted : (l : Level) (s : Spot) (e : Escape) (left v w : ℕ) → with_digit (number e left v) b ≡ Some w → Good (number e left v) → (e ≡ Octal) ⊎ Numbered past (number e left v) →
+  from_counted : (l : Level) (s : Context) (e : Escape) (left v w : ℕ) → with_digit (number e left v) b ≡ Some w → Good (number e left v) → (e ≡ Octal) ⊎ Numbered past (number e left v) →
       From l (mode.Number s (number e left v)) (counted s e left w).next
   from_counted l s e zero v w h g x = absurd (omega (arith, g.0))
   from_counted l s e (suc zero) v w h g x = on_behind_number l₀ m₀ (Cause l b (mode.Number s (number e 1 v))) past b (written e w) (goes (mode.In s)) (λ i. Cause.last_digit s (number e 1 v) w refl h i) tt
   from_counted l s e (suc (suc left)) v w h g (inl o) = inl o
   from_counted l s e (suc (suc left)) v w h g (inr x) = inr (numbered_more past e (suc left) v b w h x)
 
-  from_numbered : (l : Level) (s : Spot) (n : kinds.Digits) (r : Option ℕ) → with_digit n b ≡ r → Good n → (n.escape ≡ Octal) ⊎ Numbered past n → From l (mode.Number s n) (numbered l s n (class_of b) b r).next
+  from_numbered : (l : Level) (s : Context) (n : kinds.Digits) (r : Option ℕ) → with_digit n b ≡ r → Good n → (n.escape ≡ Octal) ⊎ Numbered past n → From l (mode.Number s n) (numbered l s n (class_of b) b r).next
   from_numbered l s n (Some w) h g x = from_counted l s n.escape n.left n.value w h g x
-  from_numbered l s n None h g x = on_behind_number l₀ m₀ (Cause l b (mode.Number s n)) past b (whole n) (in_spot l s (class_of b) b) (λ i. Cause.no_digit s n i) (on_spot l₀ m₀ (Cause l b (mode.Number s n)) past b l s)
+  from_numbered l s n None h g x = on_behind_number l₀ m₀ (Cause l b (mode.Number s n)) past b (whole n) (in_context l s (class_of b) b) (λ i. Cause.no_digit s n i) (on_context l₀ m₀ (Cause l b (mode.Number s n)) past b l s)
 
   from_behind : (l : Level) (d : Delimiter) (c : Class) → (l ≢ level.Alone → c ≡ class.Backslash → Ended l₀ m₀ (past ++ b ∷ []) d) → From l (mode.Behind d) (behind l d c).next
   from_behind level.Alone d c f = tt
@@ -305,33 +308,33 @@ module _ (l₀ : Level) (m₀ : Mode) (past : List ℕ) (b : ℕ) where
   from_behind_pair l d class.Newline = tt
   from_behind_pair l d c = Cause.behind_backslash d refl
 
-  from_turn : (l : Level) (deep : Bool) (k : Mode) → Fine k → Trail l₀ m₀ past k → ((d : Delimiter) → k ≡ mode.Behind d → l ≢ level.Alone → b ≡ 92 → Ended l₀ m₀ (past ++ b ∷ []) d) →
-      From l k (turn l deep k (class_of b) b).next
-  unfolding turn
-  from_turn l deep mode.Start g h f = on_start l₀ m₀ (Cause l b mode.Start) past b l (heard l (class_of b)) (heard_slash l b)
-  from_turn l deep mode.StartPair g h f = on_start_pair l₀ m₀ (Cause l b mode.StartPair) past b (class_of b) h
-  from_turn l deep mode.Comment g h f = on_comment l₀ m₀ (Cause l b mode.Comment) past b (class_of b)
-  from_turn l deep mode.CommentPair g h f = tt
-  from_turn l deep mode.Gap g h f = on_gap l₀ m₀ (Cause l b mode.Gap) past b l (heard l (class_of b)) (heard_slash l b)
-  from_turn l deep mode.GapPair g h f = on_gap_pair l₀ m₀ (Cause l b mode.GapPair) past b (class_of b) h
-  from_turn l deep mode.Operand g h f = on_operand l₀ m₀ (Cause l b mode.Operand) past b (class_of b)
-  from_turn l deep (mode.In s) g h f = on_spot l₀ m₀ (Cause l b (mode.In s)) past b l s
-  from_turn l deep (mode.Pair s) g h f = on_pair l₀ m₀ (Cause l b (mode.Pair s)) past b s (class_of b) h
-  from_turn l deep (mode.Join s) g h f = on_if l₀ m₀ (Cause l b (mode.Join s)) past b (is_space b) (goes (mode.Join s)) (in_spot l s (class_of b) b) tt (on_spot l₀ m₀ (Cause l b (mode.Join s)) past b l s)
-  from_turn l deep (mode.Dollar s) g h f = on_dollar l₀ m₀ (Cause l b (mode.Dollar s)) past b l s (class_of b) refl
-  from_turn l deep (mode.Colon s) g h f = on_colon l₀ m₀ (Cause l b (mode.Colon s)) past b l s (class_of b) refl
-  from_turn l deep (mode.Name s) g h f = on_name l₀ m₀ (Cause l b (mode.Name s)) past b l s (class_of b) refl
-  from_turn l deep (mode.NameBrace s) g h f = on_name_brace l₀ m₀ (Cause l b (mode.NameBrace s)) past b s (class_of b)
-  from_turn l deep (mode.Number s n) g h f = from_numbered l s n (with_digit n b) refl g h
-  from_turn l deep mode.BraceFirst g h f = on_brace_first l₀ m₀ (Cause l b mode.BraceFirst) past b (class_of b) refl
-  from_turn l deep mode.BraceStar g h f = on_brace_star l₀ m₀ (Cause l b mode.BraceStar) past b (class_of b) refl
-  from_turn l deep mode.BehindStar g h f = on_behind_star l₀ m₀ (Cause l b mode.BehindStar) past b l (heard l (class_of b)) (heard_slash l b)
-  from_turn l deep mode.StarPair g h f = on_star_pair l₀ m₀ (Cause l b mode.StarPair) past b (class_of b) h
-  from_turn l deep mode.Braced g h f = on_braced l₀ m₀ (Cause l b mode.Braced) past b deep (class_of b) refl
-  from_turn l deep mode.BracedPair g h f = on_braced_pair l₀ m₀ (Cause l b mode.BracedPair) past b (class_of b)
-  from_turn l deep mode.BracedJoin g h f = on_if l₀ m₀ (Cause l b mode.BracedJoin) past b (is_space b) (goes mode.BracedJoin) (in_braced deep (class_of b) b) tt (on_braced l₀ m₀ (Cause l b mode.BracedJoin) past b deep (class_of b) refl)
-  from_turn l deep (mode.Behind d) g h f = from_behind l d (heard l (class_of b)) (λ n e. f d refl n (heard_slash l b e))
-  from_turn l deep (mode.BehindPair d) g h f = from_behind_pair l d (class_of b)
+  from_transition : (l : Level) (deep : Bool) (k : Mode) → Fine k → Trail l₀ m₀ past k → ((d : Delimiter) → k ≡ mode.Behind d → l ≢ level.Alone → b ≡ 92 → Ended l₀ m₀ (past ++ b ∷ []) d) →
+      From l k (transition l deep k (class_of b) b).next
+  unfolding transition
+  from_transition l deep mode.Start g h f = on_start l₀ m₀ (Cause l b mode.Start) past b l (heard l (class_of b)) (heard_slash l b)
+  from_transition l deep mode.StartPair g h f = on_start_pair l₀ m₀ (Cause l b mode.StartPair) past b (class_of b) h
+  from_transition l deep mode.Comment g h f = on_comment l₀ m₀ (Cause l b mode.Comment) past b (class_of b)
+  from_transition l deep mode.CommentPair g h f = tt
+  from_transition l deep mode.Gap g h f = on_gap l₀ m₀ (Cause l b mode.Gap) past b l (heard l (class_of b)) (heard_slash l b)
+  from_transition l deep mode.GapPair g h f = on_gap_pair l₀ m₀ (Cause l b mode.GapPair) past b (class_of b) h
+  from_transition l deep mode.Operand g h f = on_operand l₀ m₀ (Cause l b mode.Operand) past b (class_of b)
+  from_transition l deep (mode.In s) g h f = on_context l₀ m₀ (Cause l b (mode.In s)) past b l s
+  from_transition l deep (mode.Pair s) g h f = on_pair l₀ m₀ (Cause l b (mode.Pair s)) past b s (class_of b) h
+  from_transition l deep (mode.Join s) g h f = on_if l₀ m₀ (Cause l b (mode.Join s)) past b (is_space b) (goes (mode.Join s)) (in_context l s (class_of b) b) tt (on_context l₀ m₀ (Cause l b (mode.Join s)) past b l s)
+  from_transition l deep (mode.Dollar s) g h f = on_dollar l₀ m₀ (Cause l b (mode.Dollar s)) past b l s (class_of b) refl
+  from_transition l deep (mode.Colon s) g h f = on_colon l₀ m₀ (Cause l b (mode.Colon s)) past b l s (class_of b) refl
+  from_transition l deep (mode.Name s) g h f = on_name l₀ m₀ (Cause l b (mode.Name s)) past b l s (class_of b) refl
+  from_transition l deep (mode.NameBrace s) g h f = on_name_brace l₀ m₀ (Cause l b (mode.NameBrace s)) past b s (class_of b)
+  from_transition l deep (mode.Number s n) g h f = from_numbered l s n (with_digit n b) refl g h
+  from_transition l deep mode.BraceFirst g h f = on_brace_first l₀ m₀ (Cause l b mode.BraceFirst) past b (class_of b) refl
+  from_transition l deep mode.BraceStar g h f = on_brace_star l₀ m₀ (Cause l b mode.BraceStar) past b (class_of b) refl
+  from_transition l deep mode.BehindStar g h f = on_behind_star l₀ m₀ (Cause l b mode.BehindStar) past b l (heard l (class_of b)) (heard_slash l b)
+  from_transition l deep mode.StarPair g h f = on_star_pair l₀ m₀ (Cause l b mode.StarPair) past b (class_of b) h
+  from_transition l deep mode.Braced g h f = on_braced l₀ m₀ (Cause l b mode.Braced) past b deep (class_of b) refl
+  from_transition l deep mode.BracedPair g h f = on_braced_pair l₀ m₀ (Cause l b mode.BracedPair) past b (class_of b)
+  from_transition l deep mode.BracedJoin g h f = on_if l₀ m₀ (Cause l b mode.BracedJoin) past b (is_space b) (goes mode.BracedJoin) (in_braced deep (class_of b) b) tt (on_braced l₀ m₀ (Cause l b mode.BracedJoin) past b deep (class_of b) refl)
+  from_transition l deep (mode.Behind d) g h f = from_behind l d (heard l (class_of b)) (λ n e. f d refl n (heard_slash l b e))
+  from_transition l deep (mode.BehindPair d) g h f = from_behind_pair l d (class_of b)
 
 -- one bracket or index too many
 abbrev pub IsNested : WordFault → Type 0
@@ -339,51 +342,51 @@ IsNested fault.MissingBracket = Unit {0}
 IsNested fault.MissingParen = Unit {0}
 IsNested f = ⊥
 
-abbrev MoveTrail : Level → Mode → (WordFault → Type 0) → List ℕ → Move → Type 0
+abbrev MoveTrail : Level → Mode → (WordFault → Type 0) → List ℕ → Stepped → Type 0
 MoveTrail l m P past (Go s) = Trail l m past s.mode
 MoveTrail l m P past (Over ws n) = Unit {0}
 MoveTrail l m P past (Fails f) = IsNested f ⊎ P f
 
 module _ (l₀ : Level) (m₀ : Mode) (P : WordFault → Type 0) (past : List ℕ) where
-  abbrev Onward : Move → Type 0
+  abbrev Onward : Stepped → Type 0
   Onward v = MoveTrail l₀ m₀ P past v
 
   move_opens : (x : Bool) (f : WordFault) (s : State) → IsNested f → Trail l₀ m₀ past s.mode → Onward (opens x f s)
   move_opens true f s h k = k
   move_opens false f s h k = inl h
 
-  move_index : (is : List Spot) (n : ℕ) (d : Draft) → Onward (leaves_index is n d)
+  move_index : (is : List Context) (n : ℕ) (d : Draft) → Onward (leaves_index is n d)
   move_index [] n d = tt
   move_index (s ∷ is) n d = tt
 
-  move_leaves : (os : List Outer) (n : ℕ) (d : Draft) (b : ℕ) → Onward (leaves os n d b)
+  move_leaves : (os : List Opener) (n : ℕ) (d : Draft) (b : ℕ) → Onward (leaves os n d b)
   move_leaves [] n d b = tt
   move_leaves (o ∷ []) n d b = tt
   move_leaves (o ∷ p ∷ os) n d b = tt
 
-  move_follow : (x : Next) (n : ℕ) (d : Draft) → NextTrail l₀ m₀ P past x → Onward (follow x n d)
-  move_follow (next.To k) n d h = h
-  move_follow next.Deeper n d h = tt
-  move_follow next.Shallower n d h = tt
-  move_follow (next.Bracket s) n d h = move_opens (has_room d []) fault.MissingBracket _ tt tt
-  move_follow (next.Paren s) n d h = move_opens (has_room d []) fault.MissingParen _ tt tt
-  move_follow next.Leave n d h = move_index d.indices n d
-  move_follow next.End n d h = tt
-  move_follow next.Rest n d h = tt
-  move_follow (next.Bad f) n d h = inr h
+  move_follow : (x : Target) (n : ℕ) (d : Draft) → NextTrail l₀ m₀ P past x → Onward (follow x n d)
+  move_follow (target.To k) n d h = h
+  move_follow target.Deeper n d h = tt
+  move_follow target.Shallower n d h = tt
+  move_follow (target.Bracket s) n d h = move_opens (has_room d []) fault.MissingBracket _ tt tt
+  move_follow (target.Paren s) n d h = move_opens (has_room d []) fault.MissingParen _ tt tt
+  move_follow target.Leave n d h = move_index d.indices n d
+  move_follow target.End n d h = tt
+  move_follow target.Rest n d h = tt
+  move_follow (target.Bad f) n d h = inr h
 
-  move_inside : (x : Next) (n : ℕ) (os : List Outer) (d : Draft) (b : ℕ) → NextTrail l₀ m₀ P past x → Onward (follow_inside x n os d b)
-  move_inside (next.To k) n os d b h = h
-  move_inside next.Deeper n os d b h = tt
-  move_inside next.Shallower n os d b h = tt
-  move_inside (next.Bracket s) n os d b h = move_opens (has_room d os) fault.MissingBracket _ tt tt
-  move_inside (next.Paren s) n os d b h = move_opens (has_room d os) fault.MissingParen _ tt tt
-  move_inside next.Leave n os d b h = move_leaves os n d b
-  move_inside next.End n os d b h = tt
-  move_inside next.Rest n os d b h = tt
-  move_inside (next.Bad f) n os d b h = inr h
+  move_inside : (x : Target) (n : ℕ) (os : List Opener) (d : Draft) (b : ℕ) → NextTrail l₀ m₀ P past x → Onward (follow_inside x n os d b)
+  move_inside (target.To k) n os d b h = h
+  move_inside target.Deeper n os d b h = tt
+  move_inside target.Shallower n os d b h = tt
+  move_inside (target.Bracket s) n os d b h = move_opens (has_room d os) fault.MissingBracket _ tt tt
+  move_inside (target.Paren s) n os d b h = move_opens (has_room d os) fault.MissingParen _ tt tt
+  move_inside target.Leave n os d b h = move_leaves os n d b
+  move_inside target.End n os d b h = tt
+  move_inside target.Rest n os d b h = tt
+  move_inside (target.Bad f) n os d b h = inr h
 
-  move_take : (t : Turn) (n : ℕ) (os : List Outer) (d : Draft) (b : ℕ) → NextTrail l₀ m₀ P past t.next → Onward (take_turn t n os d b)
+  move_take : (t : Transition) (n : ℕ) (os : List Opener) (d : Draft) (b : ℕ) → NextTrail l₀ m₀ P past t.next → Onward (take_transition t n os d b)
   move_take t n [] d b h = move_follow t.next n (perform t.second (perform t.first d)) h
   move_take t n (o ∷ os) d b h = move_inside t.next n (o ∷ os) d b h
 
@@ -408,13 +411,13 @@ ended_word l m past s b r d e n i =
 trailed : (l : Level) (m : Mode) (past : List ℕ) (s : State) (b : ℕ) → Reached l m past s → MoveTrail l m (Cause (level_in l s.inner) b s.mode) (past ++ b ∷ []) (step l s b)
 unfolding step
 trailed l m past s b r =
-    move_take l m (Cause (level_in l s.inner) b s.mode) (past ++ b ∷ []) (turn (level_in l s.inner) (nat_lt 0 s.depth) s.mode (class_of b) b) s.depth s.inner s.draft b
-    (from_turn l m past b (level_in l s.inner) (nat_lt 0 s.depth) s.mode r.fine r.trail (ended_word l m past s b r))
+    move_take l m (Cause (level_in l s.inner) b s.mode) (past ++ b ∷ []) (transition (level_in l s.inner) (nat_lt 0 s.depth) s.mode (class_of b) b) s.depth s.inner s.draft b
+    (from_transition l m past b (level_in l s.inner) (nat_lt 0 s.depth) s.mode r.fine r.trail (ended_word l m past s b r))
 
 pub reached_step : (l : Level) (m : Mode) (past : List ℕ) (s n : State) (b : ℕ) → Reached l m past s → step l s b ≡ Go n → Reached l m (past ++ b ∷ []) n
 reached_step l m past s n b r e = record {
   leads = λ after. lead_both l after _ _ _ past (b ∷ []) (r.leads (b ∷ after)) (lead_one l after s n b e);
-  fine = subst FineMove e (fine_step l s b r.fine);
+  fine = subst FineStep e (fine_step l s b r.fine);
   trail = subst (MoveTrail l m (Cause (level_in l s.inner) b s.mode) (past ++ b ∷ [])) e (trailed l m past s b r);
 }
 

@@ -3,43 +3,45 @@ use Rattle.std.specs.Prelude.{◌≡◌, ◌≢◌, ℕ, suc, ◌+◌, ◌<◌, 
 use Rattle.std.proofs.Common.{inl, inr, ◌∙◌, ap, sym, arith, subst, append_assoc, length-append}
 use Rattle.std.specs.Char.{digit_value}
 use lib.Utf8.{scalar}
-use Rattle.dg_words.specs.declared.fault.WordFault.{WordFault}
-use Rattle.dg_words.specs.declared.fault.WordFault.TheVariants as fault
-use Rattle.dg_words.specs.declared.kinds.Class.{Class}
-use Rattle.dg_words.specs.declared.kinds.Class.TheVariants as class
-use Rattle.dg_words.specs.declared.kinds.Deed.{Deed}
-use Rattle.dg_words.specs.declared.kinds.Deed.TheVariants as deed
-use Rattle.dg_words.specs.declared.kinds.Delimiter.{Delimiter}
-use Rattle.dg_words.specs.declared.kinds.Delimiter.TheVariants as delimiter
-use Rattle.dg_words.specs.declared.kinds.Digits as kinds
-use Rattle.dg_words.specs.declared.kinds.Escape.{Escape}
-use Rattle.dg_words.specs.declared.kinds.Escape.TheVariants.{Octal}
+use Rattle.dg_lists.specs.declared.fault.WordFault.{WordFault}
+use Rattle.dg_lists.specs.declared.fault.WordFault.TheVariants as fault
+use Rattle.dg_lists.specs.declared.kinds.Class.{Class}
+use Rattle.dg_lists.specs.declared.kinds.Class.TheVariants as class
+use Rattle.dg_lists.specs.declared.kinds.Effect.{Effect}
+use Rattle.dg_lists.specs.declared.kinds.Effect.TheVariants as effect
+use Rattle.dg_lists.specs.declared.kinds.Delimiter.{Delimiter}
+use Rattle.dg_lists.specs.declared.kinds.Delimiter.TheVariants as delimiter
+use Rattle.dg_lists.specs.declared.kinds.Digits as kinds
+use Rattle.dg_lists.specs.declared.kinds.Escape.{Escape}
+use Rattle.dg_lists.specs.declared.kinds.Escape.TheVariants.{Octal}
 use Rattle.dg_words.specs.declared.kinds.Level.{Level}
 use Rattle.dg_words.specs.declared.kinds.Level.TheVariants as level
-use Rattle.dg_words.specs.declared.kinds.Mode.{Mode}
-use Rattle.dg_words.specs.declared.kinds.Mode.TheVariants as mode
-use Rattle.dg_words.specs.declared.kinds.Next.TheVariants as next
-use Rattle.dg_words.specs.declared.kinds.Outer.{Outer}
-use Rattle.dg_words.specs.declared.kinds.Spot.{Spot}
-use Rattle.dg_words.specs.declared.kinds.Spot.TheVariants as spot
+use Rattle.dg_lists.specs.declared.kinds.Mode.{Mode}
+use Rattle.dg_lists.specs.declared.kinds.Mode.TheVariants as mode
+use Rattle.dg_lists.specs.declared.kinds.Target.TheVariants as target
+use Rattle.dg_words.specs.declared.kinds.Opener.{Opener}
+use Rattle.dg_lists.specs.declared.kinds.Context.{Context}
+use Rattle.dg_lists.specs.declared.kinds.Context.TheVariants as context
 use Rattle.dg_words.specs.declared.word.Word.{Word}
-use Rattle.dg_words.specs.Classes.{class_of, heard}
-use Rattle.dg_words.specs.Turns.{after, behind, behind_number, behind_pair, digits_of, does, ends, goes, in_spot, letter_of, number_ends, numbered, spot_ends, turn, whole, with_digit, written}
-use Rattle.dg_words.specs.Machine.{Draft, Go, Fails, State, ended, fresh, is_none, level_in, onward, read, step, stop, stopped, take_turn}
-use Rattle.dg_words.specs.Grammar.Continuing.{IsRead}
-use Rattle.dg_words.specs.Grammar.Escapes.{each, value_from}
+use Rattle.dg_lists.specs.Classes.{class_of}
+use Rattle.dg_words.specs.Transitions.{heard}
+use Rattle.dg_lists.specs.Transitions.{behind_number, digits_of, does, goes, letter_of, whole, with_digit, written}
+use Rattle.dg_words.specs.Transitions.{after, behind, behind_pair, ends, in_context, number_ends, numbered, context_ends, transition}
+use Rattle.dg_words.specs.Machine.{Draft, Go, Fails, State, ended, fresh, is_none, level_in, onward, read, step, stop, stopped, take_transition}
+use Rattle.dg_words.proofs.GrammarLemmas.Reads.{IsRead}
+use Rattle.dg_lists.specs.Grammar.Escapes.{each, value_from}
 use Rattle.dg_words.specs.Grammar.Saying.{BeginsWithHex, EndsWord, Unwritten, is_hex}
 use Rattle.dg_words.specs.Grammar.Words.{Parted, ends_word}
 use Rattle.dg_words.proofs.GrammarLemmas.Openings.{IsOther}
-use Rattle.dg_words.proofs.GrammarLemmas.Bytes.{is_class}
-use Rattle.dg_words.proofs.GrammarLemmas.GoOn.{Fine}
-use Rattle.dg_words.proofs.GrammarLemmas.ListKinds.{sixteen, whole_none, written_none}
-use Rattle.dg_words.proofs.GrammarLemmas.Numbers.{digit_some, number}
+use Rattle.dg_lists.proofs.GrammarLemmas.Bytes.{is_class}
+use Rattle.dg_lists.proofs.GrammarLemmas.Endable.{Fine}
+use Rattle.dg_lists.proofs.GrammarLemmas.ListKinds.{sixteen, whole_none, written_none}
+use Rattle.dg_lists.proofs.GrammarLemmas.Numbers.{digit_some, number}
 use Rattle.dg_words.proofs.GrammarLemmas.Segments.{Leads, at, step_by, taken_to}
 use Rattle.dg_words.proofs.GrammarLemmas.Trails.{Cause, Ended, Numbered, Reached, Trail, mark, numbered_more}
 
 -- a reading that a byte ends in a fault succeeds with no text
-pub bad_take : (n : ℕ) (os : List Outer) (d : Draft) (b : ℕ) (f : WordFault) → take_turn (does deed.Nothing (next.Bad f)) n os d b ≡ Fails f
+pub bad_take : (n : ℕ) (os : List Opener) (d : Draft) (b : ℕ) (f : WordFault) → take_transition (does effect.Nothing (target.Bad f)) n os d b ≡ Fails f
 bad_take n [] d b f = refl
 bad_take n (o ∷ os) d b f = refl
 
@@ -85,7 +87,7 @@ heard_slash level.Alone c e = e
 data Behind (l : Level) (d : Delimiter) (c : Class) : Type 0 where
   parts : IsEnder c → Behind l d c
   slash : c ≡ class.Backslash → behind l d c ≡ goes (mode.BehindPair d) → Behind l d c
-  bad : behind l d c ≡ does deed.Nothing (next.Bad (after d)) → Behind l d c
+  bad : behind l d c ≡ does effect.Nothing (target.Bad (after d)) → Behind l d c
 
 behind_is : (l : Level) (d : Delimiter) (c : Class) → l ≢ level.Alone → Behind l d c
 behind_is level.Alone d c n = absurd (n refl)
@@ -100,30 +102,30 @@ behind_is level.Top d c n = Behind.bad refl
 behind_is level.List d c n = Behind.bad refl
 behind_is level.Inside d c n = Behind.bad refl
 
-pair_is : (d : Delimiter) (c : Class) → (c ≡ class.Newline) ⊎ (behind_pair d c ≡ does deed.Nothing (next.Bad (after d)))
+pair_is : (d : Delimiter) (c : Class) → (c ≡ class.Newline) ⊎ (behind_pair d c ≡ does effect.Nothing (target.Bad (after d)))
 pair_is d class.Newline = inl refl
 pair_is d c = inr refl
 
-pair_stop : (os : List Outer) (d : Delimiter) (k : Draft) (p : ℕ) (x : List Word × ℕ) → stopped (ended (ends (is_none os) (mode.BehindPair d)) k) p ≡ Ok x → ⊥
+pair_stop : (os : List Opener) (d : Delimiter) (k : Draft) (p : ℕ) (x : List Word × ℕ) → stopped (ended (ends (is_none os) (mode.BehindPair d)) k) p ≡ Ok x → ⊥
 unfolding ends
 pair_stop [] d k p x e = absurd cc
 pair_stop (o ∷ os) d k p x e = absurd cc
 
-pair_parted : (l : Level) (os : List Outer) (d : Delimiter) (n : ℕ) (k : Draft) (bs : List ℕ) (p : ℕ) (x : List Word × ℕ) → read l bs (at os (mode.BehindPair d) n k) p ≡ Ok x → (rest : List ℕ) × (bs ≡ 10 ∷ rest)
-unfolding read stop turn
+pair_parted : (l : Level) (os : List Opener) (d : Delimiter) (n : ℕ) (k : Draft) (bs : List ℕ) (p : ℕ) (x : List Word × ℕ) → read l bs (at os (mode.BehindPair d) n k) p ≡ Ok x → (rest : List ℕ) × (bs ≡ 10 ∷ rest)
+unfolding read stop transition
 pair_parted l os d n k [] p x r = absurd (pair_stop os d k p x r)
 pair_parted l os d n k (b ∷ bs) p x r = elim (pair_is d (class_of b)) [
   | inl e ↦ (bs, ap (λ y. y ∷ bs) (is_class b class.Newline e))
   | inr e ↦ absurd (fails_not l (at os (mode.BehindPair d) n k) b bs p (after d) x (step_by l (at os (mode.BehindPair d) n k) b (class_of b) _ refl e ∙ bad_take n os k b (after d)) r)
 ]
 
-behind_parted : (l : Level) (os : List Outer) (d : Delimiter) (n : ℕ) (k : Draft) (more : List ℕ) (p : ℕ) (x : List Word × ℕ) → level_in l os ≢ level.Alone → read l more (at os (mode.Behind d) n k) p ≡ Ok x → Parted level.Inside more
-unfolding turn
+behind_parted : (l : Level) (os : List Opener) (d : Delimiter) (n : ℕ) (k : Draft) (more : List ℕ) (p : ℕ) (x : List Word × ℕ) → level_in l os ≢ level.Alone → read l more (at os (mode.Behind d) n k) p ≡ Ok x → Parted level.Inside more
+unfolding transition
 behind_parted l os d n k [] p x h r = Parted.at_end
 behind_parted l os d n k (b ∷ bs) p x h r = elim (behind_is (level_in l os) d (heard (level_in l os) (class_of b)) h) [
   | parts e ↦ Parted.at_byte b (heard_ends (level_in l os) (class_of b) e)
   | slash e t ↦
-      let y = goes_on l (at os (mode.Behind d) n k) _ b bs p x (step_by l (at os (mode.Behind d) n k) b (class_of b) _ refl t ∙ taken_to deed.Nothing deed.Nothing (mode.BehindPair d) os n k b) r in
+      let y = goes_on l (at os (mode.Behind d) n k) _ b bs p x (step_by l (at os (mode.Behind d) n k) b (class_of b) _ refl t ∙ taken_to effect.Nothing effect.Nothing (mode.BehindPair d) os n k b) r in
       let z = pair_parted l os d n _ bs (p + 1) x y in
       let i : b ≡ 92 = is_class b class.Backslash (heard_slash (level_in l os) (class_of b) e) in
       subst (λ t. Parted level.Inside t) (ap (λ u. 92 ∷ u) (sym z.1) ∙ ap (λ c. c ∷ bs) (sym i)) Parted.at_joined_line
@@ -164,19 +166,19 @@ ends_word_before l m text front rest d t x =
     }
 
 -- a number that writes no character needs a digit more
-no_stop : (top : Bool) (s : Spot) (k : Draft) (p : ℕ) (x : List Word × ℕ) → stopped (ended (number_ends top s None) k) p ≡ Ok x → ⊥
-no_stop true spot.Bare k p x e = absurd cc
-no_stop true spot.Alone k p x e = absurd cc
-no_stop true spot.Quoted k p x e = absurd cc
-no_stop true spot.Index k p x e = absurd cc
-no_stop false spot.Bare k p x e = absurd cc
-no_stop false spot.Alone k p x e = absurd cc
-no_stop false spot.Quoted k p x e = absurd cc
-no_stop false spot.Index k p x e = absurd cc
+no_stop : (top : Bool) (s : Context) (k : Draft) (p : ℕ) (x : List Word × ℕ) → stopped (ended (number_ends top s None) k) p ≡ Ok x → ⊥
+no_stop true context.Bare k p x e = absurd cc
+no_stop true context.Alone k p x e = absurd cc
+no_stop true context.Quoted k p x e = absurd cc
+no_stop true context.Index k p x e = absurd cc
+no_stop false context.Bare k p x e = absurd cc
+no_stop false context.Alone k p x e = absurd cc
+no_stop false context.Quoted k p x e = absurd cc
+no_stop false context.Index k p x e = absurd cc
 
-needs_digit : (l : Level) (os : List Outer) (s : Spot) (e : Escape) (left v n : ℕ) (k : Draft) (more : List ℕ) (p : ℕ) (x : List Word × ℕ) → e ≢ Octal → whole (number e left v) ≡ None →
+needs_digit : (l : Level) (os : List Opener) (s : Context) (e : Escape) (left v n : ℕ) (k : Draft) (more : List ℕ) (p : ℕ) (x : List Word × ℕ) → e ≢ Octal → whole (number e left v) ≡ None →
     read l more (at os (mode.Number s (number e left v)) n k) p ≡ Ok x → BeginsWithHex more
-unfolding read stop ends turn
+unfolding read stop ends transition
 needs_digit l os s e left v n k [] p x o w r = absurd (no_stop (is_none os) s k p x (sym (ap (λ d. stopped (ended (number_ends (is_none os) s d) k) p) w) ∙ r))
 needs_digit l os s e left v n k (b ∷ bs) p x o w r = tested (with_digit (number e left v) b) refl
   where
@@ -184,10 +186,10 @@ needs_digit l os s e left v n k (b ∷ bs) p x o w r = tested (with_digit (numbe
     tested (Some y) i = subst (λ c. nat_lt (digit_value b) c ≡ true) (sixteen e o) (digit_some e left v b y i).0
     tested None i =
         absurd (fails_not l (at os (mode.Number s (number e left v)) n k) b bs p fault.BadCodePoint x
-        (step_by l (at os (mode.Number s (number e left v)) n k) b (class_of b) (does deed.Nothing (next.Bad fault.BadCodePoint)) refl
-        (ap (λ y. numbered (level_in l os) s (number e left v) (class_of b) b y) i ∙ ap (λ y. behind_number y (in_spot (level_in l os) s (class_of b) b)) w) ∙ bad_take n os k b fault.BadCodePoint) r)
+        (step_by l (at os (mode.Number s (number e left v)) n k) b (class_of b) (does effect.Nothing (target.Bad fault.BadCodePoint)) refl
+        (ap (λ y. numbered (level_in l os) s (number e left v) (class_of b) b y) i ∙ ap (λ y. behind_number y (in_context (level_in l os) s (class_of b) b)) w) ∙ bad_take n os k b fault.BadCodePoint) r)
 
-needs : (l : Level) (s : State) (t : Spot) (n : kinds.Digits) (more : List ℕ) (p : ℕ) (x : List Word × ℕ) → s.mode ≡ mode.Number t n → n.escape ≢ Octal → whole n ≡ None → read l more s p ≡ Ok x → BeginsWithHex more
+needs : (l : Level) (s : State) (t : Context) (n : kinds.Digits) (more : List ℕ) (p : ℕ) (x : List Word × ℕ) → s.mode ≡ mode.Number t n → n.escape ≢ Octal → whole n ≡ None → read l more s p ≡ Ok x → BeginsWithHex more
 needs l s t n more p x e o w r = needs_digit l s.inner t n.escape n.left n.value s.depth s.draft more p x o w (subst (λ k. read l more (at s.inner k s.depth s.draft) p ≡ Ok x) e r)
 
 abbrev Place : List ℕ → List ℕ → ℕ → ℕ → Type 0
@@ -213,7 +215,7 @@ unwritten l m text past rest place n x t c u p =
 long : (past : List ℕ) (n : kinds.Digits) (x : Numbered past n) → length past ≡ length x.before + 2 + length x.digits
 long past n x = omega (arith, ap length x.split, length-append x.before (92 ∷ letter_of n.escape ∷ x.digits))
 
-unwritten_here : (l : Level) (m : Mode) (text front rest : List ℕ) (s : State) (t : Spot) (n : kinds.Digits) → text ≡ front ++ rest → Reached l m front s → s.mode ≡ mode.Number t n → whole n ≡ None → Unwritten (IsRead l m) text (length front)
+unwritten_here : (l : Level) (m : Mode) (text front rest : List ℕ) (s : State) (t : Context) (n : kinds.Digits) → text ≡ front ++ rest → Reached l m front s → s.mode ≡ mode.Number t n → whole n ≡ None → Unwritten (IsRead l m) text (length front)
 unwritten_here l m text front rest s t n i r e w =
     let g = subst Fine e r.fine in
     let k = written_none n.escape n.value g.1 (whole_none n w) in
@@ -226,7 +228,7 @@ unwritten_here l m text front rest s t n i r e w =
           (inl (shorter, long front n x))
     ]
 
-unwritten_at : (l : Level) (m : Mode) (text front bs : List ℕ) (s : State) (b : ℕ) (t : Spot) (n : kinds.Digits) (v : ℕ) → text ≡ front ++ b ∷ bs → Reached l m front s → s.mode ≡ mode.Number t n → step l s b ≡ Fails fault.BadCodePoint →
+unwritten_at : (l : Level) (m : Mode) (text front bs : List ℕ) (s : State) (b : ℕ) (t : Context) (n : kinds.Digits) (v : ℕ) → text ≡ front ++ b ∷ bs → Reached l m front s → s.mode ≡ mode.Number t n → step l s b ≡ Fails fault.BadCodePoint →
     n.left ≡ 1 → with_digit n b ≡ Some v → written n.escape v ≡ None → Unwritten (IsRead l m) text (length front)
 unwritten_at l m text front bs s b t n v i r e f one h w =
     let k = written_none n.escape v (digit_some n.escape n.left n.value b v h).2 w in
@@ -264,7 +266,7 @@ wrong_at l m text front bs s b f i r e c = wrong_by l m text front bs s b f s.mo
 -- where the text ends
 data Ending (f : WordFault) : Mode → Type 0 where
   behind_backslash : (d : Delimiter) → f ≡ after d → Ending f (mode.BehindPair d)
-  in_number : (s : Spot) (n : kinds.Digits) → whole n ≡ None → f ≡ fault.BadCodePoint → Ending f (mode.Number s n)
+  in_number : (s : Context) (n : kinds.Digits) → whole n ≡ None → f ≡ fault.BadCodePoint → Ending f (mode.Number s n)
 
 fault_in : WordFault → Result (List Word) WordFault → WordFault
 fault_in f (Ok x) = f
@@ -274,30 +276,30 @@ err_same : {f g : WordFault} → ◌≡◌ {A = Result (List Word) WordFault} (E
 unfolding fault_in
 err_same {f = f} e = ap (fault_in f) e
 
-spot_other : (top : Bool) (s : Spot) (x y : Deed) (d : Draft) (f : WordFault) → IsOther f → ended (spot_ends top s x y) d ≡ Err f → ⊥
-spot_other top spot.Quoted x y d f h e = subst IsOther (sym (err_same e)) h
-spot_other top spot.Index x y d f h e = subst IsOther (sym (err_same e)) h
-spot_other true spot.Bare x y d f h e = absurd cc
-spot_other true spot.Alone x y d f h e = absurd cc
-spot_other false spot.Bare x y d f h e = subst IsOther (sym (err_same e)) h
-spot_other false spot.Alone x y d f h e = subst IsOther (sym (err_same e)) h
+context_other : (top : Bool) (s : Context) (x y : Effect) (d : Draft) (f : WordFault) → IsOther f → ended (context_ends top s x y) d ≡ Err f → ⊥
+context_other top context.Quoted x y d f h e = subst IsOther (sym (err_same e)) h
+context_other top context.Index x y d f h e = subst IsOther (sym (err_same e)) h
+context_other true context.Bare x y d f h e = absurd cc
+context_other true context.Alone x y d f h e = absurd cc
+context_other false context.Bare x y d f h e = subst IsOther (sym (err_same e)) h
+context_other false context.Alone x y d f h e = subst IsOther (sym (err_same e)) h
 
-number_other : (top : Bool) (s : Spot) (n : kinds.Digits) (r : Option Deed) → whole n ≡ r → (d : Draft) (f : WordFault) → IsOther f → ended (number_ends top s r) d ≡ Err f → Ending f (mode.Number s n)
-number_other top s n (Some x) i d f h e = absurd (spot_other top s deed.Nothing x d f h e)
-number_other true spot.Bare n None i d f h e = Ending.in_number spot.Bare n i (sym (err_same e))
-number_other true spot.Alone n None i d f h e = Ending.in_number spot.Alone n i (sym (err_same e))
-number_other true spot.Quoted n None i d f h e = absurd (spot_other true spot.Quoted deed.Nothing deed.Nothing d f h e)
-number_other true spot.Index n None i d f h e = absurd (spot_other true spot.Index deed.Nothing deed.Nothing d f h e)
-number_other false s n None i d f h e = absurd (spot_other false s deed.Nothing deed.Nothing d f h e)
+number_other : (top : Bool) (s : Context) (n : kinds.Digits) (r : Option Effect) → whole n ≡ r → (d : Draft) (f : WordFault) → IsOther f → ended (number_ends top s r) d ≡ Err f → Ending f (mode.Number s n)
+number_other top s n (Some x) i d f h e = absurd (context_other top s effect.Nothing x d f h e)
+number_other true context.Bare n None i d f h e = Ending.in_number context.Bare n i (sym (err_same e))
+number_other true context.Alone n None i d f h e = Ending.in_number context.Alone n i (sym (err_same e))
+number_other true context.Quoted n None i d f h e = absurd (context_other true context.Quoted effect.Nothing effect.Nothing d f h e)
+number_other true context.Index n None i d f h e = absurd (context_other true context.Index effect.Nothing effect.Nothing d f h e)
+number_other false s n None i d f h e = absurd (context_other false s effect.Nothing effect.Nothing d f h e)
 
 ending : (top : Bool) (k : Mode) (d : Draft) (f : WordFault) → IsOther f → ended (ends top k) d ≡ Err f → Ending f k
 unfolding ends
-ending top (mode.In s) d f h e = absurd (spot_other top s deed.Nothing deed.Nothing d f h e)
-ending top (mode.Pair s) d f h e = absurd (spot_other top s deed.Nothing (deed.Byte 92) d f h e)
-ending top (mode.Join s) d f h e = absurd (spot_other top s deed.Nothing deed.Nothing d f h e)
-ending top (mode.Dollar s) d f h e = absurd (spot_other top s deed.Nothing deed.Dollar d f h e)
-ending top (mode.Colon s) d f h e = absurd (spot_other top s deed.Nothing deed.DollarColon d f h e)
-ending top (mode.Name s) d f h e = absurd (spot_other top s deed.Nothing deed.Value d f h e)
+ending top (mode.In s) d f h e = absurd (context_other top s effect.Nothing effect.Nothing d f h e)
+ending top (mode.Pair s) d f h e = absurd (context_other top s effect.Nothing (effect.Byte 92) d f h e)
+ending top (mode.Join s) d f h e = absurd (context_other top s effect.Nothing effect.Nothing d f h e)
+ending top (mode.Dollar s) d f h e = absurd (context_other top s effect.Nothing effect.Dollar d f h e)
+ending top (mode.Colon s) d f h e = absurd (context_other top s effect.Nothing effect.DollarColon d f h e)
+ending top (mode.Name s) d f h e = absurd (context_other top s effect.Nothing effect.Value d f h e)
 ending top (mode.Number s n) d f h e = number_other top s n (whole n) refl d f h e
 ending top (mode.NameBrace s) d f h e = absurd (subst IsOther (sym (err_same e)) h)
 ending top mode.BraceFirst d f h e = absurd (subst IsOther (sym (err_same e)) h)

@@ -1,8 +1,8 @@
 -- What is open after a text.
 use Rattle.std.specs.Prelude.{◌≡◌, ℕ, List, [], ◌∷◌, ◌++◌, Bool, true, if◌then◌else◌, ◌==◌}
 use Rattle.std.specs.List.{filter}
-use Rattle.dg_words.specs.declared.fault.WordFault.{WordFault}
-use Rattle.dg_words.specs.declared.fault.WordFault.TheVariants.{MissingBrace, MissingBracket, MissingQuote, MissingParen}
+use Rattle.dg_lists.specs.declared.fault.WordFault.{WordFault}
+use Rattle.dg_lists.specs.declared.fault.WordFault.TheVariants.{MissingBrace, MissingBracket, MissingQuote, MissingParen}
 
 -- a byte that may end a brace, a quote, a bracket or an index
 abbrev pub is_end : ℕ → Bool

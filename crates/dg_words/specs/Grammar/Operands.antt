@@ -1,12 +1,12 @@
 -- How an operand is spelled: what stands for one value in an expression, besides numbers and names.
 use Rattle.std.specs.Prelude.{◌≡◌, ◌≢◌, ℕ, List, [], ◌∷◌, ◌++◌, length, Bool, true, false}
 use Rattle.dg_words.specs.Piece.{Piece, Text, Variable, Element, End, Command}
-use Rattle.dg_words.specs.declared.kinds.Class.{Class}
-use Rattle.dg_words.specs.declared.kinds.Class.TheVariants as class
+use Rattle.dg_lists.specs.declared.kinds.Class.{Class}
+use Rattle.dg_lists.specs.declared.kinds.Class.TheVariants as class
 use Rattle.dg_words.specs.declared.kinds.Level.TheVariants.{Alone}
-use Rattle.dg_words.specs.declared.kinds.Spot.TheVariants.{Quoted, Index}
-use Rattle.dg_words.specs.Classes.{class_of}
-use Rattle.dg_words.specs.Grammar.Escapes.{each}
+use Rattle.dg_lists.specs.declared.kinds.Context.TheVariants.{Quoted, Index}
+use Rattle.dg_lists.specs.Classes.{class_of}
+use Rattle.dg_lists.specs.Grammar.Escapes.{each}
 use Rattle.dg_words.specs.Grammar.Words.{Braced, Named, Parts, Script, begins_variable, begins_with_colon, brace_name_byte, name_goes_on, with_text}
 
 -- an operand begins with a quote, a brace, a bracket or a dollar sign

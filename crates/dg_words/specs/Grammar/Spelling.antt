@@ -1,12 +1,12 @@
 -- What an answer of the reading says of its text, by the grammar alone.
 use Rattle.std.specs.Prelude.{◌≡◌, ℕ, ◌+◌, List, [], ◌∷◌, drop, false}
 use Rattle.dg_words.specs.Piece.{Piece}
-use Rattle.dg_words.specs.declared.fault.WordFault.{WordFault}
+use Rattle.dg_lists.specs.declared.fault.WordFault.{WordFault}
 use Rattle.dg_words.specs.declared.word.Word.{Word}
 use Rattle.dg_words.specs.Grammar.Words.{Begun, WordsOf}
 use Rattle.dg_words.specs.Grammar.Operands as operands
-use Rattle.dg_words.specs.Grammar.Continuing.{GoesOn, IsList, IsNot, StopsAt}
-use Rattle.dg_words.specs.Grammar.Saying.{IsWrong, Says}
+use Rattle.dg_words.specs.Grammar.Saying.{IsWrong}
+use Rattle.dg_lists.specs.Grammar.Spelling.{IsFirstFault}
 
 -- a command of these words begins at a place, and the next place is that behind it
 abbrev pub SpellsCommand : List ℕ → ℕ → List Word → ℕ → Type 0
@@ -26,11 +26,6 @@ BeginsOperand text = (ps : List Piece) × (n : ℕ) × operands.Begun text ps n
 abbrev pub SpellsWords : List ℕ → Type 0
 SpellsWords text = (words : List Word) × WordsOf text words
 
--- The first fault of a text has a place: the text before it can go on to such a text, no text that begins with the
--- bytes up to the one there is such a text, and this is wrong there.
-abbrev pub IsFirstFault : (List ℕ → Type 0) → (List ℕ → ℕ → Type 0) → List ℕ → Type 0
-IsFirstFault Is Wrong text = (place : ℕ) × GoesOn Is text place × StopsAt (IsNot Is) text place × Wrong text place
-
 -- this is the first fault of a text that is to begin with a command
 abbrev pub IsCommandFault : WordFault → List ℕ → Type 0
 IsCommandFault fault text = IsFirstFault BeginsCommand (IsWrong BeginsCommand fault) text
@@ -42,7 +37,3 @@ IsOperandFault fault text = IsFirstFault BeginsOperand (IsWrong BeginsOperand fa
 -- of one that is to spell words
 abbrev pub IsWordsFault : WordFault → List ℕ → Type 0
 IsWordsFault fault text = IsFirstFault SpellsWords (IsWrong SpellsWords fault) text
-
--- of one that is to be a list
-abbrev pub IsListFault : WordFault → List ℕ → Type 0
-IsListFault fault text = IsFirstFault IsList (Says fault) text

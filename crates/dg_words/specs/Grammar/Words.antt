@@ -1,15 +1,15 @@
 -- How words, commands and scripts are spelled.
 use Rattle.std.specs.Prelude.{◌≡◌, ◌≢◌, ℕ, suc, ◌+◌, List, [], ◌∷◌, ◌++◌, length, Bool, true, false, not}
 use Rattle.dg_words.specs.Piece.{Piece, Text, Variable, Element, End, Command}
-use Rattle.dg_words.specs.declared.kinds.Class.{Class}
-use Rattle.dg_words.specs.declared.kinds.Class.TheVariants as class
+use Rattle.dg_lists.specs.declared.kinds.Class.{Class}
+use Rattle.dg_lists.specs.declared.kinds.Class.TheVariants as class
 use Rattle.dg_words.specs.declared.kinds.Level.{Level}
 use Rattle.dg_words.specs.declared.kinds.Level.TheVariants.{Top, List as Listed, Inside}
-use Rattle.dg_words.specs.declared.kinds.Spot.{Spot}
-use Rattle.dg_words.specs.declared.kinds.Spot.TheVariants.{Bare, Quoted, Index}
+use Rattle.dg_lists.specs.declared.kinds.Context.{Context}
+use Rattle.dg_lists.specs.declared.kinds.Context.TheVariants.{Bare, Quoted, Index}
 use Rattle.dg_words.specs.declared.word.Word.{Word}
-use Rattle.dg_words.specs.Classes.{class_of}
-use Rattle.dg_words.specs.Grammar.Escapes.{each, Escaped, Spaces}
+use Rattle.dg_lists.specs.Classes.{class_of}
+use Rattle.dg_lists.specs.Grammar.Escapes.{each, Escaped, Spaces}
 
 -- what parts words: in a list of words newlines too
 abbrev pub blanks : Level → Class → Bool
@@ -34,7 +34,7 @@ ends_word Inside class.RightBracket = true
 ends_word l c = false
 
 -- what stands for itself in a bare word, between quotes, and in an index
-abbrev pub plain : Level → Spot → Class → Bool
+abbrev pub plain : Level → Context → Class → Bool
 plain l s class.LeftBracket = false
 plain l s class.Backslash = false
 plain l s class.Dollar = false
@@ -179,24 +179,24 @@ pub data Parted (l : Level) : List ℕ → Type 0 where
 -- All of these stand before a text after, and n brackets and indices may be open inside each other there.
 mutual
   -- The inside of a bare or a quoted word, or of an index, and its pieces.
-  pub data Parts : Level → ℕ → Spot → List ℕ → List ℕ → List Piece → Type 0 where
-    nothing : {l : Level} {n : ℕ} {s : Spot} {after : List ℕ} → Parts l n s after [] []
-    byte : {l : Level} {n : ℕ} {s : Spot} {after t : List ℕ} {ps : List Piece} (b : ℕ) → plain l s (class_of b) ≡ true →
+  pub data Parts : Level → ℕ → Context → List ℕ → List ℕ → List Piece → Type 0 where
+    nothing : {l : Level} {n : ℕ} {s : Context} {after : List ℕ} → Parts l n s after [] []
+    byte : {l : Level} {n : ℕ} {s : Context} {after t : List ℕ} {ps : List Piece} (b : ℕ) → plain l s (class_of b) ≡ true →
         Parts l n s after t ps → Parts l n s after (b ∷ t) (with_text (b ∷ []) ps)
-    escape : {l : Level} {n : ℕ} {s : Spot} {after t : List ℕ} {ps : List Piece} (e w : List ℕ) → Escaped (t ++ after) e w →
+    escape : {l : Level} {n : ℕ} {s : Context} {after t : List ℕ} {ps : List Piece} (e w : List ℕ) → Escaped (t ++ after) e w →
         Parts l n s after t ps → Parts l n s after (92 ∷ e ++ t) (with_text w ps)
-    joined_line : {l : Level} {n : ℕ} {s : Spot} {after t : List ℕ} {ps : List Piece} (g : List ℕ) → s ≢ Bare → Spaces g (t ++ after) →
+    joined_line : {l : Level} {n : ℕ} {s : Context} {after t : List ℕ} {ps : List Piece} (g : List ℕ) → s ≢ Bare → Spaces g (t ++ after) →
         Parts l n s after t ps → Parts l n s after (92 ∷ 10 ∷ g ++ t) (with_text (32 ∷ []) ps)
-    last_backslash : {l : Level} {n : ℕ} {s : Spot} {after : List ℕ} → after ≡ [] → Parts l n s after (92 ∷ []) (Text (92 ∷ []) ∷ [])
-    dollar : {l : Level} {n : ℕ} {s : Spot} {after t : List ℕ} {ps : List Piece} → begins_variable (t ++ after) ≡ false →
+    last_backslash : {l : Level} {n : ℕ} {s : Context} {after : List ℕ} → after ≡ [] → Parts l n s after (92 ∷ []) (Text (92 ∷ []) ∷ [])
+    dollar : {l : Level} {n : ℕ} {s : Context} {after t : List ℕ} {ps : List Piece} → begins_variable (t ++ after) ≡ false →
         Parts l n s after t ps → Parts l n s after (36 ∷ t) (with_text (36 ∷ []) ps)
-    variable : {l : Level} {n : ℕ} {s : Spot} {after t : List ℕ} {ps : List Piece} (name : List ℕ) → Named name → name ≢ [] → name_goes_on (t ++ after) ≡ false →
+    variable : {l : Level} {n : ℕ} {s : Context} {after t : List ℕ} {ps : List Piece} (name : List ℕ) → Named name → name ≢ [] → name_goes_on (t ++ after) ≡ false →
         Parts l n s after t ps → Parts l n s after (36 ∷ name ++ t) (Variable name ∷ ps)
-    braced_variable : {l : Level} {n : ℕ} {s : Spot} {after t : List ℕ} {ps : List Piece} (name : List ℕ) → each brace_name_byte name ≡ true →
+    braced_variable : {l : Level} {n : ℕ} {s : Context} {after t : List ℕ} {ps : List Piece} (name : List ℕ) → each brace_name_byte name ≡ true →
         Parts l n s after t ps → Parts l n s after (36 ∷ 123 ∷ name ++ 125 ∷ t) (Variable name ∷ ps)
-    element : {l : Level} {n : ℕ} {s : Spot} {after t i : List ℕ} {ps is : List Piece} (name : List ℕ) → Named name → Parts l n Index (41 ∷ t ++ after) i is →
+    element : {l : Level} {n : ℕ} {s : Context} {after t i : List ℕ} {ps is : List Piece} (name : List ℕ) → Named name → Parts l n Index (41 ∷ t ++ after) i is →
         Parts l (suc n) s after t ps → Parts l (suc n) s after (36 ∷ name ++ 40 ∷ i ++ 41 ∷ t) (Element name ∷ is ++ End ∷ ps)
-    substitution : {l : Level} {n : ℕ} {s : Spot} {after t c : List ℕ} {ps : List Piece} → Script n (93 ∷ t ++ after) c →
+    substitution : {l : Level} {n : ℕ} {s : Context} {after t c : List ℕ} {ps : List Piece} → Script n (93 ∷ t ++ after) c →
         Parts l (suc n) s after t ps → Parts l (suc n) s after (91 ∷ c ++ 93 ∷ t) (Command c ∷ ps)
 
   -- A bare, a quoted or a braced word.

@@ -1,9 +1,8 @@
 //! Commands, words, operands and lists.
 use crate::rows::calls::text::{arg, named};
 use dg_bytes::Bytes;
-use dg_words::{
-    Parsed, Part, Word, WordFault, list_text, parse_command, parse_operand, parse_words, split_list,
-};
+use dg_lists::{WordFault, list_text, split_list};
+use dg_words::{Parsed, Part, Word, parse_command, parse_operand, parse_words};
 use std::alloc::{AllocError, Global};
 
 /// What the words of a call give.

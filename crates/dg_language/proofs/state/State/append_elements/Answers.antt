@@ -1,8 +1,8 @@
 use Rattle.std.proofs.Common.{◌≡◌, ℕ, Bool, ◌++◌, ◌∙◌, true, false, List, ap, sym, subst}
 use Rattle.std.specs.Prelude.{Ok, Err}
-use Rattle.dg_words.specs.Canonical.{text_of_list}
-use Rattle.dg_words.specs.Elements.{elements_of}
-use Rattle.dg_words.specs.Appending.{Refuses}
+use Rattle.dg_lists.specs.Canonical.{text_of_list}
+use Rattle.dg_lists.specs.Elements.{elements_of}
+use Rattle.dg_lists.specs.Appending.{Refuses}
 use Rattle.dg_scope.specs.Scopes.{value_limit, value_of, or_none}
 use Rattle.dg_language.specs.State.{State}
 use Rattle.dg_language.specs.contracts.state.State.{the_view}

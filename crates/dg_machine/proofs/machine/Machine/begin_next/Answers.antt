@@ -5,7 +5,7 @@ use Rattle.dg_language.specs.declared.code.Code.TheVariants.{Done}
 use Rattle.dg_machine.specs.Choosing.{repeating}
 use Rattle.dg_machine.specs.Meaning.{all_back, rest}
 use Rattle.dg_machine.specs.declared.frame.Control.TheVariants.{Go}
-use Rattle.dg_machine.specs.declared.frame.Stage.TheVariants.{Next}
+use Rattle.dg_machine.specs.declared.frame.LoopPart.TheVariants.{Next}
 use Rattle.dg_machine.specs.declared.machine.Machine.{Machine}
 use Rattle.dg_machine.proofs.GatherLemmas.{Comes-along}
 use Rattle.dg_machine.proofs.MachineLemmas.{Comes-known, evaluate-none, sequence-done, weight-cons}

@@ -11,4 +11,4 @@ returns-in_ok-perform-in-Ok c =
     let state = c.args.self.now.state in
     let ran = sym c.in_ok-completion.ensures ∙ c.in-Ok.is in
     rw (c.end.ensures, c.in_ok-perform-in-Ok.ensures, ran, c.requires)
-    (refl, known-performed done.effect state, omega (arith, weight-performed (Ended done.code done.value) c.args.self.now.stack done.effect state))
+    (refl, known-performed done.change state, omega (arith, weight-performed (Ended done.code done.value) c.args.self.now.stack done.change state))

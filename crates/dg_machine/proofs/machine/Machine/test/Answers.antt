@@ -4,7 +4,7 @@ use Rattle.dg_expr.specs.Number.{decimal_text}
 use Rattle.dg_expr.specs.Truth.{truth_of}
 use Rattle.dg_language.specs.Expressions.{or_no_truth}
 use Rattle.dg_machine.specs.Choosing.{repeat_if, repeating}
-use Rattle.dg_machine.specs.declared.frame.Stage.TheVariants.{Test}
+use Rattle.dg_machine.specs.declared.frame.LoopPart.TheVariants.{Test}
 use Rattle.dg_machine.specs.Meaning.{back, all_back}
 use Rattle.dg_machine.proofs.MachineLemmas.{Goes-comes, weight-cons}
 use Rattle.dg_machine.proofs.GatherLemmas.{Comes-along}

@@ -1,5 +1,5 @@
-use Rattle.dg_words.proofs.GrammarLemmas.Faults.{open_words_miss_their_inmost_end}
+use Rattle.dg_words.proofs.GrammarLemmas.Answered.{open_words_misses}
 use Rattle.dg_words.proofs.grammar.words.open_words_miss_their_inmost_end.Goals as goal
 
 pub returns : goal.returns
-returns c = λ text k ks o. open_words_miss_their_inmost_end text k ks o
+returns c = λ text k ks o. open_words_misses text k ks o

@@ -1,11 +1,11 @@
 use Rattle.std.proofs.Common.{◌∙◌, sym, subst}
 use Rattle.dg_words.specs.Runs.{Reaches}
-use Rattle.dg_words.proofs.Runs.{commented_inside, commented_outside, run_passes}
+use Rattle.dg_words.proofs.Runs.{braced_to, commented_inside, commented_outside, run_passes}
 use Rattle.dg_words.proofs.scan.Scanner.pass.Goals as goal
 
 pub returns-in_ok-put_all-in-Braced : goal.returns-in_ok-put_all-in-Braced
 returns-in_ok-put_all-in-Braced c =
-    run_passes c.args.text.now c.args.from _ c.args.self.now _ _ _ _ _ _ _ _ c.in-Braced.is c.self.view_is c.in_ok-put_all-in-Braced.ensures (c.braced_run-run.ensures.run c.self.inside.inner c.self.inside.draft)
+    run_passes c.args.text.now c.args.from _ c.args.self.now _ _ _ _ _ _ _ _ c.in-Braced.is c.self.view_is c.in_ok-put_all-in-Braced.ensures (braced_to c.args.text.now c.args.from _ _ _ c.braced_run-run.ensures.onward c.braced_run-run.ensures.within c.braced_run-run.ensures.run c.self.inside.inner c.self.inside.draft)
 
 pub returns-in_ok-put_all-in-In : goal.returns-in_ok-put_all-in-In
 returns-in_ok-put_all-in-In c =

@@ -1,0 +1,9 @@
+pub mod Classes
+pub mod Transitions
+pub mod Elements
+pub mod Braces
+pub mod ListRuns
+pub mod Canonical
+pub mod Appending
+pub mod Faults
+pub mod Grammar

@@ -1,0 +1,23 @@
+//! The laws of lists: what is spelled so is read, and what is read is spelled so.
+ghost use Rattle.std.specs.Prelude.{◌≡◌, ℕ, List, Ok, Err};
+ghost use Rattle.dg_lists.specs.declared.fault.WordFault.{WordFault};
+ghost use Rattle.dg_lists.specs.Elements.{elements_of, list_read, unread};
+ghost use Rattle.dg_lists.specs.Grammar.Continuing.{GoesOn, IsList, IsNoList, StopsAt};
+ghost use Rattle.dg_lists.specs.Grammar.Saying.{Says};
+ghost use Rattle.dg_lists.specs.Grammar.Lists.{ListOf};
+
+/// A law: a text that spells a list is read as that list; so it spells no other.
+pub fn spelled_list_is_read()
+    ensures { (text : List ℕ) (xs : List (List ℕ)) → ListOf text xs → elements_of text ≡ Ok xs }
+{}
+
+/// A law: a text that is read as a list spells it; so a text with a fault spells none.
+pub fn read_list_is_spelled()
+    ensures { (text : List ℕ) (xs : List (List ℕ)) → elements_of text ≡ Ok xs → ListOf text xs }
+{}
+
+/// A law: each fault of a list has a place, before which the text can go on to a list, and up to which no text is
+/// one; and its kind says what is wrong there.
+pub fn list_fault_has_its_place()
+    ensures { (text : List ℕ) (fault : WordFault) → elements_of text ≡ Err fault → (place : ℕ) × GoesOn IsList text place × StopsAt (IsNoList fault) text place × Says fault text place }
+{}

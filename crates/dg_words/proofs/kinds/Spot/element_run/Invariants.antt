@@ -1,5 +1,0 @@
-use Rattle.dg_words.proofs.ListRuns.{ElementOn}
-use Rattle.dg_words.proofs.kinds.Spot.element_run.Given as goal
-
-abbrev pub invariant-loop-place : goal.invariant-loop-place
-invariant-loop-place l = ElementOn l.text l.self l.from l.place

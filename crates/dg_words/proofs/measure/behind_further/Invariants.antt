@@ -1,6 +1,0 @@
-use Rattle.std.proofs.Common.{◌≡◌, ◌+◌, drop, length}
-use Rattle.dg_words.specs.Canonical.{further_text}
-use Rattle.dg_words.proofs.measure.behind_further.Given as goal
-
-abbrev pub invariant-loop-element : goal.invariant-loop-element
-invariant-loop-element l = l.left + length (further_text l.fn.elements) ≡ l.fn.room + length (further_text (drop l.element-index l.elements))
