@@ -2,19 +2,52 @@
 ghost use Rattle.std.specs.Prelude.{◌≡◌, IfOk};
 ghost use Rattle.dg_language.specs.Control.{do_leave, do_return, do_error};
 ghost use Rattle.dg_language.specs.Expecting.{do_exp_continue};
-ghost use Rattle.dg_language.specs.Immediate.{immediate, immediate_commands, is_for_scripts, result_commands};
-ghost use Rattle.dg_language.specs.Language.{with_name};
+ghost use Rattle.dg_language.specs.Immediate.{immediate};
 
-use crate::arguments::is_word;
 use crate::boards::{
     board_info, load_generic_config, set_board_info, target_info, unset_board_info,
 };
 use crate::completing::{completes, gives, miscounted};
+use crate::names::Row;
 use crate::procedures::procedure;
 use crate::results::result;
 use dg_bytes::{Bytes, TryCopy};
-use dg_language::{Builtin, Code, Completion, ImmediateCommand, ResultCommand, State};
+use dg_language::Builtin::Immediate;
+use dg_language::ImmediateCommand::{
+    BoardInfo, Break, Continue, Error, ExpContinue, LoadGenericConfig, Proc, Result as Recorded,
+    Return, SetBoardInfo, Silent, TargetInfo, UnsetBoardInfo,
+};
+use dg_language::ResultCommand::{
+    Fail, Note, Pass, Perror, Unresolved, Unsupported, Untested, Warning,
+};
+use dg_language::{Code, Completion, ImmediateCommand, State};
 use std::alloc::{AllocError, Global};
+
+/// The commands that evaluate nothing inside and ask nothing.
+pub(crate) const IMMEDIATE_COMMANDS: [Row; 22] = [
+    (b"pass", Immediate(Recorded(Pass)), true),
+    (b"fail", Immediate(Recorded(Fail)), true),
+    (b"unresolved", Immediate(Recorded(Unresolved)), true),
+    (b"untested", Immediate(Recorded(Untested)), true),
+    (b"unsupported", Immediate(Recorded(Unsupported)), true),
+    (b"note", Immediate(Recorded(Note)), true),
+    (b"perror", Immediate(Recorded(Perror)), true),
+    (b"warning", Immediate(Recorded(Warning)), true),
+    (b"verbose", Immediate(Silent), false),
+    (b"send_user", Immediate(Silent), false),
+    (b"send_log", Immediate(Silent), false),
+    (b"proc", Immediate(Proc), false),
+    (b"break", Immediate(Break), false),
+    (b"continue", Immediate(Continue), false),
+    (b"return", Immediate(Return), false),
+    (b"error", Immediate(Error), false),
+    (b"exp_continue", Immediate(ExpContinue), true),
+    (b"set_board_info", Immediate(SetBoardInfo), false),
+    (b"unset_board_info", Immediate(UnsetBoardInfo), false),
+    (b"load_generic_config", Immediate(LoadGenericConfig), false),
+    (b"target_info", Immediate(TargetInfo), false),
+    (b"board_info", Immediate(BoardInfo), false),
+];
 
 /// What a command comes to with these arguments: a completion, or the message of an error.
 pub fn run_immediate(
@@ -26,93 +59,20 @@ pub fn run_immediate(
     ensures { IfOk result (λ r. r ≡ immediate which args.now state.now) }
 {
     match which {
-        ImmediateCommand::Result(which) => result(alloc, which, args),
-        ImmediateCommand::Silent => Ok(gives(Bytes::new(alloc))),
-        ImmediateCommand::Proc => procedure(alloc, args),
-        ImmediateCommand::Break => leave(alloc, Code::Broken, b"break", args),
-        ImmediateCommand::Continue => leave(alloc, Code::Continued, b"continue", args),
-        ImmediateCommand::Return => give_back(alloc, args),
-        ImmediateCommand::Error => error(alloc, args),
-        ImmediateCommand::ExpContinue => exp_continue(alloc, state, args),
-        ImmediateCommand::SetBoardInfo => set_board_info(alloc, args),
-        ImmediateCommand::UnsetBoardInfo => unset_board_info(alloc, args),
-        ImmediateCommand::LoadGenericConfig => load_generic_config(alloc, args),
-        ImmediateCommand::TargetInfo => target_info(alloc, state, args),
-        ImmediateCommand::BoardInfo => board_info(alloc, state, args),
+        Recorded(which) => result(alloc, which, args),
+        Silent => Ok(gives(Bytes::new(alloc))),
+        Proc => procedure(alloc, args),
+        Break => leave(alloc, Code::Broken, b"break", args),
+        Continue => leave(alloc, Code::Continued, b"continue", args),
+        Return => give_back(alloc, args),
+        Error => error(alloc, args),
+        ExpContinue => exp_continue(alloc, state, args),
+        SetBoardInfo => set_board_info(alloc, args),
+        UnsetBoardInfo => unset_board_info(alloc, args),
+        LoadGenericConfig => load_generic_config(alloc, args),
+        TargetInfo => target_info(alloc, state, args),
+        BoardInfo => board_info(alloc, state, args),
     }
-}
-
-/// The command of this name that records a result or a message, or has no effect.
-pub(crate) fn find_result(name: &[u8]) -> Option<Builtin>
-    ensures { result ≡ with_name name.now result_commands }
-{
-    let which = if is_word(name, b"pass") {
-        ImmediateCommand::Result(ResultCommand::Pass)
-    } else if is_word(name, b"fail") {
-        ImmediateCommand::Result(ResultCommand::Fail)
-    } else if is_word(name, b"unresolved") {
-        ImmediateCommand::Result(ResultCommand::Unresolved)
-    } else if is_word(name, b"untested") {
-        ImmediateCommand::Result(ResultCommand::Untested)
-    } else if is_word(name, b"unsupported") {
-        ImmediateCommand::Result(ResultCommand::Unsupported)
-    } else if is_word(name, b"note") {
-        ImmediateCommand::Result(ResultCommand::Note)
-    } else if is_word(name, b"perror") {
-        ImmediateCommand::Result(ResultCommand::Perror)
-    } else if is_word(name, b"warning") {
-        ImmediateCommand::Result(ResultCommand::Warning)
-    } else if is_word(name, b"verbose")
-        || is_word(name, b"send_user")
-        || is_word(name, b"send_log")
-    {
-        ImmediateCommand::Silent
-    } else {
-        return None;
-    };
-    Some(Builtin::Immediate(which))
-}
-
-/// The other command of this name.
-pub(crate) fn find_immediate(name: &[u8]) -> Option<Builtin>
-    ensures { result ≡ with_name name.now immediate_commands }
-{
-    let which = if is_word(name, b"proc") {
-        ImmediateCommand::Proc
-    } else if is_word(name, b"break") {
-        ImmediateCommand::Break
-    } else if is_word(name, b"continue") {
-        ImmediateCommand::Continue
-    } else if is_word(name, b"return") {
-        ImmediateCommand::Return
-    } else if is_word(name, b"error") {
-        ImmediateCommand::Error
-    } else if is_word(name, b"exp_continue") {
-        ImmediateCommand::ExpContinue
-    } else if is_word(name, b"set_board_info") {
-        ImmediateCommand::SetBoardInfo
-    } else if is_word(name, b"unset_board_info") {
-        ImmediateCommand::UnsetBoardInfo
-    } else if is_word(name, b"load_generic_config") {
-        ImmediateCommand::LoadGenericConfig
-    } else if is_word(name, b"target_info") {
-        ImmediateCommand::TargetInfo
-    } else if is_word(name, b"board_info") {
-        ImmediateCommand::BoardInfo
-    } else {
-        return None;
-    };
-    Some(Builtin::Immediate(which))
-}
-
-/// Whether a command belongs to scripts alone: it records a result, or goes on with an `expect`.
-pub(crate) fn is_for_scripts(which: ImmediateCommand) -> bool
-    ensures { result ≡ is_for_scripts which }
-{
-    matches!(
-        which,
-        ImmediateCommand::Result(_) | ImmediateCommand::ExpContinue
-    )
 }
 
 /// `break` and `continue`.

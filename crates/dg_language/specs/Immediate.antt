@@ -30,26 +30,29 @@ immediate LoadGenericConfig args s = do_load_generic_config args
 immediate TargetInfo args s = do_target_info args s
 immediate BoardInfo args s = do_board_info args s
 
--- those that record a result or a message, or have no effect, by their names
-abbrev pub result_commands : List (List ℕ × Builtin)
-result_commands =
-    (codes "pass", Immediate (Result Pass)) ∷ (codes "fail", Immediate (Result Fail))
-    ∷ (codes "unresolved", Immediate (Result Unresolved)) ∷ (codes "untested", Immediate (Result Untested))
-    ∷ (codes "unsupported", Immediate (Result Unsupported)) ∷ (codes "note", Immediate (Result Note))
-    ∷ (codes "perror", Immediate (Result Perror)) ∷ (codes "warning", Immediate (Result Warning))
-    ∷ (codes "verbose", Immediate Silent) ∷ (codes "send_user", Immediate Silent) ∷ (codes "send_log", Immediate Silent) ∷ []
-
--- the others by their names
-abbrev pub immediate_commands : List (List ℕ × Builtin)
+-- The name of each, what it is, and whether it belongs to scripts alone: it records a result, or goes on with an `expect`, and is
+-- no command in a board's file.
+abbrev pub immediate_commands : List (List ℕ × Builtin × Bool)
 immediate_commands =
-    (codes "proc", Immediate Proc) ∷ (codes "break", Immediate Break) ∷ (codes "continue", Immediate Continue)
-    ∷ (codes "return", Immediate Return) ∷ (codes "error", Immediate Error) ∷ (codes "exp_continue", Immediate ExpContinue)
-    ∷ (codes "set_board_info", Immediate SetBoardInfo) ∷ (codes "unset_board_info", Immediate UnsetBoardInfo)
-    ∷ (codes "load_generic_config", Immediate LoadGenericConfig) ∷ (codes "target_info", Immediate TargetInfo)
-    ∷ (codes "board_info", Immediate BoardInfo) ∷ []
-
--- whether one belongs to scripts alone, and is no command in a board's file
-abbrev pub is_for_scripts : ImmediateCommand → Bool
-is_for_scripts (Result c) = true
-is_for_scripts ExpContinue = true
-is_for_scripts _ = false
+    (codes "pass", Immediate (Result Pass), true)
+    ∷ (codes "fail", Immediate (Result Fail), true)
+    ∷ (codes "unresolved", Immediate (Result Unresolved), true)
+    ∷ (codes "untested", Immediate (Result Untested), true)
+    ∷ (codes "unsupported", Immediate (Result Unsupported), true)
+    ∷ (codes "note", Immediate (Result Note), true)
+    ∷ (codes "perror", Immediate (Result Perror), true)
+    ∷ (codes "warning", Immediate (Result Warning), true)
+    ∷ (codes "verbose", Immediate Silent, false)
+    ∷ (codes "send_user", Immediate Silent, false)
+    ∷ (codes "send_log", Immediate Silent, false)
+    ∷ (codes "proc", Immediate Proc, false)
+    ∷ (codes "break", Immediate Break, false)
+    ∷ (codes "continue", Immediate Continue, false)
+    ∷ (codes "return", Immediate Return, false)
+    ∷ (codes "error", Immediate Error, false)
+    ∷ (codes "exp_continue", Immediate ExpContinue, true)
+    ∷ (codes "set_board_info", Immediate SetBoardInfo, false)
+    ∷ (codes "unset_board_info", Immediate UnsetBoardInfo, false)
+    ∷ (codes "load_generic_config", Immediate LoadGenericConfig, false)
+    ∷ (codes "target_info", Immediate TargetInfo, false)
+    ∷ (codes "board_info", Immediate BoardInfo, false) ∷ []

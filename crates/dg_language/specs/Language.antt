@@ -1,6 +1,5 @@
 -- What the text of a script means.
 use Rattle.std.specs.Prelude.{ℕ, suc, zero, ◌-◌, Bool, true, false, ◌&&◌, Option, Some, None, List, [], ◌∷◌, ◌++◌, length, nat_eq, codes, Result, Ok, Err}
-use Rattle.std.specs.Cmp.Lexicographic.{pointwise}
 use Rattle.std.specs.FinMap as names
 use Rattle.dg_lists.specs.Faults.{fault_text}
 use Rattle.dg_words.specs.Reading.{command_at}
@@ -12,20 +11,16 @@ use Rattle.dg_language.specs.declared.command.Command.{Command}
 use Rattle.dg_language.specs.declared.command.Command.TheVariants.{Words, Unreadable}
 use Rattle.dg_language.specs.declared.command.Builtin.{Builtin}
 use Rattle.dg_language.specs.declared.command.Builtin.TheVariants.{Immediate as ImmediateBuiltin, Variable as VariableBuiltin, Control as ControlBuiltin, Choice as ChoiceBuiltin, Target as TargetBuiltin, Flag as FlagBuiltin, Session as SessionBuiltin, LoadLib as LoadLibBuiltin, Expect as ExpectBuiltin, Regexp as RegexpBuiltin}
-use Rattle.dg_language.specs.declared.command.VariableCommand.TheVariants.{Set, Append, ListAppend, Increase, Unset, Info, Global}
-use Rattle.dg_language.specs.declared.command.ControlCommand.TheVariants.{Foreach, Catch}
 use Rattle.dg_language.specs.declared.command.ChoiceCommand.{ChoiceCommand}
 use Rattle.dg_language.specs.declared.command.ChoiceCommand.TheVariants.{Expr, Eval, If, Switch, While, For}
-use Rattle.dg_language.specs.declared.command.TargetCommand.TheVariants.{IsTarget, IsHost, IsBuild, IsNative}
-use Rattle.dg_language.specs.declared.command.FlagCommand.TheVariants.{SetupXfail, SetupKfail, ClearXfail, ClearKfail}
-use Rattle.dg_language.specs.declared.command.SessionCommand.TheVariants.{Spawn, Send, Close, Wait, MatchMax}
 use Rattle.dg_language.specs.declared.substitution.Purpose.{Purpose}
 use Rattle.dg_language.specs.declared.substitution.Purpose.TheVariants.{Run, Load, Expect}
 use Rattle.dg_language.specs.Play.{Play}
 use Rattle.dg_language.specs.State.{State}
 use Rattle.dg_language.specs.Evaluation.{Ending, Then, Nested, cut, tick, fail, if_done, quoted}
 use Rattle.dg_language.specs.Completing.{completed}
-use Rattle.dg_language.specs.Immediate.{immediate, immediate_commands, is_for_scripts, result_commands}
+use Rattle.dg_language.specs.Immediate.{immediate}
+use Rattle.dg_language.specs.Builtins.{builtin_of, usable}
 use Rattle.dg_language.specs.Variables.{do_variable}
 use Rattle.dg_language.specs.Procedures.{call}
 use Rattle.dg_language.specs.Control.{do_control, head_or_empty}
@@ -61,65 +56,6 @@ builtin nested (SessionBuiltin c) args s k = do_session c args s k
 builtin nested LoadLibBuiltin args s k = do_load_lib nested args s k
 builtin nested ExpectBuiltin args s k = do_expect nested args s k
 builtin nested RegexpBuiltin args s k = do_regexp args s k
-
--- the first of a list that has a name
-abbrev pub with_name : List ℕ → List (List ℕ × Builtin) → Option Builtin
-with_name n [] = None
-with_name n (e ∷ es) = elim (pointwise nat_eq n e.0) [ true ↦ Some e.1 | false ↦ with_name n es ]
-
--- the other commands by their names
-abbrev pub variable_commands : List (List ℕ × Builtin)
-variable_commands =
-    (codes "set", VariableBuiltin Set) ∷ (codes "append", VariableBuiltin Append) ∷ (codes "lappend", VariableBuiltin ListAppend)
-    ∷ (codes "incr", VariableBuiltin Increase)
-    ∷ (codes "unset", VariableBuiltin Unset) ∷ (codes "info", VariableBuiltin Info) ∷ (codes "global", VariableBuiltin Global)
-    ∷ (codes "regexp", RegexpBuiltin) ∷ []
-
-abbrev pub control_commands : List (List ℕ × Builtin)
-control_commands =
-    (codes "foreach", ControlBuiltin Foreach) ∷ (codes "catch", ControlBuiltin Catch) ∷ (codes "load_lib", LoadLibBuiltin) ∷ []
-
-abbrev pub choice_commands : List (List ℕ × Builtin)
-choice_commands =
-    (codes "expr", ChoiceBuiltin Expr) ∷ (codes "eval", ChoiceBuiltin Eval) ∷ (codes "if", ChoiceBuiltin If)
-    ∷ (codes "switch", ChoiceBuiltin Switch) ∷ (codes "while", ChoiceBuiltin While) ∷ (codes "for", ChoiceBuiltin For) ∷ []
-
-abbrev pub target_commands : List (List ℕ × Builtin)
-target_commands =
-    (codes "istarget", TargetBuiltin IsTarget) ∷ (codes "ishost", TargetBuiltin IsHost) ∷ (codes "isbuild", TargetBuiltin IsBuild)
-    ∷ (codes "isnative", TargetBuiltin IsNative) ∷ (codes "setup_xfail", FlagBuiltin SetupXfail) ∷ (codes "setup_kfail", FlagBuiltin SetupKfail)
-    ∷ (codes "clear_xfail", FlagBuiltin ClearXfail) ∷ (codes "clear_kfail", FlagBuiltin ClearKfail) ∷ []
-
-abbrev pub session_commands : List (List ℕ × Builtin)
-session_commands =
-    (codes "spawn", SessionBuiltin Spawn) ∷ (codes "send", SessionBuiltin Send) ∷ (codes "close", SessionBuiltin Close)
-    ∷ (codes "wait", SessionBuiltin Wait) ∷ (codes "match_max", SessionBuiltin MatchMax) ∷ (codes "expect", ExpectBuiltin)
-    ∷ []
-
-abbrev pub or_else : Option Builtin → Option Builtin → Option Builtin
-or_else (Some b) more = Some b
-or_else None more = more
-
-unfoldable pub builtin_of : List ℕ → Option Builtin
-builtin_of n =
-    or_else (with_name n variable_commands)
-    (or_else (with_name n result_commands)
-    (or_else (with_name n immediate_commands)
-    (or_else (with_name n choice_commands)
-    (or_else (with_name n control_commands) (or_else (with_name n target_commands) (with_name n session_commands))))))
-
--- a command that belongs to scripts alone: it records a result, sets or clears a flag for the next one, or is about sessions
-abbrev pub records : Builtin → Bool
-records (ImmediateBuiltin c) = is_for_scripts c
-records (FlagBuiltin c) = true
-records (SessionBuiltin c) = true
-records ExpectBuiltin = true
-records _ = false
-
--- in a board's file those are no commands
-abbrev pub usable : Bool → Option Builtin → Option Builtin
-usable on_board None = None
-usable on_board (Some b) = elim (on_board && records b) [ true ↦ None | false ↦ Some b ]
 
 -- The value of a string or list command or of `format`; there is no other command. Where one comes to neither a value nor an
 -- error, the value is too long.

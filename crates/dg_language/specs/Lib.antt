@@ -21,6 +21,7 @@ pub mod Sessions
 pub mod Expecting
 pub mod Matching
 pub mod Immediate
+pub mod Builtins
 pub mod Language
 pub mod Judge
 pub mod Law

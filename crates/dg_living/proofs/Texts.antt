@@ -15,7 +15,8 @@ use Rattle.dg_language.specs.State.{State}
 use Rattle.dg_language.specs.Evaluation.{Nested}
 use Rattle.dg_language.specs.Words.{substitutions}
 use Rattle.dg_language.specs.Immediate.{immediate}
-use Rattle.dg_language.specs.Language.{builtin, builtin_of, usable, pure_value, known_command, by_name, command, sequence, commands_at, evaluate}
+use Rattle.dg_language.specs.Builtins.{builtin_of, usable}
+use Rattle.dg_language.specs.Language.{builtin, pure_value, known_command, by_name, command, sequence, commands_at, evaluate}
 use Rattle.dg_living.proofs.ElementLengths.{AreShort}
 use Rattle.dg_living.proofs.Steps.{Lives, LivesInside, completes, cut-lives, tick-lives, fail-lives, if_done-lives}
 use Rattle.dg_living.proofs.Completing.{completed-lives}

@@ -23,7 +23,8 @@ use Rattle.dg_language.specs.Evaluation.{Then, if_done}
 use Rattle.dg_language.specs.Expressions.{calculate, code_in, in_decimal, written}
 use Rattle.dg_expr.specs.Reading.{tree_in}
 use Rattle.dg_expr.specs.declared.code.Instruction.{Instruction}
-use Rattle.dg_language.specs.Language.{builtin_of, command, commands_at, evaluate, known_command, sequence, usable}
+use Rattle.dg_language.specs.Builtins.{builtin_of, usable}
+use Rattle.dg_language.specs.Language.{command, commands_at, evaluate, known_command, sequence}
 use Rattle.dg_language.specs.Words.{Act, gather, longer, substitutions}
 use Rattle.dg_language.proofs.TouchLemmas.{in-use, touch-free, within-short}
 use Rattle.dg_machine.specs.Settling.{AsksNothing, ComesBy, GoesOnAs, HasText, IsOnly, Returns, Sets, Settles, Yields}

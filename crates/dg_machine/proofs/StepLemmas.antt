@@ -16,7 +16,8 @@ use Rattle.dg_language.specs.State.{State, learn, with_begun}
 use Rattle.dg_language.specs.Evaluation.{Ending, Then, outside, ended, aborted}
 use Rattle.dg_language.specs.Procedures.{bindings, call, call_bound}
 use Rattle.dg_language.specs.declared.command.Builtin.{Builtin}
-use Rattle.dg_language.specs.Language.{by_name, builtin_of, usable, known_command, command, evaluate}
+use Rattle.dg_language.specs.Builtins.{builtin_of, usable}
+use Rattle.dg_language.specs.Language.{by_name, known_command, command, evaluate}
 use Rattle.dg_language.specs.Judge.{close, finish}
 use Rattle.dg_machine.specs.declared.frame.Pace.{Pace}
 use Rattle.dg_machine.specs.declared.frame.Pace.TheVariants.{Moved, Stands, Over, Lost}

@@ -3,7 +3,8 @@ ghost use Rattle.std.specs.Prelude.{◌≡◌, ◌+◌, ◌^◌, ◌<◌, IfOk};
 ghost use Rattle.dg_cmds.specs.Commands.{pure_of};
 ghost use Rattle.dg_language.specs.Completing.{completed};
 ghost use Rattle.dg_language.specs.Immediate.{immediate};
-ghost use Rattle.dg_language.specs.Language.{builtin, builtin_of, usable, pure_value, known_command, command, used, evaluate};
+ghost use Rattle.dg_language.specs.Builtins.{builtin_of, usable};
+ghost use Rattle.dg_language.specs.Language.{builtin, pure_value, known_command, command, used, evaluate};
 ghost use Rattle.dg_machine.specs.declared.frame.Control.{Control};
 ghost use Rattle.dg_machine.specs.Meaning.{all_back, weight_of, budget, Comes, RunsAs, GoesAs};
 

@@ -1,5 +1,5 @@
 use Rattle.std.proofs.Common.{◌∙◌, sym, ap}
-use Rattle.dg_language.specs.Language.{builtin_of, usable}
+use Rattle.dg_language.specs.Builtins.{builtin_of, usable}
 use Rattle.dg_machine.proofs.StepLemmas.{by-table-as}
 use Rattle.dg_machine.proofs.machine.Machine.known_command.Goals as goal
 
