@@ -1,32 +1,16 @@
 #!/bin/sh
 # Times 100,000 edits of one bench by two threads, 50,000 each: bench/workers/edits.sh
-# It builds in a folder of its own, which it removes again: the program of crates/dg_trials with the first case of a bench alone, at that
+# It builds in a folder of its own, which it removes again: the program of crates/dg_bench_trials with its first case alone, at that
 # size. The libraries have to be built (make), and the kit's rt has to be on the path. The times are of whole runs.
 set -e
 top=$(cd "$(dirname "$0")/../.." && pwd)
 work=$(mktemp -d)
 trap 'rm -rf "$work"' EXIT
 tar -C "$top" --exclude=out/incremental --exclude=must-fail -cf - crates crates.txt HANDLES | tar -C "$work" -xf -
-trials="$work/crates/dg_trials"
-find "$trials/src" -mindepth 1 -maxdepth 1 ! -name 'bench*' ! -name parts.rt ! -name wanted.rt -exec rm -r {} +
-rm -r "$trials/proofs/rows" "$trials/proofs/pipes"
-cat > "$trials/src/main.rt" <<'END'
-//! Edits of one bench.
-#![tactic(auto)]
-
-mod bench;
-mod parts;
-mod wanted;
-
-use anyhow::Result;
-
-fn main(rt: HostRuntime) -> Result<()> {
-    bench::try_cases(&rt)
-}
-END
-sed -i 's/const EDITS: usize = 100;/const EDITS: usize = 50_000;/' "$trials/src/bench/edits.rt"
+trials="$work/crates/dg_bench_trials"
+sed -i 's/const EDITS: usize = 100;/const EDITS: usize = 50_000;/' "$trials/src/edits.rt"
 sed -i -e 's/Case::Edits => 200,/Case::Edits => 100_000,/' -e 's/^const CASES: .* = \[$/const CASES: [(\&str, Case); 1] = [/' \
-    -e '/^    ("edits", Case::Edits),$/!{/^    ("[a-z0-9 ]*", Case::[A-Z].*),$/d}' "$trials/src/bench.rt"
+    -e '/^    ("edits", Case::Edits),$/!{/^    ("[a-z0-9 ]*", Case::[A-Z].*),$/d}' "$trials/src/main.rt"
 cd "$trials"
 "${RT:-rt}" run > "$work/said" 2> "$work/log" || { cat "$work/log"; exit 1; }
 cat "$work/said"

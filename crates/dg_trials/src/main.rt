@@ -3,7 +3,6 @@
 //! how threads run.
 #![tactic(auto)]
 
-mod bench;
 mod files;
 mod growths;
 mod jobs;
@@ -26,9 +25,7 @@ use std::thread::Threads;
 use std::time::Clock;
 
 /// The parts that are tried in turn.
-const PARTS: [&str; 7] = [
-    "jobs", "cores", "sessions", "live", "benches", "rows", "pipes",
-];
+const PARTS: [&str; 6] = ["jobs", "cores", "sessions", "live", "rows", "pipes"];
 
 /// Tries a part, with the data of this folder.
 fn try_part<R>(rt: R, folder: &str, part: &str) -> Result<()>
@@ -52,7 +49,6 @@ where
         "cores" => reports::try_cases(&rt, rt.alloc()),
         "sessions" => sessions::try_cases(&rt, rt.alloc()),
         "live" => live::try_files(&rt, folder),
-        "benches" => bench::try_cases(&rt),
         "rows" => rows::try_files(&rt, folder),
         "pipes" => pipes::try_file(rt, folder),
         _ => bail!("there is no part of this name"),

@@ -1,7 +1,7 @@
 -- Which benches they are.
 use Rattle.std.specs.Prelude.{map}
 use Rattle.once_cell.specs.Once.{cell_name}
-use Rattle.dg_trials.proofs.bench.try_elsewhere.Given as goal
+use Rattle.dg_bench_trials.proofs.try_elsewhere.Given as goal
 
 abbrev pub ghosts-is_shorter-A-Room : goal.ghosts-is_shorter-A-Room
 ghosts-is_shorter-A-Room g a = record { names = map cell_name a.one.cells.items }

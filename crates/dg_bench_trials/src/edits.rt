@@ -1,5 +1,5 @@
 //! Two threads that edit at once.
-use crate::bench::replies::put_on;
+use crate::replies::put_on;
 use dg_bench::{Bench, Call, Pass, Room};
 use dg_world::Edit;
 use std::alloc::Global;

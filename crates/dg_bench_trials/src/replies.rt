@@ -6,6 +6,10 @@ use dg_world::{Edit, Name, Question};
 use std::alloc::{AllocError, Global};
 use std::sync::Wait;
 
+/// The report of a passing script t/a.exp, written out by hand.
+pub const PASSED: &[u8] =
+    b"\t\t=== t tests ===\n\nSchedule of variations:\n    unix\n\nRunning target unix\nRunning t/a.exp ...\nPASS: one\n\n\t\t=== t Summary ===\n\n# of expected passes\t\t1\n";
+
 /// The edit that puts a file.
 pub fn put(alloc: Global, name: &[u8], text: &[u8]) -> Result<Edit, AllocError> {
     Ok(Edit::PutFile(

@@ -1,13 +1,11 @@
 //! Workers over stored worlds, and over gates that wait for nothing.
-use crate::bench::gates::{Deaf, Signal, Waiting};
-use crate::bench::replies::{is_sum, put_on};
-use crate::parts::count_of;
-use crate::wanted::PASSED;
+use crate::gates::{Deaf, Signal, Waiting};
+use crate::replies::{PASSED, is_sum, put_on};
 use dg_bench::{Bench, Call, MakeGate, Pass, Room, Work, run_workers};
 use dg_bytes::Bytes;
 use dg_core::Reply;
 use dg_transcript::encode;
-use std::alloc::Global;
+use std::alloc::{AllocError, Global};
 use std::sync::Wait;
 use std::thread::Threads;
 use std::time::Clock;
@@ -28,6 +26,18 @@ pub fn put_scripts<B: Room, R: Wait>(
         pass = put_on(rt, alloc, bench, pass, name.as_bytes(), EXPECTS)?;
     }
     Some(pass)
+}
+
+/// How many lines of a text are this one.
+fn count_of(alloc: Global, text: &[u8], wanted: &[u8]) -> Result<usize, AllocError> {
+    let lines: Vec<&[u8]> = text.split(|byte| *byte == b'\n').collect(alloc)?;
+    let mut count = 0usize;
+    for line in &lines {
+        if *line == wanted {
+            count = count.wrapping_add(1);
+        }
+    }
+    Ok(count)
 }
 
 /// How many passes a sum of status 0 has, if it is one.

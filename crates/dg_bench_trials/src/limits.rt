@@ -2,8 +2,8 @@
 ghost use Rattle.std.specs.Prelude.{◌≡◌, map};
 ghost use Rattle.once_cell.specs.Once.{cell_name};
 
-use crate::bench::replies::{of_file, put};
-use crate::bench::twins::judge;
+use crate::replies::{of_file, put};
+use crate::twins::judge;
 use dg_bench::{Bench, BenchRefusal, Opened, Pass, Room};
 use dg_bytes::Bytes;
 use dg_world::{Answer, Edit, Refusal};

@@ -1,4 +1,7 @@
-//! Many callers of one bench, and workers.
+//! The program that tries many callers of one bench, and workers. Each line that it writes is a case, and whether it came out as
+//! it has to. No line depends on how threads run.
+#![tactic(auto)]
+
 ghost use Rattle.std.specs.Prelude.{◌≡◌, ◌<◌, ◌≤◌, map};
 ghost use Rattle.once_cell.specs.Once.{cell_name};
 
@@ -130,11 +133,15 @@ fn try_elsewhere<R: AllocGlobal + Wait>(rt: &R) -> Result<Option<bool>> {
 }
 
 /// Tries all cases.
-pub fn try_cases<R: Print + AllocGlobal + Threads + Wait + Clock + Sync>(rt: &R) -> Result<()> {
+fn try_cases<R: Print + AllocGlobal + Threads + Wait + Clock + Sync>(rt: &R) -> Result<()> {
     for (name, case) in CASES {
         println!(rt; "{name}: {}", try_often(rt, case)?)?;
     }
     let came_out = try_elsewhere(rt)?;
     println!(rt; "another bench: {}", came_out.unwrap_or(false))?;
     Ok(())
+}
+
+fn main(rt: HostRuntime) -> Result<()> {
+    try_cases(&rt)
 }

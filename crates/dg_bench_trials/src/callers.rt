@@ -1,9 +1,9 @@
 //! Two callers that edit, ask and report, while a third runs workers.
-use crate::bench::gates::Signal;
-use crate::bench::pauses::Pauses;
-use crate::bench::replies::{are_same, are_same_replies, put, replays};
-use crate::bench::turns::Share;
-use crate::bench::working::{put_scripts, ready};
+use crate::gates::Signal;
+use crate::pauses::Pauses;
+use crate::replies::{are_same, are_same_replies, put, replays};
+use crate::turns::Share;
+use crate::working::{put_scripts, ready};
 use dg_bench::{Bench, Call, Pass, Receipt, Room, Work, run_workers};
 use dg_bytes::Bytes;
 use dg_core::Reply;
