@@ -128,7 +128,8 @@ impl<B: Room> Bench<B> {
         transcript: Transcript,
     ) -> Result<(Pass<B>, Receipt<B>), (Pass<B>, Record, Transcript, BenchRefusal)>
         ensures ok { IfOk result (λ r. IsMade pass r.0 r.1 (lived newest transcript)) }
-        ensures refused { IfErr result (λ r. IsRefused (λ core why. committed_live core newest transcript ≡ Err why) pass r.0 r.3) }
+        ensures refused { IfErr result
+            (λ r. IsRefused (λ core why. committed_live core newest transcript ≡ Err why) pass r.0 r.3) }
         ensures back { IfErr result (λ r. (r.1 ≡ newest) × (r.2 ≡ transcript)) }
     {
         self.locked

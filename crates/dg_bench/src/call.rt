@@ -114,7 +114,8 @@ impl Call {
     /// Writes how a pattern is read into the call that asks for it.
     pub(crate) fn tell(&mut self, reading: Reading)
         requires { (question : Questioned) × (answer : Answered) × (self.old ≡ asked question answer) }
-        ensures { (question : Questioned) (answer : Answered) → self.old ≡ asked question answer → self.new ≡ asked question (read_as reading) }
+        ensures { (question : Questioned) (answer : Answered) → self.old ≡ asked question answer → self.new ≡ asked question
+            (read_as reading) }
     {
         if let Call::Ask(_, answer) = self {
             *answer = Answer::Reading(reading);

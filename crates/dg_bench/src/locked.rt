@@ -148,7 +148,8 @@ impl<B: Room> Locked<B> {
     ) -> Result<(Pass<B>, Receipt<B>), (Pass<B>, BenchRefusal)>
         requires { map cell_name cells.now ≡ B.names }
         ensures ok { IfOk result (λ r. Enters (length cells.now) self.old self.new pass r.0 r.1 (edited edit)) }
-        ensures refused { IfErr result (λ r. Refuses (λ core why. edited_core core edit ≡ Err why) (length cells.now) self.old self.new pass r.0 r.1) }
+        ensures refused { IfErr result
+            (λ r. Refuses (λ core why. edited_core core edit ≡ Err why) (length cells.now) self.old self.new pass r.0 r.1) }
     {
         let pass = match self.begin(cells.len(), pass) {
             Ok(pass) => pass,
@@ -170,7 +171,8 @@ impl<B: Room> Locked<B> {
         requires cells { map cell_name cells.now ≡ B.names }
         requires running { (self.old.stopped ≡ false) × Makes new_core self.old.calls self.old.core }
         requires room { length self.old.calls < length cells.now }
-        ensures ok { IfOk result (λ r. Enters (length cells.now) self.old self.new (seen_all self.old.calls) r.0 r.1 (edited edit)) }
+        ensures ok { IfOk result
+            (λ r. Enters (length cells.now) self.old self.new (seen_all self.old.calls) r.0 r.1 (edited edit)) }
         ensures refused { IfErr result (RefusesBegun (λ core why. edited_core core edit ≡ Err why) self.old self.new) }
     {
         let Ok(call) = Call::of_edit(alloc, &edit) else {
@@ -223,7 +225,8 @@ impl<B: Room> Locked<B> {
         requires cells { map cell_name cells.now ≡ B.names }
         requires running { (self.old.stopped ≡ false) × Makes new_core self.old.calls self.old.core }
         requires room { length self.old.calls < length cells.now }
-        ensures ok { IfOk result (λ r. Enters (length cells.now) self.old self.new (seen_all self.old.calls) r.0 r.1 (reported r.2)) }
+        ensures ok { IfOk result
+            (λ r. Enters (length cells.now) self.old self.new (seen_all self.old.calls) r.0 r.1 (reported r.2)) }
         ensures refused { IfErr result (RefusesBegun never self.old self.new) }
     {
         let Ok((call, reply)) = self.reply(alloc) else {
@@ -306,7 +309,8 @@ impl<B: Room> Locked<B> {
         requires cells { map cell_name cells.now ≡ B.names }
         requires running { (self.old.stopped ≡ false) × Makes new_core self.old.calls self.old.core }
         requires room { length self.old.calls < length cells.now }
-        ensures ok { IfOk result (λ r. Enters (length cells.now) self.old self.new (seen_all self.old.calls) r.0 r.1 (committed newest)) }
+        ensures ok { IfOk result
+            (λ r. Enters (length cells.now) self.old self.new (seen_all self.old.calls) r.0 r.1 (committed newest)) }
         ensures refused { IfErr result (λ r. RefusesBegun never self.old self.new r.1) }
         ensures back { IfErr result (λ r. r.0 ≡ newest) }
     {
@@ -347,7 +351,8 @@ impl<B: Room> Locked<B> {
     ) -> Result<(Pass<B>, Receipt<B>), (Pass<B>, Record, Transcript, BenchRefusal)>
         requires { map cell_name cells.now ≡ B.names }
         ensures ok { IfOk result (λ r. Enters (length cells.now) self.old self.new pass r.0 r.1 (lived newest transcript)) }
-        ensures refused { IfErr result (λ r. Refuses (λ core why. committed_live core newest transcript ≡ Err why) (length cells.now) self.old self.new pass r.0 r.3) }
+        ensures refused { IfErr result (λ r. Refuses (λ core why. committed_live core newest transcript ≡ Err why)
+            (length cells.now) self.old self.new pass r.0 r.3) }
         ensures back { IfErr result (λ r. (r.1 ≡ newest) × (r.2 ≡ transcript)) }
     {
         let pass = match self.begin(cells.len(), pass) {
@@ -371,8 +376,10 @@ impl<B: Room> Locked<B> {
         requires cells { map cell_name cells.now ≡ B.names }
         requires running { (self.old.stopped ≡ false) × Makes new_core self.old.calls self.old.core }
         requires room { length self.old.calls < length cells.now }
-        ensures ok { IfOk result (λ r. Enters (length cells.now) self.old self.new (seen_all self.old.calls) r.0 r.1 (lived newest transcript)) }
-        ensures refused { IfErr result (λ r. RefusesBegun (λ core why. committed_live core newest transcript ≡ Err why) self.old self.new r.2) }
+        ensures ok { IfOk result
+            (λ r. Enters (length cells.now) self.old self.new (seen_all self.old.calls) r.0 r.1 (lived newest transcript)) }
+        ensures refused { IfErr result
+            (λ r. RefusesBegun (λ core why. committed_live core newest transcript ≡ Err why) self.old self.new r.2) }
         ensures back { IfErr result (λ r. (r.0 ≡ newest) × (r.1 ≡ transcript)) }
     {
         // The call shows the proof which lines these are.
@@ -426,9 +433,12 @@ impl<B: Room> Locked<B> {
         question: &Question,
     ) -> Result<(Pass<B>, Receipt<B>, Answer), (Pass<B>, BenchRefusal)>
         requires { map cell_name cells.now ≡ B.names }
-        ensures ok { IfOk result (λ r. MatchOption (look self.old.core.world question.now) (Enters (length cells.now) self.old self.new pass r.0 r.1 (asked question.now r.2)) (λ _. Looks self.old self.new pass r.0 r.1 question.now r.2)) }
+        ensures ok { IfOk result (λ r. MatchOption (look self.old.core.world question.now)
+            (Enters (length cells.now) self.old self.new pass r.0 r.1 (asked question.now r.2))
+            (λ _. Looks self.old self.new pass r.0 r.1 question.now r.2)) }
         ensures refused { IfErr result (λ r. Refuses never (length cells.now) self.old self.new pass r.0 r.1) }
-        ensures not_full { IfErr result (λ r. IsSome (look self.old.core.world question.now) → self.old.stopped ≡ false → r.1 ≢ HistoryFull) }
+        ensures not_full { IfErr result
+            (λ r. IsSome (look self.old.core.world question.now) → self.old.stopped ≡ false → r.1 ≢ HistoryFull) }
     {
         let pass = match self.admit(pass) {
             Ok(pass) => pass,
@@ -541,7 +551,8 @@ impl<B: Room> Locked<B> {
         requires running { (self.old.stopped ≡ false) × Makes new_core self.old.calls self.old.core }
         requires room { length self.old.calls < length cells.now }
         requires first { look self.old.core.world question.now ≡ None }
-        ensures ok { IfOk result (λ r. Enters (length cells.now) self.old self.new (seen_all self.old.calls) r.0 r.1 (asked question.now (read_as r.2))) }
+        ensures ok { IfOk result (λ r. Enters (length cells.now) self.old self.new (seen_all self.old.calls) r.0 r.1
+            (asked question.now (read_as r.2))) }
         ensures refused { IfErr result (RefusesBegun never self.old self.new) }
     {
         let Ok(call) = Call::of_ask(alloc, question, &Answer::Absent) else {

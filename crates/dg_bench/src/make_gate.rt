@@ -9,12 +9,13 @@ use std::alloc::{AllocError, Global};
 /// Makes gates for workers, and takes them back.
 pub trait MakeGate {
     ghost use Rattle.std.specs.Prelude.{◌+◌, ◌^◌, ◌<◌, IfOk};
+    ghost use Rattle.dg_transcript.specs.declared.limits.TheConstants.{MAX_ENTRIES};
 
     type Made: Gate + Drop;
 
     /// A gate for one test of a worker: it may be called, and 65,536 of its calls may still be refused.
     fn make(&self, worker: usize) -> Result<Self::Made, AllocError>
-        ensures room { IfOk result (λ g. Self.Made.count g + 65536 < 2 ^ 64) }
+        ensures room { IfOk result (λ g. Self.Made.count g + MAX_ENTRIES < 2 ^ 64) }
         ensures ready { IfOk result Self.Made.is_ready };
 
     /// Takes the gate back, after the run of that test.

@@ -108,7 +108,8 @@ fn enter<B: Room>(
     requires room { (vec_len calls.old < vec_capacity calls.old) × (vec_len notes.old < vec_capacity notes.old) }
     requires call { place.value.call ≡ call }
     requires before { place.value.before.value.items ≡ calls.old.items }
-    ensures entered { IfOk result (λ r. (calls.new.items ≡ calls.old.items ++ call ∷ []) × (r ≡ called (length calls.old.items) call)) }
+    ensures entered { IfOk result
+        (λ r. (calls.new.items ≡ calls.old.items ++ call ∷ []) × (r ≡ called (length calls.old.items) call)) }
     ensures all { KnowsAll B.names notes.new.items calls.new.items }
     ensures refused { IfErr result (λ back. (calls.new.items ≡ calls.old.items) × (back ≡ call)) }
 {
@@ -179,7 +180,8 @@ pub(crate) fn finish<B: Room>(
     ensures receipt { IfOk result (λ r. r.1 ≡ called (length calls.old.items) prepared.call) }
     ensures running { OnOk result (stopped.new ≡ stopped.old) }
     ensures all { KnowsAll B.names notes.new.items calls.new.items }
-    ensures refused { IfErr result (λ why. (calls.new.items ≡ calls.old.items) × (stopped.new ≡ true) × (why ≡ BenchRefusal.HistoryFull)) }
+    ensures refused { IfErr result
+        (λ why. (calls.new.items ≡ calls.old.items) × (stopped.new ≡ true) × (why ≡ BenchRefusal.HistoryFull)) }
 {
     match conclude(calls, notes, stopped, cells, prepared) {
         Ok(made) => Ok(made),

@@ -67,7 +67,8 @@ impl Prepared {
     pub(crate) fn tell(&mut self, reading: Reading)
         requires call { (question : Questioned) × (answer : Answered) × (self.old.call ≡ asked question answer) }
         requires place { self.old.place.value.call ≡ self.old.call }
-        ensures call { (question : Questioned) (answer : Answered) → self.old.call ≡ asked question answer → self.new.call ≡ asked question (read_as reading) }
+        ensures call { (question : Questioned) (answer : Answered) → self.old.call ≡ asked question answer → self.new.call ≡
+            asked question (read_as reading) }
         ensures place { self.new.place.value.call ≡ self.new.call }
         ensures before { self.new.place.value.before ≡ self.old.place.value.before }
     {

@@ -6,6 +6,7 @@ use Rattle.std.specs.Option.{option_map}
 use Rattle.std.specs.Fmt.{decimal, digits}
 use Rattle.dg_cmds.specs.declared.fault.CmdFault.{CmdFault}
 use Rattle.dg_cmds.specs.declared.fault.CmdFault.TheVariants.{Tcl}
+use Rattle.dg_cmds.specs.declared.field.TheConstants.{PAST}
 use Rattle.dg_cmds.specs.declared.field.Field.{Field}
 use Rattle.dg_cmds.specs.declared.field.Style.{Style}
 use Rattle.dg_cmds.specs.declared.field.Style.TheVariants as style
@@ -24,9 +25,9 @@ abbrev pub number_behind : ℕ → List ℕ → ℕ
 number_behind n [] = n
 number_behind n (d ∷ ds) = number_behind (n * 10 + (d - 48)) ds
 
--- A width. No value is as long as 1,048,577 bytes, so that a greater width is as this one.
+-- A width. No value is as long as this, so that a greater width is as this one.
 abbrev pub width_of : List ℕ → ℕ
-width_of ds = min (number_behind 0 ds) 1048577
+width_of ds = min (number_behind 0 ds) PAST
 
 -- what stands behind the flags of a field, and behind its width
 abbrev pub behind_flags : List ℕ → List ℕ

@@ -4,6 +4,7 @@ ghost use Rattle.std.specs.Fmt.{decimal};
 ghost use Rattle.dg_cmds.specs.Answers.{Gives};
 ghost use Rattle.dg_cmds.specs.Formats.{field_of, minus, number_in, padded, size, style_of, text_behind, value_in, width_of};
 
+use crate::answer::LONGEST;
 use crate::bytes::{three_texts, trimmed_left};
 use crate::fault::CmdFault;
 use crate::numbers::read_number;
@@ -11,7 +12,7 @@ use dg_bytes::Bytes;
 use std::alloc::{AllocError, Global};
 
 /// A width that no value has.
-const PAST: usize = 1_048_577;
+pub(crate) const PAST: usize = LONGEST + 1;
 
 /// How a value is written.
 #[derive(Clone, Copy)]

@@ -22,7 +22,8 @@ pub struct Calculation {
 impl Calculation {
     /// An expression of which nothing is computed yet, if its text spells one.
     pub fn of(alloc: Global, formula: Arc<Formula>, depth: u32) -> Option<Calculation>
-        ensures begun { MatchOption result (arc_value formula ≡ None) (λ c. (arc_value formula ≡ Some c.left) × (c ≡ record { values = []; passed = 0; left = c.left; depth = depth })) }
+        ensures begun { MatchOption result (arc_value formula ≡ None) (λ c. (arc_value formula ≡ Some c.left) ×
+            (c ≡ record { values = []; passed = 0; left = c.left; depth = depth })) }
         ensures counted { IfSome result (λ c. length c.left < 2 ^ 64) }
     {
         let left = Instructions::of(formula)?;

@@ -55,7 +55,8 @@ fn take_truth(alloc: Global, values: &mut Stack<Bytes>) -> Result<Result<bool, B
 
 /// Puts a value on top. As many instructions are passed over.
 fn put(calculation: &mut Calculation, value: Bytes, passed: usize) -> Result<(), AllocError>
-    ensures { OnOk result (calculation.new ≡ record calculation.old { values = value ∷ calculation.old.values; passed = passed }) }
+    ensures { OnOk result
+        (calculation.new ≡ record calculation.old { values = value ∷ calculation.old.values; passed = passed }) }
 {
     calculation.values.push(value)?;
     calculation.passed = passed;
@@ -191,7 +192,8 @@ fn load(
     calculation: &mut Calculation,
     left: Queue<Substitution>,
 ) -> Result<Option<Making>, AllocError>
-    ensures { IfOk result (λ o. (pieces : List Piece) → left ≡ operand_steps pieces → Loads (Step.Push pieces) state.now calculation.old calculation.new o) }
+    ensures { IfOk result (λ o. (pieces : List Piece) → left ≡ operand_steps pieces → Loads (Step.Push pieces) state.now
+        calculation.old calculation.new o) }
 {
     let mut making = Making::begun(alloc, Purpose::Load, left);
     make_texts(alloc, state, &mut making)?;
@@ -221,7 +223,8 @@ fn instruct(
     calculation: &mut Calculation,
     taken: Taken,
 ) -> Result<Option<Computed>, AllocError>
-    ensures { IfOk result (λ o. (i : Step) → IsTaken state.now i taken → Instructs i state.now calculation.old calculation.new o) }
+    ensures { IfOk result
+        (λ o. (i : Step) → IsTaken state.now i taken → Instructs i state.now calculation.old calculation.new o) }
 {
     match taken {
         Taken::Value(value) => {
@@ -290,7 +293,7 @@ pub fn compute_on(
     if let Some(computed) = compute_at_once(alloc, state, calculation)? {
         return Ok(computed);
     }
-    Ok(compute_in_steps(alloc, state, calculation)?)
+    compute_in_steps(alloc, state, calculation)
 }
 
 /// The same, an instruction at a time.

@@ -133,7 +133,7 @@ impl Condition {
     {
         match &self.formula {
             Some(formula) => Ok(Arc::try_clone(formula)?),
-            None => Ok(formulas.reading(alloc, &self.text)?),
+            None => formulas.reading(alloc, &self.text),
         }
     }
 }

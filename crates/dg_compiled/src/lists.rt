@@ -53,7 +53,7 @@ pub fn with_elements(
         return Ok(text);
     }
     let listing = lists.reading(alloc, &text)?;
-    Ok(listing.text.copy(alloc)?)
+    listing.text.copy(alloc)
 }
 
 /// Whether a command of this name reads a list.

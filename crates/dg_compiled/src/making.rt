@@ -46,6 +46,6 @@ pub fn first_or_empty(alloc: Global, values: &[Bytes]) -> Result<Bytes, AllocErr
 {
     match values {
         [] => Ok(Bytes::new(alloc)),
-        [first, ..] => Ok(first.copy(alloc)?),
+        [first, ..] => first.copy(alloc),
     }
 }

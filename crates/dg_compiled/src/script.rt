@@ -178,14 +178,13 @@ pub enum WordSteps {
 impl WordSteps {
     /// The words begin to be made. Of kept steps those that are only texts and values of variables in use are taken at once.
     pub fn begun(self, alloc: Global, state: &State) -> Result<Making, AllocError>
-        ensures same { IfOk result (λ m. (depth : ℕ) (k : Then) → making_on m depth state.now k ≡ begins (steps_of self) depth state.now k) }
+        ensures same { IfOk result
+            (λ m. (depth : ℕ) (k : Then) → making_on m depth state.now k ≡ begins (steps_of self) depth state.now k) }
         ensures purpose { IfOk result (λ m. m.purpose ≡ Purpose.Run) }
     {
         match self {
             WordSteps::Read(steps) => Ok(Making::begun(alloc, Purpose::Run, steps)),
-            WordSteps::Kept(steps) => {
-                Ok(begun_with(alloc, state, Purpose::Run, steps.as_slice())?)
-            }
+            WordSteps::Kept(steps) => begun_with(alloc, state, Purpose::Run, steps.as_slice()),
         }
     }
 }

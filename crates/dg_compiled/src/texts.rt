@@ -58,7 +58,8 @@ fn value_with_room(
 /// Takes the steps that only add a text or the value of a variable that is in use, or end a word, up to any other, or to a
 /// text that would make the word too long.
 pub fn make_texts(alloc: Global, state: &State, making: &mut Making) -> Result<(), AllocError>
-    ensures same { OnOk result ((depth : ℕ) (k : Then) → making_on making.new depth state.now k ≡ making_on making.old depth state.now k) }
+    ensures same { OnOk result
+        ((depth : ℕ) (k : Then) → making_on making.new depth state.now k ≡ making_on making.old depth state.now k) }
     ensures fewer { OnOk result (length making.new.left ≤ length making.old.left) }
     ensures purpose { OnOk result (making.new.purpose ≡ making.old.purpose) }
 {
@@ -99,7 +100,8 @@ fn take_text(
     making: &mut Making,
     step: &Substitution,
 ) -> Result<bool, AllocError>
-    ensures taken { IfOk result (λ b. OnTrue b ((left : List Step) (depth : ℕ) (k : Then) → going_on making.new left depth state.now k ≡ going_on making.old (step.now ∷ left) depth state.now k)) }
+    ensures taken { IfOk result (λ b. OnTrue b ((left : List Step) (depth : ℕ) (k : Then) → going_on making.new left depth
+        state.now k ≡ going_on making.old (step.now ∷ left) depth state.now k)) }
     ensures same { IfOk result (λ b. OnFalse b (making.new ≡ making.old)) }
     ensures purpose { OnOk result (making.new.purpose ≡ making.old.purpose) }
 {
@@ -133,7 +135,8 @@ pub(crate) fn begun_with(
     purpose: Purpose,
     steps: &[Substitution],
 ) -> Result<Making, AllocError>
-    ensures same { IfOk result (λ m. (depth : ℕ) (k : Then) → making_on m depth state.now k ≡ going_on (record { purpose = purpose; made = []; outer = []; text = []; left = [] }) steps.now depth state.now k) }
+    ensures same { IfOk result (λ m. (depth : ℕ) (k : Then) → making_on m depth state.now k ≡ going_on
+        (record { purpose = purpose; made = []; outer = []; text = []; left = [] }) steps.now depth state.now k) }
     ensures purpose { IfOk result (λ m. m.purpose ≡ purpose) }
 {
     let mut making = Making::begun(alloc, purpose, Queue::new(Vec::new(alloc)));
@@ -188,7 +191,8 @@ fn take_words(
     steps: &[Substitution],
 ) -> Result<usize, AllocError>
     requires { making.old.text ≡ [] }
-    ensures same { IfOk result (λ at. (depth : ℕ) (k : Then) → going_on making.new (drop at steps.now) depth state.now k ≡ going_on making.old steps.now depth state.now k) }
+    ensures same { IfOk result (λ at. (depth : ℕ) (k : Then) → going_on making.new (drop at steps.now) depth state.now k ≡
+        going_on making.old steps.now depth state.now k) }
     ensures within { IfOk result (λ at. at ≤ length steps.now) }
     ensures purpose { OnOk result (making.new.purpose ≡ making.old.purpose) }
 {

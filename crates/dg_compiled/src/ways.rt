@@ -178,10 +178,10 @@ pub(crate) fn way_of(alloc: Global, steps: &[Substitution]) -> Result<Way, Alloc
         return Ok(Way::Counting);
     }
     if command.is(b"set") {
-        return Ok(way_of_set(alloc, steps)?);
+        return way_of_set(alloc, steps);
     }
     if command.is(b"return") {
-        return Ok(way_of_return(alloc, steps)?);
+        return way_of_return(alloc, steps);
     }
     Ok(Way::Other)
 }

@@ -76,7 +76,8 @@ fn whole_operand(state: &State, steps: &[Substitution]) -> Option<i64>
 /// Puts the number of an operand on top, if it is one by itself and there is room.
 #[tactic(auto, using(crate::proofs::WholeLemmas::pushed))]
 fn push_operand(state: &State, steps: &[Substitution], waiting: &mut Waiting) -> Option<()>
-    ensures { IfSome result (λ _. (pieces : List Piece) → steps.now ≡ operand_steps pieces → Advances state.now (Step.Push pieces) waiting.old waiting.new) }
+    ensures { IfSome result (λ _. (pieces : List Piece) → steps.now ≡ operand_steps pieces → Advances state.now
+        (Step.Push pieces) waiting.old waiting.new) }
 {
     let number = whole_operand(state, steps)?;
     waiting.put(number)?;

@@ -47,7 +47,10 @@ impl WordList {
         state: &State,
         purpose: Purpose,
     ) -> Result<Result<Making, WordFault>, AllocError>
-        ensures same { IfOk result (λ r. MatchResult r (λ m. (depth : ℕ) (k : Then) → making_on m depth state.now k ≡ words_on self.now purpose depth state.now k) (λ fault. (depth : ℕ) (k : Then) → fail (fault_text fault) state.now k ≡ words_on self.now purpose depth state.now k)) }
+        ensures same { IfOk result (λ r. MatchResult r
+            (λ m. (depth : ℕ) (k : Then) → making_on m depth state.now k ≡ words_on self.now purpose depth state.now k)
+            (λ fault. (depth : ℕ) (k : Then) → fail (fault_text fault) state.now k ≡ words_on self.now purpose depth
+            state.now k)) }
         ensures purpose { IfOk result (λ r. IfOk r (λ m. m.purpose ≡ purpose)) }
     {
         match self {

@@ -18,7 +18,8 @@ use std::mem;
 
 /// The entry at a place of a transcript, if there is one.
 fn entry_in<'a>(transcript: Option<&'a Transcript>, place: &EntryPlace) -> Option<&'a Entry>
-    ensures { option_copied result ≡ option_and_then (λ ss. entry_at ss place.now.session place.now.place) (option_copied transcript.entry) }
+    ensures { option_copied result ≡ option_and_then (λ ss. entry_at ss place.now.session place.now.place)
+        (option_copied transcript.entry) }
 {
     match transcript {
         Some(transcript) => transcript.entry(place.session, place.place),

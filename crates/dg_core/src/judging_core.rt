@@ -353,7 +353,8 @@ impl Core {
         ensures grown { IsGrown self.old.world self.new.world }
         ensures ok { OnOk result (self.new ≡ with_judged self.new.world self.new.compared self.old test.now) }
         ensures ends { OnOk result (HasVerdict self.new.world test.now) }
-        ensures err { OnErr result (self.new ≡ record self.old { world = self.new.world; compared = self.new.compared; evaluations = counted self.old.evaluations 1 }) }
+        ensures err { OnErr result (self.new ≡ record self.old
+            { world = self.new.world; compared = self.new.compared; evaluations = counted self.old.evaluations 1 }) }
         ensures why { IfErr result (Blames test.now self.new.world) }
         ensures judges { OnOk result (JudgesOne (kept_of self.old) test.now (kept_of self.new)) }
         ensures stopped { OnErr result ((reads : List Read) × AsksInTurn (kept_of self.old) reads (kept_of self.new)) }

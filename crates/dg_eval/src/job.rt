@@ -140,7 +140,8 @@ impl Job {
         alloc: Global,
         answers: &A,
     ) -> Result<Turn, JobFault>
-        ensures { MatchResult result (AdvancesAlong (A.source answers.now) A.holds self.old self.new) (HaltsAlong (A.source answers.now) A.holds self.old self.new) }
+        ensures { MatchResult result (AdvancesAlong (A.source answers.now) A.holds self.old self.new)
+            (HaltsAlong (A.source answers.now) A.holds self.old self.new) }
     {
         match mem::replace(&mut self.stage, Stage::Failed) {
             Stage::Running(evaluation) => match evaluation.run_along(alloc, answers) {
@@ -158,7 +159,8 @@ impl Job {
     fn go_on(&mut self, alloc: Global, evaluation: Evaluation) -> Result<Turn, JobFault>
         requires test { evaluation.test ≡ self.old.test }
         requires failed { HasFailed self.old self.old }
-        ensures { MatchResult result (Advances (going self.old evaluation.reads) self.new) (Halts (going self.old evaluation.reads) self.new) }
+        ensures { MatchResult result (Advances (going self.old evaluation.reads) self.new)
+            (Halts (going self.old evaluation.reads) self.new) }
     {
         let arrival = evaluation.run_on(alloc)?;
         self.arrive(alloc, arrival)

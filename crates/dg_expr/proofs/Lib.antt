@@ -13,3 +13,4 @@ pub mod Running
 pub mod Applying
 pub mod Spelling
 pub mod Decimals
+pub mod Memoryless

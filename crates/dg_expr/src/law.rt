@@ -1,4 +1,9 @@
 //! What the value of a tree and the values of operators have in common.
+ghost use Rattle.std.specs.Prelude.{ℕ, ◌≡◌, List, Err};
+ghost use Rattle.dg_expr.specs.declared.fault.ExprFault.TheVariants.{Memory};
+ghost use Rattle.dg_expr.specs.declared.operator.Infix.{Infix};
+ghost use Rattle.dg_expr.specs.declared.operator.Prefix.{Prefix};
+ghost use Rattle.dg_expr.specs.Operator.{value_of, value_of_one};
 ghost use Rattle.dg_expr.specs.ShortCircuit.{CodeDoesAsItsTree, ConditionEnds, LeftEnds, NoBranchIsChosen, OneBranchIsChosen, OneEnds, OneIsApplied, OperandIsLoaded, RightEnds, RightIsLeftAlone, RightIsTaken, SidesAreApplied};
 
 /// A law: where the sides of an operator have values, the tree's is the one that `apply` gives on them (and
@@ -30,4 +35,11 @@ pub fn one_branch_is_chosen<S, R, Q>()
 /// A law: a tree's flat code, run by itself, does what the tree does, to which the laws above apply.
 pub fn code_does_as_its_tree<S, R>()
     ensures { CodeDoesAsItsTree S R }
+{}
+
+/// A law: what operators give is a matter of their operands alone: no fault of theirs is a want of memory. Any other fault of a tree
+/// is a text that has no truth.
+pub fn no_operator_wants_memory()
+    ensures between { (op : Infix) (a b : List ℕ) → ¬ (value_of op a b ≡ Err Memory) }
+    ensures before { (op : Prefix) (a : List ℕ) → ¬ (value_of_one op a ≡ Err Memory) }
 {}

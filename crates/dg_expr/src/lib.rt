@@ -20,7 +20,8 @@ pub use crate::boolean::{truth, truth_text};
 pub use crate::code::{Instruction, code_runs, compile};
 pub use crate::fault::{ExprFault, Side};
 pub use crate::law::{
-    code_does_as_its_tree, one_branch_is_chosen, sides_are_taken_as_needed, values_are_applied,
+    code_does_as_its_tree, no_operator_wants_memory, one_branch_is_chosen,
+    sides_are_taken_as_needed, values_are_applied,
 };
 pub use crate::operator::{Infix, Prefix};
 pub use crate::reading::{one_tree, read_expr};

@@ -13,7 +13,8 @@ use std::alloc::{AllocError, Global};
 #[tactic(auto, unfolding(dg_language::specs::Choosing::clauses_at))]
 fn first_clause(words: &[Bytes]) -> Option<(&Bytes, &Bytes, &[Bytes])>
     ensures fewer { MatchOption result (Unit {0}) (λ c. length c.2.now < length words.now) }
-    ensures clause { MatchOption result (clauses_at AtCondition words.now ≡ None) (λ c. clauses_at AtCondition words.now ≡ and_clause c.0.now c.1.now (clauses_at BehindBody c.2.now)) }
+    ensures clause { MatchOption result (clauses_at AtCondition words.now ≡ None)
+        (λ c. clauses_at AtCondition words.now ≡ and_clause c.0.now c.1.now (clauses_at BehindBody c.2.now)) }
 {
     let (condition, behind) = split(words)?;
     let (first, others) = split(behind)?;
@@ -43,7 +44,8 @@ fn is_elseif(word: &Bytes) -> bool
 
 /// The last body, alone or behind `else`.
 fn last_words<'a>(first: &'a Bytes, others: &'a [Bytes]) -> Option<&'a Bytes>
-    ensures { MatchOption result (last_words first.now others.now ≡ None) (λ body. last_words first.now others.now ≡ last_body (body.now ∷ [])) }
+    ensures { MatchOption result (last_words first.now others.now ≡ None)
+        (λ body. last_words first.now others.now ≡ last_body (body.now ∷ [])) }
 {
     if is(first, b"else") {
         return only(others);

@@ -124,7 +124,9 @@ fn first_pair<'a>(
     word: &Bytes,
     behind: &'a [Bytes],
 ) -> Result<Result<(Pair, &'a [Bytes]), Bytes>, AllocError>
-    ensures pair { IfOk result (λ r. MatchResult r (λ p. pairs_of (word.now ∷ behind.now) ≡ with_pair p.0 (pairs_of p.1.now)) (λ why. pairs_of (word.now ∷ behind.now) ≡ Err why)) }
+    ensures pair { IfOk result (λ r. MatchResult r
+        (λ p. pairs_of (word.now ∷ behind.now) ≡ with_pair p.0 (pairs_of p.1.now))
+        (λ why. pairs_of (word.now ∷ behind.now) ≡ Err why)) }
     ensures fewer { IfOk result (λ r. IfOk r (λ p. length p.1.now ≤ length behind.now)) }
 {
     let Some((next, rest)) = split(behind) else {
@@ -214,7 +216,8 @@ fn expectation(
     id: Option<&Bytes>,
     pairs: Seq<Pair>,
 ) -> Result<Expectation, AllocError>
-    ensures { IfOk result (λ e. e ≡ record { timeout = option_copied timeout.entry; id = option_copied id.entry; pairs = pairs }) }
+    ensures { IfOk result
+        (λ e. e ≡ record { timeout = option_copied timeout.entry; id = option_copied id.entry; pairs = pairs }) }
 {
     Ok(Expectation {
         timeout: copied_text(alloc, timeout)?,

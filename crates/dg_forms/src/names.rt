@@ -57,16 +57,12 @@ const FURTHER_COMMANDS: [Row; 31] = [
 fn search(rows: &[Row], name: &[u8]) -> Option<(Builtin, bool)>
     ensures { result ≡ with_name name.now (map (λ r. (r.0.now, r.1, r.2)) rows.now) }
 {
-    match rows {
-        [] => None,
-        [(named, builtin, for_scripts), rest @ ..] => {
-            if is_word(name, named) {
-                Some((*builtin, *for_scripts))
-            } else {
-                search(rest, name)
-            }
+    for (named, builtin, for_scripts) in rows {
+        if is_word(name, named) {
+            return Some((*builtin, *for_scripts));
         }
     }
+    None
 }
 
 /// The command of this name, and whether it belongs to scripts alone.

@@ -73,7 +73,8 @@ fn write_group(
 ) -> Result<(), AllocError>
     requires short { length bytes.now ≤ value_limit }
     requires within { IfSome group.now (LiesBetween 0 (length bytes.now)) }
-    ensures { OnOk result (state.new ≡ assigned (out_name (decimal n ++ codes ",string")) (group_text bytes.now group.now) state.old) }
+    ensures { OnOk result
+        (state.new ≡ assigned (out_name (decimal n ++ codes ",string")) (group_text bytes.now group.now) state.old) }
 {
     let text = Bytes::from_slice(alloc, group_text(bytes, group))?;
     let index = group_index(alloc, n)?;

@@ -189,7 +189,8 @@ fn collects(parameter: &Parameter, others: &[Parameter]) -> bool
 
 /// The value of a parameter, by the next argument or else by default, and the arguments behind it.
 fn value_for<'a>(parameter: &'a Parameter, args: &'a [Bytes]) -> Option<(&'a Bytes, &'a [Bytes])>
-    ensures { MatchOption result (value_for parameter.now args.now ≡ None) (λ p. value_for parameter.now args.now ≡ Some (p.0.now, p.1.now)) }
+    ensures { MatchOption result (value_for parameter.now args.now ≡ None)
+        (λ p. value_for parameter.now args.now ≡ Some (p.0.now, p.1.now)) }
 {
     match args {
         [value, more @ ..] => Some((value, more)),

@@ -47,7 +47,8 @@ pub fn cannot_execute(alloc: Global, program: &[u8]) -> Result<Bytes, AllocError
 /// The words that `spawn` starts a child by, or the message of a bad flag or of a wrong count.
 #[tactic(auto, unfolding(dg_language::specs::SessionWords::spawn_words))]
 pub fn spawn_words(alloc: Global, args: &[Bytes]) -> Result<Result<&[Bytes], Bytes>, AllocError>
-    ensures { IfOk result (λ r. MatchResult r (λ words. spawn_words args.now ≡ Ok words.now) (λ why. spawn_words args.now ≡ Err why)) }
+    ensures { IfOk result
+        (λ r. MatchResult r (λ words. spawn_words args.now ≡ Ok words.now) (λ why. spawn_words args.now ≡ Err why)) }
 {
     let mut left = args;
     'flags: loop {

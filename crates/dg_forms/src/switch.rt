@@ -52,7 +52,8 @@ fn first_body(words: &[Bytes]) -> Option<&Bytes>
 /// The body of the first pattern that takes the text.
 #[tactic(auto, unfolding(dg_language::specs::Switching::body_for))]
 fn body_for<'a>(matching: Matching, text: &Bytes, pairs: &'a [Bytes]) -> Option<&'a Bytes>
-    ensures { MatchOption result (body_for matching text.now pairs.now ≡ None) (λ b. body_for matching text.now pairs.now ≡ Some b.now) }
+    ensures { MatchOption result (body_for matching text.now pairs.now ≡ None)
+        (λ b. body_for matching text.now pairs.now ≡ Some b.now) }
 {
     let mut left = pairs;
     'pairs: loop {

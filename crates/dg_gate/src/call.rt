@@ -25,7 +25,8 @@ pub fn perform<G: Gate>(
     requires room { G.count gate.old < 2 ^ 64 - 1 }
     requires ready { G.is_ready gate.old }
     ensures ready { G.is_ready gate.new }
-    ensures entry { IfOk result (λ e. (r : Told) × G.step gate.old session action.now r gate.new × (entry_of action.now r ≡ Some e)) }
+    ensures entry { IfOk result
+        (λ e. (r : Told) × G.step gate.old session action.now r gate.new × (entry_of action.now r ≡ Some e)) }
     ensures made { IfOk result (λ e. Made action.now e) }
     ensures count { G.count gate.new ≤ G.count gate.old + 1 }
     ensures memory { OnErr result (G.count gate.new ≡ G.count gate.old) }
@@ -48,7 +49,8 @@ fn spawn<G: Gate>(
     requires room { G.count gate.old < 2 ^ 64 - 1 }
     requires ready { G.is_ready gate.old }
     ensures ready { G.is_ready gate.new }
-    ensures entry { IfOk result (λ e. (r : Told) × G.step gate.old session (action.Spawn words.now) r gate.new × (entry_of (action.Spawn words.now) r ≡ Some e)) }
+    ensures entry { IfOk result (λ e. (r : Told) × G.step gate.old session (action.Spawn words.now) r gate.new ×
+        (entry_of (action.Spawn words.now) r ≡ Some e)) }
     ensures made { IfOk result (λ e. Made (action.Spawn words.now) e) }
     ensures count { G.count gate.new ≤ G.count gate.old + 1 }
     ensures memory { OnErr result (G.count gate.new ≡ G.count gate.old) }
@@ -70,7 +72,8 @@ fn send<G: Gate>(
     requires room { G.count gate.old < 2 ^ 64 - 1 }
     requires ready { G.is_ready gate.old }
     ensures ready { G.is_ready gate.new }
-    ensures entry { IfOk result (λ e. (r : Told) × G.step gate.old session (action.Send bytes.now) r gate.new × (entry_of (action.Send bytes.now) r ≡ Some e)) }
+    ensures entry { IfOk result (λ e. (r : Told) × G.step gate.old session (action.Send bytes.now) r gate.new ×
+        (entry_of (action.Send bytes.now) r ≡ Some e)) }
     ensures made { IfOk result (λ e. Made (action.Send bytes.now) e) }
     ensures count { G.count gate.new ≤ G.count gate.old + 1 }
     ensures memory { OnErr result (G.count gate.new ≡ G.count gate.old) }
@@ -87,7 +90,8 @@ fn read<G: Gate>(gate: &mut G, session: u32, limit: u32) -> Result<Entry, AllocE
     requires room { G.count gate.old < 2 ^ 64 - 1 }
     requires ready { G.is_ready gate.old }
     ensures ready { G.is_ready gate.new }
-    ensures entry { IfOk result (λ e. (r : Told) × G.step gate.old session (action.Read limit) r gate.new × (entry_of (action.Read limit) r ≡ Some e)) }
+    ensures entry { IfOk result (λ e. (r : Told) × G.step gate.old session (action.Read limit) r gate.new ×
+        (entry_of (action.Read limit) r ≡ Some e)) }
     ensures made { IfOk result (λ e. Made (action.Read limit) e) }
     ensures count { G.count gate.new ≤ G.count gate.old + 1 }
     ensures memory { OnErr result (G.count gate.new ≡ G.count gate.old) }
@@ -105,7 +109,8 @@ fn close<G: Gate>(gate: &mut G, session: u32) -> Result<Entry, AllocError>
     requires room { G.count gate.old < 2 ^ 64 - 1 }
     requires ready { G.is_ready gate.old }
     ensures ready { G.is_ready gate.new }
-    ensures entry { IfOk result (λ e. (r : Told) × G.step gate.old session (action.Close) r gate.new × (entry_of (action.Close) r ≡ Some e)) }
+    ensures entry { IfOk result
+        (λ e. (r : Told) × G.step gate.old session (action.Close) r gate.new × (entry_of (action.Close) r ≡ Some e)) }
     ensures made { IfOk result (λ e. Made (action.Close) e) }
     ensures count { G.count gate.new ≤ G.count gate.old + 1 }
     ensures memory { OnErr result (G.count gate.new ≡ G.count gate.old) }
@@ -121,7 +126,8 @@ fn wait<G: Gate>(gate: &mut G, session: u32) -> Result<Entry, AllocError>
     requires room { G.count gate.old < 2 ^ 64 - 1 }
     requires ready { G.is_ready gate.old }
     ensures ready { G.is_ready gate.new }
-    ensures entry { IfOk result (λ e. (r : Told) × G.step gate.old session (action.Wait) r gate.new × (entry_of (action.Wait) r ≡ Some e)) }
+    ensures entry { IfOk result
+        (λ e. (r : Told) × G.step gate.old session (action.Wait) r gate.new × (entry_of (action.Wait) r ≡ Some e)) }
     ensures made { IfOk result (λ e. Made (action.Wait) e) }
     ensures count { G.count gate.new ≤ G.count gate.old + 1 }
     ensures memory { OnErr result (G.count gate.new ≡ G.count gate.old) }

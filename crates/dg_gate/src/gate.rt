@@ -32,38 +32,48 @@ pub trait Gate {
         requires room { count self.old < 2 ^ 64 - 1 }
         requires ready { is_ready self.old }
         ensures ready { is_ready self.new }
-        ensures ok { OnOk result (Answered (λ r. step self.old session (action.Spawn words.now) r self.new) (action.Spawn words.now) (count self.old) (count self.new) reply.Started) }
-        ensures fault { IfErr result (Refused (λ r. step self.old session (action.Spawn words.now) r self.new) (count self.old) (count self.new)) };
+        ensures ok { OnOk result (Answered (λ r. step self.old session (action.Spawn words.now) r self.new)
+            (action.Spawn words.now) (count self.old) (count self.new) reply.Started) }
+        ensures fault { IfErr result
+            (Refused (λ r. step self.old session (action.Spawn words.now) r self.new) (count self.old) (count self.new)) };
 
     /// Sends bytes to the child.
     fn send(&mut self, session: u32, bytes: &Bytes) -> Result<(), GateFault>
         requires room { count self.old < 2 ^ 64 - 1 }
         requires ready { is_ready self.old }
         ensures ready { is_ready self.new }
-        ensures ok { OnOk result (Answered (λ r. step self.old session (action.Send bytes.now) r self.new) (action.Send bytes.now) (count self.old) (count self.new) reply.Sent) }
-        ensures fault { IfErr result (Refused (λ r. step self.old session (action.Send bytes.now) r self.new) (count self.old) (count self.new)) };
+        ensures ok { OnOk result (Answered (λ r. step self.old session (action.Send bytes.now) r self.new)
+            (action.Send bytes.now) (count self.old) (count self.new) reply.Sent) }
+        ensures fault { IfErr result
+            (Refused (λ r. step self.old session (action.Send bytes.now) r self.new) (count self.old) (count self.new)) };
 
     /// Waits for the child's next bytes or the end of its output, for so many milliseconds at most.
     fn read(&mut self, session: u32, limit: u32) -> Result<Piece, GateFault>
         requires room { count self.old < 2 ^ 64 - 1 }
         requires ready { is_ready self.old }
         ensures ready { is_ready self.new }
-        ensures ok { IfOk result (λ p. Answered (λ r. step self.old session (action.Read limit) r self.new) (action.Read limit) (count self.old) (count self.new) (reply.Piece p)) }
-        ensures fault { IfErr result (Refused (λ r. step self.old session (action.Read limit) r self.new) (count self.old) (count self.new)) };
+        ensures ok { IfOk result (λ p. Answered (λ r. step self.old session (action.Read limit) r self.new)
+            (action.Read limit) (count self.old) (count self.new) (reply.Piece p)) }
+        ensures fault { IfErr result
+            (Refused (λ r. step self.old session (action.Read limit) r self.new) (count self.old) (count self.new)) };
 
     /// Closes the session.
     fn close(&mut self, session: u32) -> Result<(), GateFault>
         requires room { count self.old < 2 ^ 64 - 1 }
         requires ready { is_ready self.old }
         ensures ready { is_ready self.new }
-        ensures ok { OnOk result (Answered (λ r. step self.old session action.Close r self.new) action.Close (count self.old) (count self.new) reply.Closed) }
-        ensures fault { IfErr result (Refused (λ r. step self.old session action.Close r self.new) (count self.old) (count self.new)) };
+        ensures ok { OnOk result (Answered (λ r. step self.old session action.Close r self.new) action.Close
+            (count self.old) (count self.new) reply.Closed) }
+        ensures fault { IfErr result
+            (Refused (λ r. step self.old session action.Close r self.new) (count self.old) (count self.new)) };
 
     /// Waits for the child to end.
     fn wait(&mut self, session: u32) -> Result<Ended, GateFault>
         requires room { count self.old < 2 ^ 64 - 1 }
         requires ready { is_ready self.old }
         ensures ready { is_ready self.new }
-        ensures ok { IfOk result (λ e. Answered (λ r. step self.old session action.Wait r self.new) action.Wait (count self.old) (count self.new) (reply.Ended e)) }
-        ensures fault { IfErr result (Refused (λ r. step self.old session action.Wait r self.new) (count self.old) (count self.new)) };
+        ensures ok { IfOk result (λ e. Answered (λ r. step self.old session action.Wait r self.new) action.Wait
+            (count self.old) (count self.new) (reply.Ended e)) }
+        ensures fault { IfErr result
+            (Refused (λ r. step self.old session action.Wait r self.new) (count self.old) (count self.new)) };
 }

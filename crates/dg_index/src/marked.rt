@@ -49,7 +49,8 @@ impl Model for Marked {
 impl Marked {
     /// A record with these numbers and no mark raised, or the record back where there is no room for what stands beside it.
     pub fn new(alloc: Global, kept: Record, numbers: Vec<Option<u64>>) -> Result<Marked, Record>
-        ensures ok { IfOk result (λ m. m ≡ record { record_of = kept; marks = replicate (length kept.reads) false; numbers = numbers.items }) }
+        ensures ok { IfOk result
+            (λ m. m ≡ record { record_of = kept; marks = replicate (length kept.reads) false; numbers = numbers.items }) }
         ensures back { IfErr result (λ r. r ≡ kept) }
     {
         let Ok(block) = Block::of(alloc, kept.test(), kept.verdict()) else {
@@ -121,7 +122,8 @@ impl Marked {
         requires numbers { self.old.numbers ≡ numbers_in contents.now self.old.record_of.reads }
         requires held { AllHaveNumbers contents.now self.old.record_of.reads }
         requires tells { TellsOn contents.now world.now topic.now now.now }
-        ensures marks { self.new ≡ record self.old { marks = looked_again world.now topic.now self.old.record_of.reads self.old.marks } }
+        ensures marks { self.new ≡ record self.old
+            { marks = looked_again world.now topic.now self.old.record_of.reads self.old.marks } }
         ensures compared { result ≡ reads_on topic.now self.old.record_of.reads }
     {
         let numbers = self.numbers.as_slice();

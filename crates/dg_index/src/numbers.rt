@@ -75,7 +75,8 @@ fn content_read(read: &Read) -> Option<&Bytes>
 fn hold(alloc: Global, contents: &mut Contents, read: &Read) -> Result<Option<u64>, AllocError>
     ensures number { IfOk result (λ n. n ≡ number_in contents.new read.now) }
     ensures has { OnOk result (HasNumber contents.new (content_read read.now)) }
-    ensures more { OnOk result ((t : List ℕ) → holders_of contents.new t ≡ holders_of contents.old t + given_once t (content_read read.now)) }
+    ensures more { OnOk result
+        ((t : List ℕ) → holders_of contents.new t ≡ holders_of contents.old t + given_once t (content_read read.now)) }
     ensures stays { KeepsNumbers contents.old contents.new }
     ensures err { OnErr result (contents.new ≡ contents.old) }
 {
@@ -92,7 +93,8 @@ pub fn hold_all(
     reads: &[Read],
 ) -> Result<Vec<Option<u64>>, AllocError>
     ensures numbers { IfOk result (λ l. l.items ≡ numbers_in contents.new reads.now) }
-    ensures held { OnOk result ((es : List (TestId × MarkedView)) → IsNumbered contents.old es → HoldsMore contents.new es reads.now) }
+    ensures held { OnOk result
+        ((es : List (TestId × MarkedView)) → IsNumbered contents.old es → HoldsMore contents.new es reads.now) }
     ensures numbered { (es : List (TestId × MarkedView)) → IsNumbered contents.old es → IsNumbered contents.new es }
 {
     let mut numbers = Vec::with_capacity(alloc, reads.len())?;

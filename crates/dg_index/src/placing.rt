@@ -28,12 +28,15 @@ pub fn make_room(
 ) -> Result<(TestId, Marked), Record>
     ensures entries { records.new.entries ≡ records.old.entries }
     ensures room { OnOk result (0 < spare records.new) }
-    ensures named { OnOk result (NamesReads index.new (unwrap_or (index_of_by (same_test newest.test) records.old) (length records.old.entries)) newest.reads) }
+    ensures named { OnOk result (NamesReads index.new
+        (unwrap_or (index_of_by (same_test newest.test) records.old) (length records.old.entries)) newest.reads) }
     ensures stays { NamesMore index.old index.new }
     ensures test { IfOk result (λ r. r.0 ≡ newest.test) }
-    ensures marked { IfOk result (λ r. r.1 ≡ record { record_of = newest; marks = replicate (length newest.reads) false; numbers = numbers_in contents.new newest.reads }) }
+    ensures marked { IfOk result (λ r. r.1 ≡ record
+        { record_of = newest; marks = replicate (length newest.reads) false; numbers = numbers_in contents.new newest.reads }) }
     ensures numbered { IsNumbered contents.old records.old.entries → IsNumbered contents.new records.old.entries }
-    ensures held { OnOk result (IsNumbered contents.old records.old.entries → HoldsMore contents.new records.old.entries newest.reads) }
+    ensures held { OnOk result
+        (IsNumbered contents.old records.old.entries → HoldsMore contents.new records.old.entries newest.reads) }
     ensures back { IfErr result (λ r. r ≡ newest) }
 {
     let Ok(test) = name(alloc, records, index, &newest) else {
@@ -54,7 +57,8 @@ fn name(
 ) -> Result<TestId, AllocError>
     ensures entries { records.new.entries ≡ records.old.entries }
     ensures room { OnOk result (0 < spare records.new) }
-    ensures named { OnOk result (NamesReads index.new (unwrap_or (index_of_by (same_test newest.now.test) records.old) (length records.old.entries)) newest.now.reads) }
+    ensures named { OnOk result (NamesReads index.new
+        (unwrap_or (index_of_by (same_test newest.now.test) records.old) (length records.old.entries)) newest.now.reads) }
     ensures stays { NamesMore index.old index.new }
     ensures test { IfOk result (λ t. t ≡ newest.now.test) }
 {
@@ -69,9 +73,11 @@ fn name(
 
 /// Holds the contents that a record was given, and puts their numbers beside it, or gives it back.
 fn number(alloc: Global, contents: &mut Contents, newest: Record) -> Result<Marked, Record>
-    ensures marked { IfOk result (λ m. m ≡ record { record_of = newest; marks = replicate (length newest.reads) false; numbers = numbers_in contents.new newest.reads }) }
+    ensures marked { IfOk result (λ m. m ≡ record
+        { record_of = newest; marks = replicate (length newest.reads) false; numbers = numbers_in contents.new newest.reads }) }
     ensures numbered { (es : List (TestId × MarkedView)) → IsNumbered contents.old es → IsNumbered contents.new es }
-    ensures held { OnOk result ((es : List (TestId × MarkedView)) → IsNumbered contents.old es → HoldsMore contents.new es newest.reads) }
+    ensures held { OnOk result
+        ((es : List (TestId × MarkedView)) → IsNumbered contents.old es → HoldsMore contents.new es newest.reads) }
     ensures back { IfErr result (λ r. r ≡ newest) }
 {
     let Ok(numbers) = hold_all(alloc, contents, newest.reads()) else {
@@ -88,7 +94,8 @@ fn number(alloc: Global, contents: &mut Contents, newest: Record) -> Result<Mark
 /// Lets go the contents that a record was given, and gives it back.
 pub fn give_back(contents: &mut Contents, marked: Marked) -> Record
     ensures back { result ≡ marked.record_of }
-    ensures fewer { (text : List ℕ) → holders_of contents.new text ≡ holders_of contents.old text - given_by text marked.record_of.reads }
+    ensures fewer { (text : List ℕ) → holders_of contents.new text ≡ holders_of contents.old text - given_by text
+        marked.record_of.reads }
     ensures stays { KeepsHeldNumbers contents.old contents.new }
 {
     let newest = marked.into_kept();
@@ -110,7 +117,8 @@ pub fn place(
     requires numbered { IsNumbered contents.old records.old.entries }
     requires numbers { marked.numbers ≡ numbers_in contents.old marked.record_of.reads }
     requires held { HoldsMore contents.old records.old.entries marked.record_of.reads }
-    ensures entries { records.new.entries ≡ insert_entry same_test records.old.entries test (record marked { marks = marks_in world.now marked.record_of.reads }) }
+    ensures entries { records.new.entries ≡ insert_entry same_test records.old.entries test
+        (record marked { marks = marks_in world.now marked.record_of.reads }) }
     ensures numbered { IsNumbered contents.new records.new.entries }
     ensures count { result ≡ counted compared (length marked.record_of.reads) }
 {

@@ -4,31 +4,31 @@ use Rattle.std.specs.Prelude.{Option, Some, None}
 use Rattle.std.specs.Cmp.Lexicographic.{nat_list_eq_equiv, same_text}
 use Rattle.dg_world.specs.declared.question.Question.{Question}
 use Rattle.dg_world.specs.declared.question.Question.TheVariants.{File, Tool, Triplet, Variable, Entry, Pattern}
-use Rattle.dg_world.specs.declared.question.Machine.{Machine}
-use Rattle.dg_world.specs.declared.question.Machine.TheVariants.{Target, Host, Build}
+use Rattle.dg_world.specs.declared.question.System.{System}
+use Rattle.dg_world.specs.declared.question.System.TheVariants.{Target, Host, Build}
 use Rattle.dg_world.specs.declared.question.Answer.{Answer}
 use Rattle.dg_world.specs.declared.question.Read.{Read}
-use Rattle.dg_world.specs.Question.{same_machine, same_question}
+use Rattle.dg_world.specs.Question.{same_system, same_question}
 use Rattle.dg_language.proofs.Places.{same_place-refl, same_place-true}
 use Rattle.dg_language.specs.Play.{Play, Asks, plain, lookup}
 use Rattle.dg_language.specs.State.{State, learn}
 use Rattle.dg_language.specs.Evaluation.{Ending, ask, hear}
 
-same_machine-refl : (m : Machine) → same_machine m m ≡ true
-same_machine-refl Target = refl
-same_machine-refl Host = refl
-same_machine-refl Build = refl
+same_system-refl : (m : System) → same_system m m ≡ true
+same_system-refl Target = refl
+same_system-refl Host = refl
+same_system-refl Build = refl
 
-same_machine-true : (m n : Machine) → same_machine m n ≡ true → m ≡ n
-same_machine-true Target Target e = refl
-same_machine-true Host Host e = refl
-same_machine-true Build Build e = refl
-same_machine-true _ _ e = cc
+same_system-true : (m n : System) → same_system m n ≡ true → m ≡ n
+same_system-true Target Target e = refl
+same_system-true Host Host e = refl
+same_system-true Build Build e = refl
+same_system-true _ _ e = cc
 
 pub same_question-refl : (q : Question) → same_question q q ≡ true
 same_question-refl (File n) = nat_list_eq_equiv.refl n
 same_question-refl Tool = refl
-same_question-refl (Triplet m) = same_machine-refl m
+same_question-refl (Triplet m) = same_system-refl m
 same_question-refl (Variable n) = nat_list_eq_equiv.refl n
 same_question-refl (Entry p) = same_place-refl p
 same_question-refl (Pattern t) = nat_list_eq_equiv.refl t
@@ -36,7 +36,7 @@ same_question-refl (Pattern t) = nat_list_eq_equiv.refl t
 pub same_question-true : (p q : Question) → same_question p q ≡ true → p ≡ q
 same_question-true (File m) (File n) e = ap File (same_text m n (sym e))
 same_question-true Tool Tool e = refl
-same_question-true (Triplet m) (Triplet n) e = ap Triplet (same_machine-true m n e)
+same_question-true (Triplet m) (Triplet n) e = ap Triplet (same_system-true m n e)
 same_question-true (Variable m) (Variable n) e = ap Variable (same_text m n (sym e))
 same_question-true (Entry p) (Entry q) e = ap Entry (same_place-true p q e)
 same_question-true (Pattern m) (Pattern n) e = ap Pattern (same_text m n (sym e))

@@ -8,13 +8,13 @@ use Rattle.std.specs.Map as entries
 use Rattle.std.specs.Cmp.Lexicographic.{nat_list_eq_equiv}
 use Rattle.dg_world.specs.declared.question.Question.{Question}
 use Rattle.dg_world.specs.declared.question.Question.TheVariants.{File, Tool, Triplet, Variable, Entry, Pattern}
-use Rattle.dg_world.specs.declared.question.Machine.{Machine}
-use Rattle.dg_world.specs.declared.question.Machine.TheVariants.{Target, Host, Build}
+use Rattle.dg_world.specs.declared.question.System.{System}
+use Rattle.dg_world.specs.declared.question.System.TheVariants.{Target, Host, Build}
 use Rattle.dg_world.specs.declared.question.Answer.{Answer}
 use Rattle.dg_world.specs.declared.question.Read.{Read}
-use Rattle.dg_world.specs.contracts.question.MachinePartialEq.TheImpl as derived_of_machine
+use Rattle.dg_world.specs.contracts.question.SystemPartialEq.TheImpl as derived_of_system
 use Rattle.dg_world.specs.contracts.question.QuestionPartialEq.TheImpl as derived
-use Rattle.dg_world.specs.Question.{same_machine, same_question}
+use Rattle.dg_world.specs.Question.{same_system, same_question}
 use Rattle.indexmap.specs.IndexMap.{insert_entry}
 use Rattle.dg_language.specs.Play.{lookup}
 use Rattle.dg_language.specs.Row.{are_new}
@@ -25,17 +25,17 @@ use Rattle.dg_language.proofs.Places.{equal_place}
 abbrev pub read_of : Question × Answer → Read
 read_of e = record { question = e.0; answer = e.1 }
 
-equal_machine : (m n : Machine) → (derived_of_machine.ghosts).eq m n ≡ same_machine n m
-equal_machine Target Target = refl
-equal_machine Host Host = refl
-equal_machine Build Build = refl
-equal_machine _ _ = refl
+equal_system : (m n : System) → (derived_of_system.ghosts).eq m n ≡ same_system n m
+equal_system Target Target = refl
+equal_system Host Host = refl
+equal_system Build Build = refl
+equal_system _ _ = refl
 
 -- the map's keys are equal where they are the same question
 equal_same : (p q : Question) → (derived.ghosts).eq p q ≡ same_question q p
 equal_same (File m) (File n) = nat_list_eq_equiv.symm m n
 equal_same Tool Tool = refl
-equal_same (Triplet m) (Triplet n) = equal_machine m n
+equal_same (Triplet m) (Triplet n) = equal_system m n
 equal_same (Variable m) (Variable n) = nat_list_eq_equiv.symm m n
 equal_same (Entry p) (Entry q) = equal_place p q
 equal_same (Pattern m) (Pattern n) = nat_list_eq_equiv.symm m n

@@ -7,8 +7,8 @@ use Rattle.dg_cmds.specs.Places.{glob_matches}
 use Rattle.dg_expr.specs.Truth.{truth_text}
 use Rattle.dg_results.specs.Calls.{Call, CallSetupXfail, CallClearXfail, CallSetupKfail, CallClearKfail}
 use Rattle.dg_world.specs.Name.{is_name}
-use Rattle.dg_world.specs.declared.question.Machine.{Machine}
-use Rattle.dg_world.specs.declared.question.Machine.TheVariants.{Target, Host, Build}
+use Rattle.dg_world.specs.declared.question.System.{System}
+use Rattle.dg_world.specs.declared.question.System.TheVariants.{Target, Host, Build}
 use Rattle.dg_world.specs.declared.question.Question.TheVariants.{File, Triplet}
 use Rattle.dg_world.specs.declared.question.Answer.{Answer}
 use Rattle.dg_world.specs.declared.question.Answer.TheVariants as answer
@@ -97,13 +97,13 @@ unfoldable pub do_load_lib : Nested → List (List ℕ) → State → Then → P
 do_load_lib nested args s k =
     on (only args) (fail (wrong_count (codes "load_lib")) s k) (λ f. load_named nested (is_name (library_file f)) f s k)
 
--- the triplet of a machine
+-- the triplet of a system
 abbrev pub triplet_of : Answer → List ℕ
 triplet_of (answer.Triplet t) = t
 triplet_of _ = []
 
 -- `istarget pattern`, `ishost pattern`, `isbuild pattern`
-unfoldable pub do_is : Machine → List ℕ → List (List ℕ) → State → Then → Play Ending
+unfoldable pub do_is : System → List ℕ → List (List ℕ) → State → Then → Play Ending
 do_is m name args s k =
     on (only args) (fail (wrong_count name) s k) (λ p.
     ask (Triplet m) s (λ a s'. k Done (truth_text (glob_matches p (triplet_of a))) s'))
@@ -114,7 +114,7 @@ do_is_native [] s k =
     ask (Triplet Build) s (λ b s'. ask (Triplet Target) s' (λ t s''. k Done (truth_text (pointwise nat_eq (triplet_of b) (triplet_of t))) s''))
 do_is_native (_ ∷ _) s k = fail (wrong_count (codes "isnative")) s k
 
--- a command on the machines' triplets
+-- a command on the systems' triplets
 abbrev pub do_target : TargetCommand → List (List ℕ) → State → Then → Play Ending
 do_target IsTarget args s k = do_is Target (codes "istarget") args s k
 do_target IsHost args s k = do_is Host (codes "ishost") args s k

@@ -86,7 +86,7 @@ pub enum ChoiceCommand {
     For,
 }
 
-/// A command on the machines' triplets, by the DejaGnu manual.
+/// A command on the systems' triplets, by the DejaGnu manual.
 #[derive(Clone, Copy, Debug, PartialEq, Eq)]
 pub enum TargetCommand {
     IsTarget,

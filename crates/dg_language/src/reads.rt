@@ -56,7 +56,8 @@ impl Model for Reads {
 
 /// The first answer to a question among reads.
 pub(crate) fn answer_among<'a>(reads: &'a [Read], question: &Question) -> Option<&'a Answer>
-    ensures { option_copied result ≡ option_map (λ read. read.answer) (find (λ read. same_question read.question question.now) reads.now) }
+    ensures { option_copied result ≡ option_map (λ read. read.answer)
+        (find (λ read. same_question read.question question.now) reads.now) }
 {
     match question {
         Question::Entry(place) => entry_among(reads, place),
@@ -69,7 +70,8 @@ pub(crate) fn answer_among<'a>(reads: &'a [Read], question: &Question) -> Option
 
 /// The same where the question is for an entry.
 fn entry_among<'a>(reads: &'a [Read], place: &EntryPlace) -> Option<&'a Answer>
-    ensures { option_copied result ≡ option_map (λ read. read.answer) (find (λ read. same_question read.question (Question.Entry place.now)) reads.now) }
+    ensures { option_copied result ≡ option_map (λ read. read.answer)
+        (find (λ read. same_question read.question (Question.Entry place.now)) reads.now) }
 {
     let read = reads.iter().find(|read| read.question.is_for(place))?;
     Some(&read.answer)
@@ -94,7 +96,8 @@ fn add(
     answer: Answer,
 ) -> Result<(), AllocError>
     requires { lookup question (reads_of answers.old.entries) ≡ None }
-    ensures { OnOk result (reads_of answers.new.entries ≡ reads_of answers.old.entries ++ record { question = question; answer = answer } ∷ []) }
+    ensures { OnOk result (reads_of answers.new.entries ≡ reads_of answers.old.entries ++ record
+        { question = question; answer = answer } ∷ []) }
 {
     answers.insert(question, answer)?;
     Ok(())
@@ -121,7 +124,8 @@ fn hashed_with(
 ) -> Result<IndexMap<Question, Answer>, AllocError>
     requires once { IsTrue (are_new [] reads.items) }
     requires new { lookup question reads.items ≡ None }
-    ensures { IfOk result (λ answers. reads_of answers.entries ≡ reads.items ++ record { question = question; answer = answer } ∷ []) }
+    ensures { IfOk result
+        (λ answers. reads_of answers.entries ≡ reads.items ++ record { question = question; answer = answer } ∷ []) }
 {
     let mut answers = hashed(alloc, reads)?;
     add(&mut answers, question, answer)?;
@@ -214,7 +218,8 @@ impl Reads {
 
     /// The entry at a place of a session of a test, where that was answered last.
     pub fn last_entry(&self, test: &TestId, session: u32, place: u32) -> Option<&Entry>
-        ensures { IfSome result (λ e. lookup (Question.Entry (record { test = test.now; session = session; place = place })) self.now ≡ Some (Answer.Entry e.now)) }
+        ensures { IfSome result (λ e. lookup (Question.Entry (record { test = test.now; session = session; place = place }))
+            self.now ≡ Some (Answer.Entry e.now)) }
     {
         let (question, answer) = self.last()?;
         let Question::Entry(at) = question else {

@@ -120,8 +120,10 @@ impl Row {
         answer: Answer,
     ) -> Result<Option<Read>, AllocError>
         requires { lookup question self.old ≡ None }
-        ensures added { IfOk result (λ back. IfNone back (self.new ≡ self.old ++ record { question = question; answer = answer } ∷ [])) }
-        ensures back { IfOk result (λ back. IfSome back (λ read. (self.new ≡ self.old) × (read ≡ record { question = question; answer = answer }))) }
+        ensures added { IfOk result
+            (λ back. IfNone back (self.new ≡ self.old ++ record { question = question; answer = answer } ∷ [])) }
+        ensures back { IfOk result
+            (λ back. IfSome back (λ read. (self.new ≡ self.old) × (read ≡ record { question = question; answer = answer }))) }
     {
         let Question::Entry(entry) = &question else {
             return Ok(Some(Read { question, answer }));

@@ -199,7 +199,9 @@ impl State {
 
     /// The entry at a place of a session of the test, where that was answered last.
     pub fn last_entry(&self, session: u32, place: u32) -> Option<&Entry>
-        ensures { IfSome result (λ e. lookup (Question.Entry (record { test = self.now.test; session = session; place = place })) self.now.known ≡ Some (Answer.Entry e.now)) }
+        ensures { IfSome result (λ e. lookup
+            (Question.Entry (record { test = self.now.test; session = session; place = place })) self.now.known ≡ Some
+            (Answer.Entry e.now)) }
     {
         self.known.last_entry(&self.test, session, place)
     }
@@ -305,7 +307,7 @@ impl State {
         if !self.is_to_begin(name) {
             return Ok(Touch::Ready);
         }
-        Ok(self.touch_first(alloc, name)?)
+        self.touch_first(alloc, name)
     }
 
     /// Makes a global that has not begun ready for its first use.
@@ -413,7 +415,10 @@ impl State {
         name: &[u8],
         more: &[Bytes],
     ) -> Result<Result<bool, WordFault>, AllocError>
-        ensures { IfOk result (λ r. MatchResult r (λ fits. (xs : List (List ℕ)) × ((elements_of (or_empty (value_of self.old.variables name.now)) ≡ Ok xs) × Gets name.now (text_of_list (xs ++ more.now)) self.old self.new fits)) (λ fault. (elements_of (or_empty (value_of self.old.variables name.now)) ≡ Err fault) × (self.new ≡ self.old))) }
+        ensures { IfOk result (λ r. MatchResult r
+            (λ fits. (xs : List (List ℕ)) × ((elements_of (or_empty (value_of self.old.variables name.now)) ≡ Ok xs) ×
+            Gets name.now (text_of_list (xs ++ more.now)) self.old self.new fits))
+            (λ fault. (elements_of (or_empty (value_of self.old.variables name.now)) ≡ Err fault) × (self.new ≡ self.old))) }
     {
         match self.variables.append_elements(alloc, name, more) {
             Ok(()) => Ok(Ok(true)),
@@ -626,7 +631,8 @@ impl State {
     ) -> Result<Act, AllocError>
         requires there { IsSome (session_at number self.old.sessions) }
         requires room { self.old.sessions.used < most_entries }
-        ensures gives { IfOk result (λ act. IfSome (session_at number self.old.sessions) (λ s. act ≡ (step_of s action.old entry.now).act)) }
+        ensures gives { IfOk result
+            (λ act. IfSome (session_at number self.old.sessions) (λ s. act ≡ (step_of s action.old entry.now).act)) }
         ensures next { OnOk result (self.new ≡ with_sessions (all_acted number action.old entry.now self.old.sessions) self.old) }
         ensures limit { IfSome (session_at number self.old.sessions) (λ s. action.new ≡ (step_of s action.old entry.now).action) }
     {
@@ -641,7 +647,8 @@ impl State {
         patterns: &[Pattern],
     ) -> Result<Option<Hit>, AllocError>
         requires { IsSome (session_at number self.old.sessions) }
-        ensures hit { IfSome (session_at number self.old.sessions) (λ s. IfOk result (λ hit. hit ≡ hit_of patterns.now s.buffer)) }
+        ensures hit { IfSome (session_at number self.old.sessions)
+            (λ s. IfOk result (λ hit. hit ≡ hit_of patterns.now s.buffer)) }
         ensures within { IfSome (session_at number self.old.sessions) (λ s. IfOk result (λ hit. IfSome hit (LiesIn s.buffer))) }
         ensures same { self.new ≡ self.old }
     {
@@ -651,7 +658,8 @@ impl State {
     /// Takes what a session has read up to the end of a hit.
     pub fn take_match(&mut self, alloc: Global, number: u32, hit: &Hit) -> Result<Bytes, AllocError>
         requires { IsSomeAnd (session_at number self.old.sessions) (λ s. hit.now.end ≤ length s.buffer) }
-        ensures taken { IfSome (session_at number self.old.sessions) (λ s. IfOk result (λ bytes. bytes ≡ take hit.now.end s.buffer)) }
+        ensures taken { IfSome (session_at number self.old.sessions)
+            (λ s. IfOk result (λ bytes. bytes ≡ take hit.now.end s.buffer)) }
         ensures left { OnOk result (self.new ≡ with_sessions (changed number (taken hit.now.end) self.old.sessions) self.old) }
     {
         self.sessions.take(alloc, number, hit)

@@ -4,8 +4,8 @@ use Rattle.std.specs.Prelude.{Option, Some, None}
 use Rattle.std.specs.List.{list_any}
 use Rattle.std.specs.FinMap as map
 use Rattle.dg_world.specs.Name.{is_name}
-use Rattle.dg_world.specs.declared.question.Machine.{Machine}
-use Rattle.dg_world.specs.declared.question.Machine.TheVariants.{Target, Host, Build}
+use Rattle.dg_world.specs.declared.question.System.{System}
+use Rattle.dg_world.specs.declared.question.System.TheVariants.{Target, Host, Build}
 use Rattle.dg_world.specs.declared.question.Question.TheVariants.{File, Triplet}
 use Rattle.dg_language.specs.declared.code.Code.{Code}
 use Rattle.dg_language.specs.declared.code.Code.TheVariants.{Done, Failed, Returned, Broken, Continued, ExpContinued}
@@ -50,7 +50,7 @@ module _ (nested : Nested) (inside : IsGraftedInside nested) where
   do_load_lib-grafted args s =
       on-grafted (only args) (fail-grafted _ s) (λ f. load_named-grafted (is_name (library_file f)) f s)
 
-do_is-grafted : (m : Machine) (name : List ℕ) (args : List (List ℕ)) (s : State) → Grafted (do_is m name args s)
+do_is-grafted : (m : System) (name : List ℕ) (args : List (List ℕ)) (s : State) → Grafted (do_is m name args s)
 unfolding do_is
 do_is-grafted m name args s =
     on-grafted (only args) (fail-grafted _ s) (λ p. ask-grafted (Triplet m) s (λ a s'. completes Done _ s'))

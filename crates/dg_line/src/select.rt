@@ -12,7 +12,8 @@ use std::str;
 
 /// The words as texts, or nothing where one is none.
 fn texts_of<'a>(alloc: Global, words: &'a [Bytes]) -> Result<Option<Vec<&'a str>>, AllocError>
-    ensures { IfOk result (λ texts. MatchOption texts (list_all is_utf8 words.entry.now ≡ false) (λ v. (list_all is_utf8 words.entry.now ≡ true) × (map (λ w. w.now) v.items ≡ words.entry.now))) }
+    ensures { IfOk result (λ texts. MatchOption texts (list_all is_utf8 words.entry.now ≡ false)
+        (λ v. (list_all is_utf8 words.entry.now ≡ true) × (map (λ w. w.now) v.items ≡ words.entry.now))) }
 {
     let mut texts = Vec::new(alloc);
     for word in words {

@@ -105,8 +105,10 @@ pub fn selection_of(
     words: &[&str],
 ) -> Result<Selection, LineFault>
     requires { map (λ w. w.now) words.now ≡ words_of (rows_of (found_of matches.now)) }
-    ensures ok { IfOk result (λ s. (s ≡ selected_by (rows_of (found_of matches.now))) × (selects_well (rows_of (found_of matches.now)) ≡ true)) }
-    ensures err { IfErr result (λ f. (f ≡ LineFault.Memory) ⊎ ((f ≡ LineFault.BadSelection) × (selects_well (rows_of (found_of matches.now)) ≡ false))) }
+    ensures ok { IfOk result
+        (λ s. (s ≡ selected_by (rows_of (found_of matches.now))) × (selects_well (rows_of (found_of matches.now)) ≡ true)) }
+    ensures err { IfErr result (λ f. (f ≡ LineFault.Memory) ⊎
+        ((f ≡ LineFault.BadSelection) × (selects_well (rows_of (found_of matches.now)) ≡ false))) }
 {
     let build = option_or(matches, "build", FIRST_TRIPLET);
     let host = option_or(matches, "host", build);

@@ -9,14 +9,16 @@ use std::alloc::{AllocError, Global};
 
 /// Cuts a word at its first `=`: what stands before it, and what behind it.
 fn split_word(word: &str) -> Option<(&str, &str)>
-    ensures { MatchOption result (has_equals word.now ≡ false) (λ cut. (has_equals word.now ≡ true) × (cut.0.now ≡ name_in word.now) × (cut.1.now ≡ value_in word.now)) }
+    ensures { MatchOption result (has_equals word.now ≡ false)
+        (λ cut. (has_equals word.now ≡ true) × (cut.0.now ≡ name_in word.now) × (cut.1.now ≡ value_in word.now)) }
 {
     word.split_once('=')
 }
 
 /// The name and the value, where a word is `VARIABLE=VALUE`.
 fn split_setting(word: &str) -> Option<(&str, &str)>
-    ensures { MatchOption result (is_setting_word word.now ≡ false) (λ cut. (is_setting_word word.now ≡ true) × (cut.0.now ≡ name_in word.now) × (cut.1.now ≡ value_in word.now)) }
+    ensures { MatchOption result (is_setting_word word.now ≡ false)
+        (λ cut. (is_setting_word word.now ≡ true) × (cut.0.now ≡ name_in word.now) × (cut.1.now ≡ value_in word.now)) }
 {
     let (name, value) = split_word(word)?;
     if is_variable(name.as_bytes()) {

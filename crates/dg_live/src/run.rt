@@ -1,5 +1,6 @@
 //! The live run of a test.
 ghost use Rattle.std.specs.Prelude.{ℕ, ◌≡◌, ◌+◌, ◌-◌, ◌^◌, ◌<◌, ◌≤◌, true, false, Some, IfOk, IfErr};
+ghost use Rattle.dg_transcript.specs.declared.limits.TheConstants.{MAX_ENTRIES};
 ghost use Rattle.dg_transcript.specs.Limits.{IsTranscript};
 ghost use Rattle.dg_language.specs.declared.ask.Ask.{Ask as Asked};
 ghost use Rattle.dg_eval.specs.Evaluating.{NeedsNext};
@@ -50,7 +51,8 @@ fn answer_to<G: Gate, A: Asker>(
     requires room { Acts ask.now → G.count gate.old < 2 ^ 64 - 1 }
     requires ready { G.is_ready gate.old }
     ensures ready { G.is_ready gate.new }
-    ensures answer { IfOk result (λ a. AnswersTo G.step A.step ask.now.question ask.now.action a gate.old asker.old gate.new asker.new) }
+    ensures answer { IfOk result
+        (λ a. AnswersTo G.step A.step ask.now.question ask.now.action a gate.old asker.old gate.new asker.new) }
     ensures known { IfOk result (λ a. IsKnown ask.now.action a) }
     ensures count { G.count gate.new ≤ G.count gate.old + calls_of ask.now.action }
     ensures fault { IfErr result CanFail }
@@ -123,7 +125,7 @@ pub fn run_live<G: Gate, A: Asker>(
     gate: &mut G,
     asker: &mut A,
 ) -> Result<(Record, Transcript), LiveFault>
-    requires room { G.count gate.old + 65536 < 2 ^ 64 }
+    requires room { G.count gate.old + MAX_ENTRIES < 2 ^ 64 }
     requires ready { G.is_ready gate.old }
     ensures ready { G.is_ready gate.new }
     ensures run { IfOk result (λ p. IsLiveRun G.step A.step test gate.old asker.old gate.new asker.new p.0 p.1) }
@@ -144,7 +146,7 @@ pub fn run_live_with<G: Gate, A: Asker>(
     gate: &mut G,
     asker: &mut A,
 ) -> Result<(Record, Transcript), LiveFault>
-    requires room { G.count gate.old + 65536 < 2 ^ 64 }
+    requires room { G.count gate.old + MAX_ENTRIES < 2 ^ 64 }
     requires ready { G.is_ready gate.old }
     ensures ready { G.is_ready gate.new }
     ensures run { IfOk result (λ p. IsLiveRun G.step A.step test gate.old asker.old gate.new asker.new p.0 p.1) }

@@ -4,8 +4,8 @@ use Rattle.std.specs.Prelude.{Option, Some, None}
 use Rattle.std.specs.List.{list_any}
 use Rattle.std.specs.FinMap as map
 use Rattle.dg_world.specs.Name.{is_name}
-use Rattle.dg_world.specs.declared.question.Machine.{Machine}
-use Rattle.dg_world.specs.declared.question.Machine.TheVariants.{Target, Host, Build}
+use Rattle.dg_world.specs.declared.question.System.{System}
+use Rattle.dg_world.specs.declared.question.System.TheVariants.{Target, Host, Build}
 use Rattle.dg_world.specs.declared.question.Question.TheVariants.{File, Triplet}
 use Rattle.dg_language.specs.declared.code.Code.{Code}
 use Rattle.dg_language.specs.declared.code.Code.TheVariants.{Done, Failed, Returned, Broken, Continued, ExpContinued}
@@ -50,7 +50,7 @@ module _ (nested : Nested) (inside : LivesInside nested) where
   do_load_lib-lives args s =
       on-lives (only args) (fail-lives _ s) (λ f. load_named-lives (is_name (library_file f)) f s)
 
-do_is-lives : (m : Machine) (name : List ℕ) (args : List (List ℕ)) (s : State) → Lives s (do_is m name args s)
+do_is-lives : (m : System) (name : List ℕ) (args : List (List ℕ)) (s : State) → Lives s (do_is m name args s)
 unfolding do_is
 do_is-lives m name args s =
     on-lives (only args) (fail-lives _ s) (λ p. ask-lives (Triplet m) s refl (λ a s' _. completes Done _ s'))

@@ -5,8 +5,8 @@ use Rattle.std.specs.Cmp.Lexicographic.{pointwise}
 use Rattle.std.specs.List.{list_any}
 use Rattle.std.specs.FinMap as map
 use Rattle.dg_world.specs.Name.{is_name}
-use Rattle.dg_world.specs.declared.question.Machine.{Machine as Place}
-use Rattle.dg_world.specs.declared.question.Machine.TheVariants.{Target, Build}
+use Rattle.dg_world.specs.declared.question.System.{System}
+use Rattle.dg_world.specs.declared.question.System.TheVariants.{Target, Build}
 use Rattle.dg_world.specs.declared.question.Question.{Question}
 use Rattle.dg_world.specs.declared.question.Question.TheVariants.{File, Triplet}
 use Rattle.dg_world.specs.declared.question.Answer.{Answer}
@@ -81,7 +81,7 @@ module _ (q : Question) (g : Answer → State → Then → Play Ending) (f : Sta
 abbrev pub told_place : List ℕ → Answer → State → Then → Play Ending
 told_place p a s k = k Done (truth_text (glob_matches p (triplet_of a))) s
 
-pub is-of : (m : Place) (name : List ℕ) (args : List (List ℕ)) (p : List ℕ) → Some p ≡ only args
+pub is-of : (m : System) (name : List ℕ) (args : List (List ℕ)) (p : List ℕ) → Some p ≡ only args
     → do_is m name args ≡ (λ s k. ask (Triplet m) s (λ a t. told_place p a t k))
 unfolding do_is
 is-of m name args p e =

@@ -183,7 +183,8 @@ impl Machine {
     #[tactic(auto, unfolding(crate::specs::Meaning::rest, crate::specs::Meaning::weight))]
     fn tell_end(&mut self, alloc: Global, session: u32, entry: &Entry) -> Result<Pace, AllocError>
         requires { self.old.control ≡ Control.Go }
-        ensures { IfOk result (λ p. Goes (all_back self.old.stack Code.Done (wait_value session entry.now) self.old.state) self.old.state.known (weight_of self.old + 10) self.new p) }
+        ensures { IfOk result (λ p. Goes (all_back self.old.stack Code.Done (wait_value session entry.now) self.old.state)
+            self.old.state.known (weight_of self.old + 10) self.new p) }
     {
         let id = id_of(alloc, session)?;
         let value = wait_value(alloc, id.as_slice(), entry)?;
@@ -215,7 +216,9 @@ impl Machine {
         entry: &Entry,
     ) -> Result<Pace, AllocError>
         requires { self.old.control ≡ Control.Go }
-        ensures { IfOk result (λ p. (more : Play Ending) → Goes (told_after after session (all_back self.old.stack) entry.now self.old.state more) self.old.state.known (weight_of self.old + after_weight after) self.new p) }
+        ensures { IfOk result (λ p. (more : Play Ending) → Goes
+            (told_after after session (all_back self.old.stack) entry.now self.old.state more) self.old.state.known
+            (weight_of self.old + after_weight after) self.new p) }
     {
         match after {
             After::Spawned(words) => self.after_spawn(alloc, session, words.as_slice(), entry),
@@ -229,7 +232,8 @@ impl Machine {
     #[tactic(auto, unfolding(crate::specs::Meaning::rest, crate::specs::Meaning::go))]
     pub(crate) fn act(&mut self, alloc: Global, mut begun: Acting) -> Result<Pace, AllocError>
         requires { self.old.control ≡ Control.Go }
-        ensures { IfOk result (λ p. Comes (acting begun self.old.state (all_back self.old.stack)) self.old.state.known (weight_of self.old + after_weight begun.after) self.new p) }
+        ensures { IfOk result (λ p. Comes (acting begun self.old.state (all_back self.old.stack)) self.old.state.known
+            (weight_of self.old + after_weight begun.after) self.new p) }
     {
         match self.perform(alloc, begun.session, &mut begun.action)? {
             Came::Stands(ask) => {
@@ -260,7 +264,8 @@ impl Machine {
     #[tactic(auto, unfolding(crate::specs::Meaning::rest, crate::specs::Meaning::go))]
     pub(crate) fn name_session(&mut self, alloc: Global, session: u32) -> Result<Pace, AllocError>
         requires { self.old.control ≡ Control.Go }
-        ensures { IfOk result (λ p. Comes (naming session self.old.state (all_back self.old.stack)) self.old.state.known (weight_of self.old + 6) self.new p) }
+        ensures { IfOk result (λ p. Comes (naming session self.old.state (all_back self.old.stack)) self.old.state.known
+            (weight_of self.old + 6) self.new p) }
     {
         match self.ready(alloc, b"spawn_id")? {
             Some(Pace::Stands(ask)) => {
@@ -278,7 +283,9 @@ impl Machine {
     #[tactic(auto, unfolding(crate::specs::Meaning::rest, crate::specs::Meaning::weight))]
     fn give_name(&mut self, alloc: Global, session: u32) -> Result<Pace, AllocError>
         requires { self.old.control ≡ Control.Go }
-        ensures { IfOk result (λ p. Goes (all_back self.old.stack Code.Done (codes "0") (assigned (codes "spawn_id") (id_of session) self.old.state)) self.old.state.known (weight_of self.old + 2) self.new p) }
+        ensures { IfOk result (λ p. Goes
+            (all_back self.old.stack Code.Done (codes "0") (assigned (codes "spawn_id") (id_of session) self.old.state))
+            self.old.state.known (weight_of self.old + 2) self.new p) }
     {
         let id = id_of(alloc, session)?;
         self.state.assign(alloc, b"spawn_id", id)?;

@@ -48,7 +48,8 @@ impl Machine {
         depth: u32,
     ) -> Result<Pace, AllocError>
         requires { self.old.control ≡ Control.Go }
-        ensures { IfOk result (λ p. Goes (choose (evaluate depth) left otherwise self.old.state (all_back self.old.stack)) self.old.state.known (weight_of self.old + 2 ^ 140 + 2 ^ 140 * length left) self.new p) }
+        ensures { IfOk result (λ p. Goes (choose (evaluate depth) left otherwise self.old.state (all_back self.old.stack))
+            self.old.state.known (weight_of self.old + 2 ^ 140 + 2 ^ 140 * length left) self.new p) }
     {
         let Some(clause) = left.next() else {
             return Ok(self.otherwise(alloc, otherwise, depth)?);
@@ -86,7 +87,8 @@ impl Machine {
         value: Bytes,
     ) -> Result<Pace, AllocError>
         requires { self.old.control ≡ Control.Go }
-        ensures { IfOk result (λ p. Goes (choosing choice (all_back self.old.stack) Code.Done value self.old.state) self.old.state.known (weight_of self.old + 2 + 2 ^ 140 + 2 ^ 140 * length choice.left) self.new p) }
+        ensures { IfOk result (λ p. Goes (choosing choice (all_back self.old.stack) Code.Done value self.old.state)
+            self.old.state.known (weight_of self.old + 2 + 2 ^ 140 + 2 ^ 140 * length choice.left) self.new p) }
     {
         match truth_in(alloc, value.as_slice())? {
             Ok(true) => Ok(self.enter(alloc, choice.body, choice.depth)?),
@@ -105,7 +107,8 @@ impl Machine {
     /// An `if` goes on, once the value of a condition is there.
     fn decide(&mut self, alloc: Global, choice: Choice, value: Bytes) -> Result<Pace, AllocError>
         requires { self.old.control ≡ Control.Go }
-        ensures { IfOk result (λ p. Goes (choosing choice (all_back self.old.stack) Code.Done value self.old.state) self.old.state.known (weight_of self.old + 2 ^ 140 + 2 ^ 140 * length choice.left) self.new p) }
+        ensures { IfOk result (λ p. Goes (choosing choice (all_back self.old.stack) Code.Done value self.old.state)
+            self.old.state.known (weight_of self.old + 2 ^ 140 + 2 ^ 140 * length choice.left) self.new p) }
     {
         match truth_in(alloc, value.as_slice())? {
             Ok(true) => Ok(self.enter(alloc, choice.body, choice.depth)?),
@@ -123,7 +126,8 @@ impl Machine {
         value: Bytes,
     ) -> Result<Pace, AllocError>
         requires { self.old.control ≡ Control.Go }
-        ensures { IfOk result (λ p. Goes (choosing choice (all_back self.old.stack) code value self.old.state) self.old.state.known (weight_of self.old + 2 ^ 140 + 2 ^ 140 * length choice.left) self.new p) }
+        ensures { IfOk result (λ p. Goes (choosing choice (all_back self.old.stack) code value self.old.state)
+            self.old.state.known (weight_of self.old + 2 ^ 140 + 2 ^ 140 * length choice.left) self.new p) }
     {
         match code {
             Code::Done => Ok(self.decide(alloc, choice, value)?),

@@ -58,7 +58,8 @@ impl Machine {
         value: Bytes,
     ) -> Result<Pace, AllocError>
         requires { self.old.control ≡ Control.Go }
-        ensures { IfOk result (λ p. Comes (caught name (all_back self.old.stack) code value self.old.state) self.old.state.known (weight_of self.old + 4) self.new p) }
+        ensures { IfOk result (λ p. Comes (caught name (all_back self.old.stack) code value self.old.state)
+            self.old.state.known (weight_of self.old + 4) self.new p) }
     {
         let Some(name) = name else {
             let digit = Bytes::from_slice(alloc, digit_of(code))?;
@@ -91,7 +92,9 @@ impl Machine {
         value: Bytes,
     ) -> Result<Pace, AllocError>
         requires { self.old.control ≡ Control.Go }
-        ensures { IfOk result (λ p. Goes (within (length value) self.old.state (all_back self.old.stack Code.Done (digit_of code) (assigned name.now value self.old.state))) self.old.state.known (weight_of self.old + 4) self.new p) }
+        ensures { IfOk result (λ p. Goes (within (length value) self.old.state
+            (all_back self.old.stack Code.Done (digit_of code) (assigned name.now value self.old.state)))
+            self.old.state.known (weight_of self.old + 4) self.new p) }
     {
         if value.len() > LONGEST_VALUE {
             let closing = self.cut(alloc, b"value too long")?;

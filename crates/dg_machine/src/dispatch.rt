@@ -97,7 +97,9 @@ impl Machine {
         depth: u32,
     ) -> Result<Pace, AllocError>
         requires { self.old.control ≡ Control.Go }
-        ensures { IfOk result (RunsAs (λ s k. known_command (evaluate depth) (usable s.on_board (builtin_of name.now)) name.now args.now s k) self.old self.new) }
+        ensures { IfOk result (RunsAs
+            (λ s k. known_command (evaluate depth) (usable s.on_board (builtin_of name.now)) name.now args.now s k)
+            self.old self.new) }
     {
         match find_builtin(self.state.is_on_board(), name) {
             Some(Builtin::Variable(which)) => Ok(self.variable(alloc, which, args)?),
@@ -134,7 +136,8 @@ impl Machine {
         depth: u32,
     ) -> Result<Pace, AllocError>
         requires { self.old.control ≡ Control.Go }
-        ensures { IfOk result (λ p. Comes (command (evaluate depth) words self.old.state (all_back self.old.stack)) self.old.state.known (weight_of self.old + 2 ^ 250) self.new p) }
+        ensures { IfOk result (λ p. Comes (command (evaluate depth) words self.old.state (all_back self.old.stack))
+            self.old.state.known (weight_of self.old + 2 ^ 250) self.new p) }
     {
         let words = with_lists(alloc, &mut self.shelves.lists, words)?;
         let pace = self.command(alloc, words.as_slice(), depth)?;
@@ -153,7 +156,9 @@ impl Machine {
         depth: u32,
     ) -> Result<Pace, AllocError>
         requires { self.old.control ≡ Control.Go }
-        ensures { IfOk result (λ p. Comes (used (evaluate depth) making.purpose making.made self.old.state (all_back self.old.stack)) self.old.state.known (weight_of self.old + budget making.purpose + 4) self.new p) }
+        ensures { IfOk result (λ p. Comes
+            (used (evaluate depth) making.purpose making.made self.old.state (all_back self.old.stack))
+            self.old.state.known (weight_of self.old + budget making.purpose + 4) self.new p) }
     {
         match making.purpose {
             Purpose::Run => Ok(self.run_command(alloc, making.made, depth)?),

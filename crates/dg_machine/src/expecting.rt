@@ -44,7 +44,9 @@ impl Machine {
         action: Option<Bytes>,
     ) -> Result<Pace, AllocError>
         requires { self.old.control ≡ Control.Go }
-        ensures { IfOk result (λ p. Goes (act (evaluate wait.depth) wait.session action (again wait (all_back self.old.stack)) self.old.state (all_back self.old.stack)) self.old.state.known (weight_of self.old + 256 * wait.left + 16) self.new p) }
+        ensures { IfOk result (λ p. Goes (act (evaluate wait.depth) wait.session action
+            (again wait (all_back self.old.stack)) self.old.state (all_back self.old.stack)) self.old.state.known
+            (weight_of self.old + 256 * wait.left + 16) self.new p) }
     {
         let Some(action) = action else {
             self.end(Code::Done, Bytes::new(alloc));
@@ -63,7 +65,10 @@ impl Machine {
     /// milliseconds at most.
     fn try_output(&mut self, alloc: Global, wait: Wait, limit: u32) -> Result<Pace, AllocError>
         requires { self.old.control ≡ Control.Go }
-        ensures { IfOk result (λ p. Goes (tries (evaluate wait.depth) (waiting_of wait) (again wait (all_back self.old.stack)) self.old.state (all_back self.old.stack) (awaiting (Reach.Reading limit) wait self.old.state (all_back self.old.stack))) self.old.state.known (weight_of self.old + 256 * wait.left + 31) self.new p) }
+        ensures { IfOk result (λ p. Goes (tries (evaluate wait.depth) (waiting_of wait)
+            (again wait (all_back self.old.stack)) self.old.state (all_back self.old.stack)
+            (awaiting (Reach.Reading limit) wait self.old.state (all_back self.old.stack))) self.old.state.known
+            (weight_of self.old + 256 * wait.left + 31) self.new p) }
     {
         let patterns = wait.pairs.patterns();
         let hit = find_match(alloc, &mut self.state, wait.session, patterns)?;
@@ -82,7 +87,8 @@ impl Machine {
     /// A round begins, if one is left.
     fn begin_round(&mut self, alloc: Global, mut wait: Wait) -> Result<Pace, AllocError>
         requires { self.old.control ≡ Control.Go }
-        ensures { IfOk result (λ p. Goes (again wait (all_back self.old.stack) self.old.state) self.old.state.known (weight_of self.old + 256 * wait.left + 5) self.new p) }
+        ensures { IfOk result (λ p. Goes (again wait (all_back self.old.stack) self.old.state) self.old.state.known
+            (weight_of self.old + 256 * wait.left + 5) self.new p) }
     {
         if wait.left == 0 {
             let closing = self.out_of_steps(alloc)?;
@@ -96,7 +102,10 @@ impl Machine {
     /// The output of a session has ended.
     fn after_end(&mut self, alloc: Global, wait: Wait) -> Result<Pace, AllocError>
         requires { self.old.control ≡ Control.Go }
-        ensures { IfOk result (λ p. Goes (act (evaluate wait.depth) wait.session (first_action is_for_end wait.pairs) (again wait (all_back self.old.stack)) (with_end wait.session (bytes_of wait.session self.old.state) self.old.state) (all_back self.old.stack)) self.old.state.known (weight_of self.old + 256 * wait.left + 16) self.new p) }
+        ensures { IfOk result (λ p. Goes (act (evaluate wait.depth) wait.session (first_action is_for_end wait.pairs)
+            (again wait (all_back self.old.stack))
+            (with_end wait.session (bytes_of wait.session self.old.state) self.old.state) (all_back self.old.stack))
+            self.old.state.known (weight_of self.old + 256 * wait.left + 16) self.new p) }
     {
         keep_end(alloc, &mut self.state, wait.session)?;
         let action = copied(alloc, end_action(wait.pairs.pairs()))?;
@@ -107,7 +116,8 @@ impl Machine {
     #[tactic(auto, unfolding(crate::specs::Meaning::rest, crate::specs::Meaning::go))]
     fn read_on(&mut self, alloc: Global, wait: Wait, limit: u32) -> Result<Pace, AllocError>
         requires { self.old.control ≡ Control.Go }
-        ensures { IfOk result (λ p. Comes (awaiting (Reach.Reading limit) wait self.old.state (all_back self.old.stack)) self.old.state.known (weight_of self.old + 256 * wait.left + 30) self.new p) }
+        ensures { IfOk result (λ p. Comes (awaiting (Reach.Reading limit) wait self.old.state (all_back self.old.stack))
+            self.old.state.known (weight_of self.old + 256 * wait.left + 30) self.new p) }
     {
         let mut action = Action::Read(limit);
         match self.perform(alloc, wait.session, &mut action)? {
@@ -145,7 +155,8 @@ impl Machine {
         wait: Wait,
     ) -> Result<Pace, AllocError>
         requires { self.old.control ≡ Control.Go }
-        ensures { IfOk result (λ p. Comes (awaiting reach wait self.old.state (all_back self.old.stack)) self.old.state.known (weight_of self.old + 256 * wait.left + reach_weight reach) self.new p) }
+        ensures { IfOk result (λ p. Comes (awaiting reach wait self.old.state (all_back self.old.stack))
+            self.old.state.known (weight_of self.old + 256 * wait.left + reach_weight reach) self.new p) }
     {
         match reach {
             Reach::Trying => self.begin_round(alloc, wait),
@@ -164,7 +175,9 @@ impl Machine {
         value: Bytes,
     ) -> Result<Pace, AllocError>
         requires { self.old.control ≡ Control.Go }
-        ensures { IfOk result (λ p. Goes (after_action wait.session (again wait (all_back self.old.stack)) (all_back self.old.stack) code value self.old.state) self.old.state.known (weight_of self.old + 256 * wait.left + 6) self.new p) }
+        ensures { IfOk result (λ p. Goes (after_action wait.session (again wait (all_back self.old.stack))
+            (all_back self.old.stack) code value self.old.state) self.old.state.known
+            (weight_of self.old + 256 * wait.left + 6) self.new p) }
     {
         self.state.leave_action();
         match code {
@@ -224,7 +237,8 @@ impl Machine {
         compiling: Compiling,
     ) -> Result<Pace, AllocError>
         requires { self.old.control ≡ Control.Go }
-        ensures { IfOk result (λ p. Comes (compiling_on compiling self.old.state (all_back self.old.stack)) self.old.state.known (weight_of self.old + 2 ^ 55) self.new p) }
+        ensures { IfOk result (λ p. Comes (compiling_on compiling self.old.state (all_back self.old.stack))
+            self.old.state.known (weight_of self.old + 2 ^ 55) self.new p) }
     {
         let texts = regexes_in(alloc, compiling.pairs.as_slice())?;
         match readings_of(alloc, &self.state, texts.as_slice())? {
@@ -250,7 +264,9 @@ impl Machine {
         text: &[u8],
     ) -> Result<Pace, AllocError>
         requires { self.old.control ≡ Control.Go }
-        ensures { IfOk result (λ p. Goes (with_number text.now (number_of text.now) self.old.state (all_back self.old.stack) (λ limit. compiled_with limiting limit self.old.state (all_back self.old.stack))) self.old.state.known (weight_of self.old + 2 ^ 60) self.new p) }
+        ensures { IfOk result (λ p. Goes (with_number text.now (number_of text.now) self.old.state (all_back self.old.stack)
+            (λ limit. compiled_with limiting limit self.old.state (all_back self.old.stack))) self.old.state.known
+            (weight_of self.old + 2 ^ 60) self.new p) }
     {
         let Some(limit) = limit_of(text) else {
             let message = expected_integer(alloc, text)?;
@@ -279,7 +295,8 @@ impl Machine {
         expecting: Limiting,
     ) -> Result<Pace, AllocError>
         requires { self.old.control ≡ Control.Go }
-        ensures { IfOk result (λ p. Comes (limiting expecting self.old.state (all_back self.old.stack)) self.old.state.known (weight_of self.old + 2 ^ 100) self.new p) }
+        ensures { IfOk result (λ p. Comes (limiting expecting self.old.state (all_back self.old.stack)) self.old.state.known
+            (weight_of self.old + 2 ^ 100) self.new p) }
     {
         if let Some(timeout) = &expecting.timeout {
             let text = timeout.copy(alloc)?;
@@ -311,7 +328,8 @@ impl Machine {
         depth: u32,
     ) -> Result<Pace, AllocError>
         requires { self.old.control ≡ Control.Go }
-        ensures { IfOk result (λ p. Comes (expect_with (evaluate depth) words self.old.state (all_back self.old.stack)) self.old.state.known (weight_of self.old + 2 ^ 200) self.new p) }
+        ensures { IfOk result (λ p. Comes (expect_with (evaluate depth) words self.old.state (all_back self.old.stack))
+            self.old.state.known (weight_of self.old + 2 ^ 200) self.new p) }
     {
         let expectation = match expect_words(alloc, words.as_slice())? {
             Ok(expectation) => expectation,

@@ -28,7 +28,8 @@ impl Machine {
         mut calculation: Calculation,
     ) -> Result<Pace, AllocError>
         requires { self.old.control ≡ Control.Go }
-        ensures { IfOk result (λ p. Goes (calculating calculation self.old.state (all_back self.old.stack)) self.old.state.known (weight_of self.old + 8 + 2 ^ 67 * length calculation.left) self.new p) }
+        ensures { IfOk result (λ p. Goes (calculating calculation self.old.state (all_back self.old.stack))
+            self.old.state.known (weight_of self.old + 8 + 2 ^ 67 * length calculation.left) self.new p) }
     {
         let computed = compute_on(alloc, &self.state, &mut calculation)?;
         Ok(self.come_to(alloc, calculation, computed)?)
@@ -43,7 +44,9 @@ impl Machine {
         computed: Computed,
     ) -> Result<Pace, AllocError>
         requires { self.old.control ≡ Control.Go }
-        ensures { IfOk result (λ p. (first : Calculation) → Computes self.old.state first calculation computed → Goes (calculating first self.old.state (all_back self.old.stack)) self.old.state.known (weight_of self.old + 8 + 2 ^ 67 * length first.left) self.new p) }
+        ensures { IfOk result (λ p. (first : Calculation) → Computes self.old.state first calculation computed → Goes
+            (calculating first self.old.state (all_back self.old.stack)) self.old.state.known
+            (weight_of self.old + 8 + 2 ^ 67 * length first.left) self.new p) }
     {
         match computed {
             Computed::Value(value) => {
@@ -85,7 +88,9 @@ impl Machine {
         value: Bytes,
     ) -> Result<Pace, AllocError>
         requires { self.old.control ≡ Control.Go }
-        ensures { IfOk result (λ p. Goes (if_done (λ v s. calculating_with calculation v s (all_back self.old.stack)) (all_back self.old.stack) code value self.old.state) self.old.state.known (weight_of self.old + 9 + 2 ^ 67 * length calculation.left) self.new p) }
+        ensures { IfOk result (λ p. Goes (if_done (λ v s. calculating_with calculation v s (all_back self.old.stack))
+            (all_back self.old.stack) code value self.old.state) self.old.state.known
+            (weight_of self.old + 9 + 2 ^ 67 * length calculation.left) self.new p) }
     {
         match code {
             Code::Done => {
@@ -107,7 +112,8 @@ impl Machine {
         value: Bytes,
     ) -> Result<Pace, AllocError>
         requires { self.old.control ≡ Control.Go }
-        ensures { IfOk result (λ p. Goes (written (all_back self.old.stack) code value self.old.state) self.old.state.known (weight_of self.old + 2) self.new p) }
+        ensures { IfOk result (λ p. Goes (written (all_back self.old.stack) code value self.old.state) self.old.state.known
+            (weight_of self.old + 2) self.new p) }
     {
         match code {
             Code::Done => {

@@ -42,7 +42,8 @@ impl Machine {
         depth: u32,
     ) -> Result<Pace, AllocError>
         requires { self.old.control ≡ Control.Go }
-        ensures { IfOk result (λ p. Goes (making_with making depth value self.old.state (all_back self.old.stack)) self.old.state.known (weight_of self.old + budget making.purpose + 5 + 4 * length making.left) self.new p) }
+        ensures { IfOk result (λ p. Goes (making_with making depth value self.old.state (all_back self.old.stack))
+            self.old.state.known (weight_of self.old + budget making.purpose + 5 + 4 * length making.left) self.new p) }
     {
         let length = value.len();
         if length > LONGEST_VALUE || making.text.len() > LONGEST_VALUE - length {
@@ -63,7 +64,8 @@ impl Machine {
         depth: u32,
     ) -> Result<Pace, AllocError>
         requires { self.old.control ≡ Control.Go }
-        ensures { IfOk result (λ p. Goes (reading making depth name.now self.old.state (all_back self.old.stack)) self.old.state.known (weight_of self.old + budget making.purpose + 8 + 4 * length making.left) self.new p) }
+        ensures { IfOk result (λ p. Goes (reading making depth name.now self.old.state (all_back self.old.stack))
+            self.old.state.known (weight_of self.old + budget making.purpose + 8 + 4 * length making.left) self.new p) }
     {
         let Some(value) = self.state.value_of(name) else {
             let message = cannot_read(alloc, name)?;
@@ -84,7 +86,9 @@ impl Machine {
         depth: u32,
     ) -> Result<Pace, AllocError>
         requires { self.old.control ≡ Control.Go }
-        ensures { IfOk result (λ p. Comes (touch name self.old.state (λ s. reading making depth name s (all_back self.old.stack))) self.old.state.known (weight_of self.old + budget making.purpose + 8 + 4 * length making.left) self.new p) }
+        ensures { IfOk result (λ p. Comes
+            (touch name self.old.state (λ s. reading making depth name s (all_back self.old.stack)))
+            self.old.state.known (weight_of self.old + budget making.purpose + 8 + 4 * length making.left) self.new p) }
     {
         match self.ready(alloc, name.as_slice())? {
             Some(Pace::Stands(ask)) => {
@@ -107,7 +111,9 @@ impl Machine {
         depth: u32,
     ) -> Result<Pace, AllocError>
         requires { self.old.control ≡ Control.Go }
-        ensures { IfOk result (λ p. Comes (touch (element name making.text) self.old.state (λ s. reading (outside_index making before) depth (element name making.text) s (all_back self.old.stack))) self.old.state.known (weight_of self.old + budget making.purpose + 8 + 4 * length making.left) self.new p) }
+        ensures { IfOk result (λ p. Comes (touch (element name making.text) self.old.state (λ s. reading
+            (outside_index making before) depth (element name making.text) s (all_back self.old.stack)))
+            self.old.state.known (weight_of self.old + budget making.purpose + 8 + 4 * length making.left) self.new p) }
     {
         let whole = element(alloc, name.as_slice(), making.text.as_slice())?;
         match self.ready(alloc, whole.as_slice())? {
@@ -135,7 +141,9 @@ impl Machine {
         depth: u32,
     ) -> Result<Pace, AllocError>
         requires { self.old.control ≡ Control.Go }
-        ensures { IfOk result (λ p. Goes (gather (evaluate depth) (used (evaluate depth) making.purpose) making.made ((name, making.text) ∷ making.outer) [] making.left self.old.state (all_back self.old.stack)) self.old.state.known (weight_of self.old + budget making.purpose + 8 + 4 * length making.left) self.new p) }
+        ensures { IfOk result (λ p. Goes (gather (evaluate depth) (used (evaluate depth) making.purpose) making.made
+            ((name, making.text) ∷ making.outer) [] making.left self.old.state (all_back self.old.stack))
+            self.old.state.known (weight_of self.old + budget making.purpose + 8 + 4 * length making.left) self.new p) }
     {
         let before = mem::replace(&mut making.text, Bytes::new(alloc));
         making.outer.push((name, before))?;
@@ -152,7 +160,9 @@ impl Machine {
         depth: u32,
     ) -> Result<Pace, AllocError>
         requires { self.old.control ≡ Control.Go }
-        ensures { IfOk result (λ p. Comes (gather (evaluate depth) (used (evaluate depth) making.purpose) making.made making.outer making.text (Substitution.IndexEnds ∷ making.left) self.old.state (all_back self.old.stack)) self.old.state.known (weight_of self.old + budget making.purpose + 8 + 4 * length making.left) self.new p) }
+        ensures { IfOk result (λ p. Comes (gather (evaluate depth) (used (evaluate depth) making.purpose) making.made
+            making.outer making.text (Substitution.IndexEnds ∷ making.left) self.old.state (all_back self.old.stack))
+            self.old.state.known (weight_of self.old + budget making.purpose + 8 + 4 * length making.left) self.new p) }
     {
         let Some((name, before)) = making.outer.pop() else {
             self.stack.push(Frame::Gathering { making, depth })?;
@@ -171,7 +181,9 @@ impl Machine {
         depth: u32,
     ) -> Result<Pace, AllocError>
         requires { self.old.control ≡ Control.Go }
-        ensures { IfOk result (λ p. Goes (gather (evaluate depth) (used (evaluate depth) making.purpose) (making.made ++ making.text ∷ []) making.outer [] making.left self.old.state (all_back self.old.stack)) self.old.state.known (weight_of self.old + budget making.purpose + 8 + 4 * length making.left) self.new p) }
+        ensures { IfOk result (λ p. Goes (gather (evaluate depth) (used (evaluate depth) making.purpose)
+            (making.made ++ making.text ∷ []) making.outer [] making.left self.old.state (all_back self.old.stack))
+            self.old.state.known (weight_of self.old + budget making.purpose + 8 + 4 * length making.left) self.new p) }
     {
         let word = mem::replace(&mut making.text, Bytes::new(alloc));
         making.made.push(word)?;
@@ -188,7 +200,10 @@ impl Machine {
         depth: u32,
     ) -> Result<Pace, AllocError>
         requires { self.old.control ≡ Control.Go }
-        ensures { IfOk result (λ p. Goes (with_elements (list_in making.text) self.old.state (all_back self.old.stack) (λ es. gather (evaluate depth) (used (evaluate depth) making.purpose) (making.made ++ es) making.outer [] making.left self.old.state (all_back self.old.stack))) self.old.state.known (weight_of self.old + budget making.purpose + 8 + 4 * length making.left) self.new p) }
+        ensures { IfOk result (λ p. Goes (with_elements (list_in making.text) self.old.state (all_back self.old.stack)
+            (λ es. gather (evaluate depth) (used (evaluate depth) making.purpose) (making.made ++ es) making.outer
+            [] making.left self.old.state (all_back self.old.stack))) self.old.state.known
+            (weight_of self.old + budget making.purpose + 8 + 4 * length making.left) self.new p) }
     {
         let elements = match elements_in(alloc, making.text.as_slice())? {
             Ok(elements) => elements,
@@ -213,7 +228,8 @@ impl Machine {
         depth: u32,
     ) -> Result<Pace, AllocError>
         requires { self.old.control ≡ Control.Go }
-        ensures { IfOk result (λ p. Comes (making_with making depth value self.old.state (all_back self.old.stack)) self.old.state.known (weight_of self.old + budget making.purpose + 5 + 4 * length making.left) self.new p) }
+        ensures { IfOk result (λ p. Comes (making_with making depth value self.old.state (all_back self.old.stack))
+            self.old.state.known (weight_of self.old + budget making.purpose + 5 + 4 * length making.left) self.new p) }
     {
         if !has_room(&making.text, &value) {
             return Ok(self.add_value(alloc, making, value, depth)?);
@@ -237,7 +253,9 @@ impl Machine {
         depth: u32,
     ) -> Result<Pace, AllocError>
         requires { self.old.control ≡ Control.Go }
-        ensures { IfOk result (λ p. Comes (evaluate depth script self.old.state (if_done (λ v s. making_with making depth v s (all_back self.old.stack)) (all_back self.old.stack))) self.old.state.known (weight_of self.old + budget making.purpose + 8 + 4 * length making.left) self.new p) }
+        ensures { IfOk result (λ p. Comes (evaluate depth script self.old.state
+            (if_done (λ v s. making_with making depth v s (all_back self.old.stack)) (all_back self.old.stack)))
+            self.old.state.known (weight_of self.old + budget making.purpose + 8 + 4 * length making.left) self.new p) }
     {
         if let Some(value) = self.value_of_script(alloc, &script, depth)? {
             return Ok(self.add_and_use(alloc, making, value, depth)?);
@@ -256,7 +274,9 @@ impl Machine {
         depth: u32,
     ) -> Result<Pace, AllocError>
         requires { self.old.control ≡ Control.Go }
-        ensures { IfOk result (λ p. Comes (gather (evaluate depth) (used (evaluate depth) making.purpose) making.made making.outer making.text (step ∷ making.left) self.old.state (all_back self.old.stack)) self.old.state.known (weight_of self.old + budget making.purpose + 8 + 4 * length making.left) self.new p) }
+        ensures { IfOk result (λ p. Comes (gather (evaluate depth) (used (evaluate depth) making.purpose) making.made
+            making.outer making.text (step ∷ making.left) self.old.state (all_back self.old.stack))
+            self.old.state.known (weight_of self.old + budget making.purpose + 8 + 4 * length making.left) self.new p) }
     {
         match step {
             Substitution::Literal(text) => Ok(self.add_value(alloc, making, text, depth)?),
@@ -277,7 +297,8 @@ impl Machine {
         depth: u32,
     ) -> Result<Pace, AllocError>
         requires { self.old.control ≡ Control.Go }
-        ensures { IfOk result (λ p. Comes (making_on making depth self.old.state (all_back self.old.stack)) self.old.state.known (weight_of self.old + budget making.purpose + 4 + 4 * length making.left) self.new p) }
+        ensures { IfOk result (λ p. Comes (making_on making depth self.old.state (all_back self.old.stack))
+            self.old.state.known (weight_of self.old + budget making.purpose + 4 + 4 * length making.left) self.new p) }
     {
         make_texts(alloc, &self.state, &mut making)?;
         match making.left.next() {
@@ -297,7 +318,8 @@ impl Machine {
         depth: u32,
     ) -> Result<Pace, AllocError>
         requires { self.old.control ≡ Control.Go }
-        ensures { IfOk result (λ p. Comes (making_on making depth self.old.state (all_back self.old.stack)) self.old.state.known (weight_of self.old + budget making.purpose + 4 + 4 * length making.left) self.new p) }
+        ensures { IfOk result (λ p. Comes (making_on making depth self.old.state (all_back self.old.stack))
+            self.old.state.known (weight_of self.old + budget making.purpose + 4 + 4 * length making.left) self.new p) }
     {
         if making.left.len() == 0 {
             return Ok(self.use_words(alloc, making, depth)?);
@@ -314,7 +336,8 @@ impl Machine {
         depth: u32,
     ) -> Result<Pace, AllocError>
         requires { self.old.control ≡ Control.Go }
-        ensures { IfOk result (λ p. Comes (making_with making depth value self.old.state (all_back self.old.stack)) self.old.state.known (weight_of self.old + budget making.purpose + 5 + 4 * length making.left) self.new p) }
+        ensures { IfOk result (λ p. Comes (making_with making depth value self.old.state (all_back self.old.stack))
+            self.old.state.known (weight_of self.old + budget making.purpose + 5 + 4 * length making.left) self.new p) }
     {
         if !has_room(&making.text, &value) {
             return Ok(self.add_value(alloc, making, value, depth)?);

@@ -88,7 +88,8 @@ impl Machine {
         value: Bytes,
     ) -> Result<Pace, AllocError>
         requires { self.old.control ≡ Control.Go }
-        ensures { IfOk result (λ p. Goes (after_library (all_back self.old.stack) code value self.old.state) self.old.state.known (weight_of self.old + 4) self.new p) }
+        ensures { IfOk result (λ p. Goes (after_library (all_back self.old.stack) code value self.old.state)
+            self.old.state.known (weight_of self.old + 4) self.new p) }
     {
         let (code, value) = outside(alloc, code, value)?;
         self.state.leave();

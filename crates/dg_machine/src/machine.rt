@@ -183,7 +183,10 @@ impl Machine {
         depth: u32,
     ) -> Result<Pace, AllocError>
         requires { self.old.control ≡ Control.Go }
-        ensures comes { IfOk result (λ p. Comes (making_on making depth self.old.state (all_back (Frame.Sequence commands depth ∷ self.old.stack))) self.old.state.known (weight Control.Go self.old.state (Frame.Sequence commands depth ∷ self.old.stack) + budget making.purpose + 4 + 4 * length making.left) self.new p) }
+        ensures comes { IfOk result (λ p. Comes
+            (making_on making depth self.old.state (all_back (Frame.Sequence commands depth ∷ self.old.stack)))
+            self.old.state.known (weight Control.Go self.old.state (Frame.Sequence commands depth ∷ self.old.stack) +
+            budget making.purpose + 4 + 4 * length making.left) self.new p) }
         ensures counted { OnOk result (length making.left < 2 ^ 64) }
     {
         // The call shows the proof that the length is a `usize`.
@@ -205,7 +208,9 @@ impl Machine {
         depth: u32,
     ) -> Result<Pace, AllocError>
         requires { self.old.control ≡ Control.Go }
-        ensures { IfOk result (λ p. Comes (sequence (evaluate depth) commands value self.old.state (all_back self.old.stack)) self.old.state.known (weight_of self.old + 3) self.new p) }
+        ensures { IfOk result (λ p. Comes
+            (sequence (evaluate depth) commands value self.old.state (all_back self.old.stack)) self.old.state.known
+            (weight_of self.old + 3) self.new p) }
     {
         match commands.next(alloc)? {
             None => {
@@ -240,7 +245,9 @@ impl Machine {
         depth: u32,
     ) -> Result<Pace, AllocError>
         requires { self.old.control ≡ Control.Go }
-        ensures { IfOk result (λ p. Comes (sequence (evaluate depth) commands value self.old.state (all_back self.old.stack)) self.old.state.known (weight_of self.old + 3) self.new p) }
+        ensures { IfOk result (λ p. Comes
+            (sequence (evaluate depth) commands value self.old.state (all_back self.old.stack)) self.old.state.known
+            (weight_of self.old + 3) self.new p) }
     {
         match commands.into_kept() {
             Ok((all, first)) => {
@@ -263,7 +270,9 @@ impl Machine {
         depth: u32,
     ) -> Result<Pace, AllocError>
         requires { self.old.control ≡ Control.Go }
-        ensures { IfOk result (λ p. Comes (sequence (evaluate depth) (drop at (arc_value all)) value self.old.state (all_back self.old.stack)) self.old.state.known (weight_of self.old + 3) self.new p) }
+        ensures { IfOk result (λ p. Comes
+            (sequence (evaluate depth) (drop at (arc_value all)) value self.old.state (all_back self.old.stack))
+            self.old.state.known (weight_of self.old + 3) self.new p) }
     {
         match self.value_returned(alloc, &all, at, depth)? {
             Some(value) => {
@@ -285,7 +294,9 @@ impl Machine {
         depth: u32,
     ) -> Result<Pace, AllocError>
         requires { self.old.control ≡ Control.Go }
-        ensures { IfOk result (λ p. (text : List ℕ) → commands ≡ commands_at text 0 → Goes (evaluate depth text self.old.state (all_back self.old.stack)) self.old.state.known (weight_of self.old + 4) self.new p) }
+        ensures { IfOk result (λ p. (text : List ℕ) → commands ≡ commands_at text 0 → Goes
+            (evaluate depth text self.old.state (all_back self.old.stack)) self.old.state.known (weight_of self.old + 4)
+            self.new p) }
     {
         if depth == 0 {
             let closing = self.cut(alloc, b"too many nested evaluations")?;
@@ -302,7 +313,8 @@ impl Machine {
         depth: u32,
     ) -> Result<Pace, AllocError>
         requires { self.old.control ≡ Control.Go }
-        ensures { IfOk result (λ p. Goes (sequence (evaluate depth) commands [] self.old.state (all_back self.old.stack)) self.old.state.known (weight_of self.old + 4) self.new p) }
+        ensures { IfOk result (λ p. Goes (sequence (evaluate depth) commands [] self.old.state (all_back self.old.stack))
+            self.old.state.known (weight_of self.old + 4) self.new p) }
     {
         match commands.into_kept() {
             Ok((all, first)) => {
@@ -331,7 +343,9 @@ impl Machine {
         depth: u32,
     ) -> Result<Pace, AllocError>
         requires { self.old.control ≡ Control.Go }
-        ensures { IfOk result (λ p. Goes (sequence (evaluate depth) (drop at (arc_value all)) [] self.old.state (all_back self.old.stack)) self.old.state.known (weight_of self.old + 4) self.new p) }
+        ensures { IfOk result (λ p. Goes
+            (sequence (evaluate depth) (drop at (arc_value all)) [] self.old.state (all_back self.old.stack))
+            self.old.state.known (weight_of self.old + 4) self.new p) }
     {
         match self.value_returned(alloc, &all, at, depth)? {
             Some(value) => {
@@ -354,7 +368,9 @@ impl Machine {
         depth: u32,
     ) -> Result<Pace, AllocError>
         requires { self.old.control ≡ Control.Go }
-        ensures { IfOk result (λ p. (text : List ℕ) → commands ≡ commands_at text 0 → Comes (evaluate depth text self.old.state (all_back self.old.stack)) self.old.state.known (weight_of self.old + 4) self.new p) }
+        ensures { IfOk result (λ p. (text : List ℕ) → commands ≡ commands_at text 0 → Comes
+            (evaluate depth text self.old.state (all_back self.old.stack)) self.old.state.known (weight_of self.old + 4)
+            self.new p) }
     {
         if depth == 0 {
             return Ok(self.begin(alloc, commands, depth)?);

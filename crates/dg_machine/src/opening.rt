@@ -127,7 +127,8 @@ impl Machine {
     #[tactic(auto, unfolding(crate::specs::Meaning::rest, crate::specs::Meaning::go))]
     pub(crate) fn open(&mut self, alloc: Global, what: Opening) -> Result<Pace, AllocError>
         requires { self.old.control ≡ Control.Go }
-        ensures { IfOk result (λ p. Comes (open_next what self.old.state (all_back self.old.stack)) self.old.state.known (weight_of self.old + opening_weight what) self.new p) }
+        ensures { IfOk result (λ p. Comes (open_next what self.old.state (all_back self.old.stack)) self.old.state.known
+            (weight_of self.old + opening_weight what) self.new p) }
     {
         match self.open_next(alloc, &what)? {
             Pace::Stands(ask) => {
@@ -150,7 +151,8 @@ impl Machine {
         value: Bytes,
     ) -> Result<Pace, AllocError>
         requires { self.old.control ≡ Control.Go }
-        ensures { IfOk result (λ p. Goes (after_file (open_next next) (all_back self.old.stack) code value self.old.state) self.old.state.known (weight_of self.old + opening_weight next + 2) self.new p) }
+        ensures { IfOk result (λ p. Goes (after_file (open_next next) (all_back self.old.stack) code value self.old.state)
+            self.old.state.known (weight_of self.old + opening_weight next + 2) self.new p) }
     {
         let (code, value) = outside(alloc, code, value)?;
         match code {

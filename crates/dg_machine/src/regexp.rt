@@ -57,7 +57,9 @@ impl Machine {
     fn find_text(&mut self, alloc: Global, search: Search) -> Result<Pace, AllocError>
         requires go { self.old.control ≡ Control.Go }
         requires read { AreRead (search.pattern ∷ []) self.old.state.known }
-        ensures { IfOk result (λ p. Goes (write_found search (regex_match search.pattern search.text) self.old.state (all_back self.old.stack)) self.old.state.known (weight_of self.old + 6 + 4 * length search.names) self.new p) }
+        ensures { IfOk result (λ p. Goes
+            (write_found search (regex_match search.pattern search.text) self.old.state (all_back self.old.stack))
+            self.old.state.known (weight_of self.old + 6 + 4 * length search.names) self.new p) }
     {
         let built = match self.shelves.programs.build(alloc, &search.pattern) {
             Ok(Pattern::Regex(built)) => built,
@@ -87,7 +89,10 @@ impl Machine {
         mut values: Queue<Bytes>,
     ) -> Result<Pace, AllocError>
         requires { self.old.control ≡ Control.Go }
-        ensures { IfOk result (λ p. Goes (within (length (head_or_empty values)) self.old.state (giving names (behind_first values) (assigned name.now (head_or_empty values) self.old.state) (all_back self.old.stack))) self.old.state.known (weight_of self.old + 6 + 4 * length names) self.new p) }
+        ensures { IfOk result (λ p. Goes (within (length (head_or_empty values)) self.old.state
+            (giving names (behind_first values) (assigned name.now (head_or_empty values) self.old.state)
+            (all_back self.old.stack))) self.old.state.known (weight_of self.old + 6 + 4 * length names)
+            self.new p) }
     {
         let value = take_first(alloc, &mut values);
         if value.len() > LONGEST_VALUE {
@@ -108,7 +113,8 @@ impl Machine {
         values: Queue<Bytes>,
     ) -> Result<Pace, AllocError>
         requires { self.old.control ≡ Control.Go }
-        ensures { IfOk result (λ p. Comes (giving names values self.old.state (all_back self.old.stack)) self.old.state.known (weight_of self.old + 5 + 4 * length names) self.new p) }
+        ensures { IfOk result (λ p. Comes (giving names values self.old.state (all_back self.old.stack))
+            self.old.state.known (weight_of self.old + 5 + 4 * length names) self.new p) }
     {
         let Some(name) = names.next() else {
             self.end(Code::Done, Bytes::from_slice(alloc, b"1")?);

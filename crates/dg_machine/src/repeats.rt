@@ -37,7 +37,8 @@ impl Machine {
         mut repetition: Boxed<Repetition>,
     ) -> Result<Pace, AllocError>
         requires { self.old.control ≡ Control.Go }
-        ensures { IfOk result (λ p. Comes (next_test repetition self.old.state (all_back self.old.stack)) self.old.state.known (weight_of self.old + 5) self.new p) }
+        ensures { IfOk result (λ p. Comes (next_test repetition self.old.state (all_back self.old.stack))
+            self.old.state.known (weight_of self.old + 5) self.new p) }
     {
         if repetition.get().left == 0 || !self.state.has_step() {
             let closing = self.out_of_steps(alloc)?;
@@ -53,7 +54,9 @@ impl Machine {
     fn test(&mut self, alloc: Global, repetition: Boxed<Repetition>) -> Result<Pace, AllocError>
         requires go { self.old.control ≡ Control.Go }
         requires stage { repetition.stage ≡ LoopPart.Test }
-        ensures { IfOk result (λ p. Comes (calculate (evaluate repetition.depth) repetition.test self.old.state (repeating repetition LoopPart.Test (all_back self.old.stack))) self.old.state.known (weight_of self.old + 2 ^ 139) self.new p) }
+        ensures { IfOk result (λ p. Comes (calculate (evaluate repetition.depth) repetition.test self.old.state
+            (repeating repetition LoopPart.Test (all_back self.old.stack))) self.old.state.known
+            (weight_of self.old + 2 ^ 139) self.new p) }
     {
         let looped = repetition.get();
         let formula = looped.test.formula(alloc, &mut self.shelves.formulas)?;
@@ -84,7 +87,8 @@ impl Machine {
         holds: bool,
     ) -> Result<Pace, AllocError>
         requires { self.old.control ≡ Control.Go }
-        ensures { IfOk result (λ p. Comes (repeat_if repetition holds self.old.state (all_back self.old.stack)) self.old.state.known (weight_of self.old + 32) self.new p) }
+        ensures { IfOk result (λ p. Comes (repeat_if repetition holds self.old.state (all_back self.old.stack))
+            self.old.state.known (weight_of self.old + 32) self.new p) }
     {
         if !holds {
             self.end(Code::Done, Bytes::new(alloc));
@@ -99,7 +103,9 @@ impl Machine {
     fn run_body(&mut self, alloc: Global, repetition: Boxed<Repetition>) -> Result<Pace, AllocError>
         requires go { self.old.control ≡ Control.Go }
         requires stage { repetition.stage ≡ LoopPart.Body }
-        ensures { IfOk result (λ p. Comes (evaluate repetition.depth repetition.body self.old.state (repeating repetition LoopPart.Body (all_back self.old.stack))) self.old.state.known (weight_of self.old + 24) self.new p) }
+        ensures { IfOk result (λ p. Comes (evaluate repetition.depth repetition.body self.old.state
+            (repeating repetition LoopPart.Body (all_back self.old.stack))) self.old.state.known
+            (weight_of self.old + 24) self.new p) }
     {
         let looped = repetition.get();
         let depth = looped.depth;
@@ -127,7 +133,9 @@ impl Machine {
     ) -> Result<Pace, AllocError>
         requires go { self.old.control ≡ Control.Go }
         requires stage { repetition.stage ≡ LoopPart.Body }
-        ensures { IfOk result (λ p. Comes (repeating repetition LoopPart.Body (all_back self.old.stack) Code.Done value self.old.state) self.old.state.known (weight_of self.old + 24) self.new p) }
+        ensures { IfOk result (λ p. Comes
+            (repeating repetition LoopPart.Body (all_back self.old.stack) Code.Done value self.old.state)
+            self.old.state.known (weight_of self.old + 24) self.new p) }
     {
         let Some(next) = &repetition.get().next else {
             self.stack.push(Frame::Repeating { repetition })?;
@@ -147,7 +155,10 @@ impl Machine {
         commands: Script,
     ) -> Result<Pace, AllocError>
         requires { self.old.control ≡ Control.Go }
-        ensures { IfOk result (λ p. (text : List ℕ) → commands ≡ commands_at text 0 → Comes (evaluate repetition.depth text self.old.state (repeating repetition LoopPart.Next (all_back self.old.stack))) self.old.state.known (weight_of self.old + 16) self.new p) }
+        ensures { IfOk result (λ p. (text : List ℕ) → commands ≡ commands_at text 0 → Comes
+            (evaluate repetition.depth text self.old.state
+            (repeating repetition LoopPart.Next (all_back self.old.stack))) self.old.state.known
+            (weight_of self.old + 16) self.new p) }
     {
         let depth = repetition.get().depth;
         if depth == 0 {
@@ -173,7 +184,8 @@ impl Machine {
         repetition: Boxed<Repetition>,
     ) -> Result<Pace, AllocError>
         requires { self.old.control ≡ Control.Go }
-        ensures { IfOk result (λ p. Comes (next_script repetition self.old.state (all_back self.old.stack)) self.old.state.known (weight_of self.old + 16) self.new p) }
+        ensures { IfOk result (λ p. Comes (next_script repetition self.old.state (all_back self.old.stack))
+            self.old.state.known (weight_of self.old + 16) self.new p) }
     {
         let Some(next) = &repetition.get().next else {
             return self.next_test(alloc, repetition);
@@ -192,7 +204,9 @@ impl Machine {
         value: Bytes,
     ) -> Result<Pace, AllocError>
         requires { self.old.control ≡ Control.Go }
-        ensures { IfOk result (λ p. Comes (repeating repetition LoopPart.Start (all_back self.old.stack) code value self.old.state) self.old.state.known (weight_of self.old + 8) self.new p) }
+        ensures { IfOk result (λ p. Comes
+            (repeating repetition LoopPart.Start (all_back self.old.stack) code value self.old.state)
+            self.old.state.known (weight_of self.old + 8) self.new p) }
     {
         match code {
             Code::Done => Ok(self.next_test(alloc, repetition)?),
@@ -212,7 +226,9 @@ impl Machine {
         value: Bytes,
     ) -> Result<Pace, AllocError>
         requires { self.old.control ≡ Control.Go }
-        ensures { IfOk result (λ p. Comes (repeating repetition LoopPart.Test (all_back self.old.stack) code value self.old.state) self.old.state.known (weight_of self.old + 32) self.new p) }
+        ensures { IfOk result (λ p. Comes
+            (repeating repetition LoopPart.Test (all_back self.old.stack) code value self.old.state)
+            self.old.state.known (weight_of self.old + 32) self.new p) }
     {
         match code {
             Code::Done => match truth_in(alloc, value.as_slice())? {
@@ -235,7 +251,9 @@ impl Machine {
         value: Bytes,
     ) -> Result<Pace, AllocError>
         requires { self.old.control ≡ Control.Go }
-        ensures { IfOk result (λ p. Comes (repeating repetition LoopPart.Body (all_back self.old.stack) code value self.old.state) self.old.state.known (weight_of self.old + 16) self.new p) }
+        ensures { IfOk result (λ p. Comes
+            (repeating repetition LoopPart.Body (all_back self.old.stack) code value self.old.state)
+            self.old.state.known (weight_of self.old + 16) self.new p) }
     {
         match code {
             Code::Done | Code::Continued => Ok(self.next_script(alloc, repetition)?),
@@ -254,7 +272,9 @@ impl Machine {
         value: Bytes,
     ) -> Result<Pace, AllocError>
         requires { self.old.control ≡ Control.Go }
-        ensures { IfOk result (λ p. Comes (repeating repetition LoopPart.Next (all_back self.old.stack) code value self.old.state) self.old.state.known (weight_of self.old + 8) self.new p) }
+        ensures { IfOk result (λ p. Comes
+            (repeating repetition LoopPart.Next (all_back self.old.stack) code value self.old.state)
+            self.old.state.known (weight_of self.old + 8) self.new p) }
     {
         match code {
             Code::Done => Ok(self.next_test(alloc, repetition)?),
@@ -274,7 +294,9 @@ impl Machine {
         value: Bytes,
     ) -> Result<Pace, AllocError>
         requires { self.old.control ≡ Control.Go }
-        ensures { IfOk result (λ p. Comes (repeating repetition repetition.stage (all_back self.old.stack) code value self.old.state) self.old.state.known (weight_of self.old + stage_weight repetition.stage) self.new p) }
+        ensures { IfOk result (λ p. Comes
+            (repeating repetition repetition.stage (all_back self.old.stack) code value self.old.state)
+            self.old.state.known (weight_of self.old + stage_weight repetition.stage) self.new p) }
     {
         match repetition.get().stage {
             LoopPart::Start => self.behind_start(alloc, repetition, code, value),

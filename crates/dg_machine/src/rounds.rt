@@ -22,7 +22,8 @@ impl Machine {
         mut rounds: Rounds,
     ) -> Result<Pace, AllocError>
         requires { self.old.control ≡ Control.Go }
-        ensures { IfOk result (λ p. Comes (next_round rounds rounds.values self.old.state (all_back self.old.stack)) self.old.state.known (weight_of self.old + 5) self.new p) }
+        ensures { IfOk result (λ p. Comes (next_round rounds rounds.values self.old.state (all_back self.old.stack))
+            self.old.state.known (weight_of self.old + 5) self.new p) }
     {
         if rounds.values.len() == 0 {
             self.end(Code::Done, Bytes::new(alloc));
@@ -44,7 +45,8 @@ impl Machine {
     #[tactic(auto, unfolding(crate::specs::Meaning::back, crate::specs::Meaning::all_back, crate::specs::Meaning::weight, crate::specs::Meaning::stack_weight))]
     fn begin_body(&mut self, alloc: Global, mut rounds: Rounds) -> Result<Pace, AllocError>
         requires { self.old.control ≡ Control.Go }
-        ensures { IfOk result (λ p. Comes (round_body rounds rounds.values self.old.state (all_back self.old.stack)) self.old.state.known (weight_of self.old + 9) self.new p) }
+        ensures { IfOk result (λ p. Comes (round_body rounds rounds.values self.old.state (all_back self.old.stack))
+            self.old.state.known (weight_of self.old + 9) self.new p) }
     {
         rounds.given = None;
         let commands = rounds.body.script(alloc)?;
@@ -65,7 +67,11 @@ impl Machine {
     ) -> Result<Pace, AllocError>
         requires go { self.old.control ≡ Control.Go }
         requires at_name { at < length rounds.names }
-        ensures { IfOk result (λ p. Comes (within (length (head_or_empty rounds.values)) self.old.state (give_each (drop (at + 1) rounds.names) (behind_first rounds.values) (assigned name.now (head_or_empty rounds.values) self.old.state) (λ values t. round_body rounds values t (all_back self.old.stack)))) self.old.state.known (weight_of self.old + 9 + 4 * (length rounds.names - at)) self.new p) }
+        ensures { IfOk result (λ p. Comes (within (length (head_or_empty rounds.values)) self.old.state
+            (give_each (drop (at + 1) rounds.names) (behind_first rounds.values)
+            (assigned name.now (head_or_empty rounds.values) self.old.state)
+            (λ values t. round_body rounds values t (all_back self.old.stack)))) self.old.state.known
+            (weight_of self.old + 9 + 4 * (length rounds.names - at)) self.new p) }
     {
         let value = take_first(alloc, &mut rounds.values);
         if value.len() > LONGEST_VALUE {
@@ -91,7 +97,8 @@ impl Machine {
     ) -> Result<Pace, AllocError>
         requires go { self.old.control ≡ Control.Go }
         requires given { rounds.given ≡ Some at }
-        ensures { IfOk result (λ p. Comes (looping rounds (Some at) self.old.state (all_back self.old.stack)) self.old.state.known (weight_of self.old + 9 + 4 * (length rounds.names - at)) self.new p) }
+        ensures { IfOk result (λ p. Comes (looping rounds (Some at) self.old.state (all_back self.old.stack))
+            self.old.state.known (weight_of self.old + 9 + 4 * (length rounds.names - at)) self.new p) }
     {
         if at >= rounds.names.len() {
             let pace = self.begin_body(alloc, rounds)?;

@@ -157,7 +157,9 @@ impl Machine {
         after: After,
     ) -> Result<Pace, AllocError>
         requires { self.old.control ≡ Control.Go }
-        ensures { IfOk result (λ p. Goes (acting (record { session = session; action = action; after = after }) self.old.state (all_back self.old.stack)) self.old.state.known (weight_of self.old + after_weight after + 1) self.new p) }
+        ensures { IfOk result (λ p. Goes (acting (record { session = session; action = action; after = after })
+            self.old.state (all_back self.old.stack)) self.old.state.known
+            (weight_of self.old + after_weight after + 1) self.new p) }
     {
         let acting = Acting {
             session,

@@ -134,7 +134,8 @@ fn value_computed(
     formula: &Arc<Formula>,
     depth: u32,
 ) -> Result<Option<Bytes>, AllocError>
-    ensures value { IfOk result (λ o. IfSome o (λ v. (steps : List Step) → HasCode steps (arc_value formula.now) → Settles depth steps state.now v state.now)) }
+    ensures value { IfOk result (λ o. IfSome o
+        (λ v. (steps : List Step) → HasCode steps (arc_value formula.now) → Settles depth steps state.now v state.now)) }
     ensures short { IfOk result (λ o. IfSome o (λ v. length v ≤ value_limit)) }
 {
     if is_hidden(state, b"expr") {
@@ -383,7 +384,8 @@ impl Machine {
         value: &mut Bytes,
         depth: u32,
     ) -> Result<usize, AllocError>
-        ensures goes_on { IfOk result (λ at. GoesOnAs depth (drop first commands.now) value.old self.old.state (drop at commands.now) value.new self.new.state) }
+        ensures goes_on { IfOk result (λ at. GoesOnAs depth (drop first commands.now) value.old self.old.state
+            (drop at commands.now) value.new self.new.state) }
         ensures asks { OnOk result (AsksNothing self.old.state self.new.state) }
         ensures same { OnOk result (self.new ≡ record self.old { state = self.new.state }) }
     {

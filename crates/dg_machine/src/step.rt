@@ -40,7 +40,8 @@ impl Machine {
     #[tactic(auto, unfolding(crate::specs::Meaning::go, crate::specs::Meaning::rest, crate::specs::Meaning::weight))]
     fn resume_any(&mut self, alloc: Global, frame: Frame) -> Result<Pace, AllocError>
         requires { self.old.control ≡ Control.Go }
-        ensures { IfOk result (λ p. Comes (go frame self.old.state (all_back self.old.stack)) self.old.state.known (weight_of self.old + frame_weight frame) self.new p) }
+        ensures { IfOk result (λ p. Comes (go frame self.old.state (all_back self.old.stack)) self.old.state.known
+            (weight_of self.old + frame_weight frame) self.new p) }
     {
         match frame {
             Frame::Opening { what } => self.open(alloc, what),
@@ -76,7 +77,8 @@ impl Machine {
     #[tactic(auto, unfolding(crate::specs::Meaning::go, crate::specs::Meaning::rest, crate::specs::Meaning::weight))]
     fn resume(&mut self, alloc: Global, frame: Frame) -> Result<Pace, AllocError>
         requires { self.old.control ≡ Control.Go }
-        ensures { IfOk result (λ p. Comes (go frame self.old.state (all_back self.old.stack)) self.old.state.known (weight_of self.old + frame_weight frame) self.new p) }
+        ensures { IfOk result (λ p. Comes (go frame self.old.state (all_back self.old.stack)) self.old.state.known
+            (weight_of self.old + frame_weight frame) self.new p) }
     {
         match frame {
             Frame::Gathering { making, depth } => self.gather(alloc, making, depth),
@@ -92,7 +94,8 @@ impl Machine {
     /// A loop goes on, between two rounds or in the beginning of one.
     fn go_round(&mut self, alloc: Global, rounds: Rounds) -> Result<Pace, AllocError>
         requires { self.old.control ≡ Control.Go }
-        ensures { IfOk result (λ p. Comes (looping rounds rounds.given self.old.state (all_back self.old.stack)) self.old.state.known (weight_of self.old + frame_weight (Frame.Looping rounds)) self.new p) }
+        ensures { IfOk result (λ p. Comes (looping rounds rounds.given self.old.state (all_back self.old.stack))
+            self.old.state.known (weight_of self.old + frame_weight (Frame.Looping rounds)) self.new p) }
     {
         match rounds.given {
             None => self.next_round(alloc, rounds),
@@ -104,7 +107,8 @@ impl Machine {
     #[tactic(auto, unfolding(crate::specs::Meaning::rest, crate::specs::Meaning::weight))]
     pub(crate) fn go_up(&mut self, code: Code, value: Bytes) -> Pace
         requires { self.old.control ≡ Control.Go }
-        ensures { Goes (all_back self.old.stack code value self.old.state) self.old.state.known (weight_of self.old + 2) self.new result }
+        ensures { Goes (all_back self.old.stack code value self.old.state) self.old.state.known (weight_of self.old + 2)
+            self.new result }
     {
         self.end(code, value);
         Pace::Moved
@@ -120,7 +124,9 @@ impl Machine {
         value: Bytes,
     ) -> Result<Pace, AllocError>
         requires { self.old.control ≡ Control.Go }
-        ensures { IfOk result (λ p. Comes (if_done (λ v s. sequence (evaluate depth) commands v s (all_back self.old.stack)) (all_back self.old.stack) code value self.old.state) self.old.state.known (weight_of self.old + 3) self.new p) }
+        ensures { IfOk result (λ p. Comes (if_done (λ v s. sequence (evaluate depth) commands v s (all_back self.old.stack))
+            (all_back self.old.stack) code value self.old.state) self.old.state.known (weight_of self.old + 3)
+            self.new p) }
     {
         match code {
             Code::Done => self.sequence(alloc, commands, value, depth),
@@ -140,7 +146,9 @@ impl Machine {
         value: Bytes,
     ) -> Result<Pace, AllocError>
         requires { self.old.control ≡ Control.Go }
-        ensures { IfOk result (λ p. Comes (if_done (λ v s. making_with making depth v s (all_back self.old.stack)) (all_back self.old.stack) code value self.old.state) self.old.state.known (weight_of self.old + budget making.purpose + 5 + 4 * length making.left) self.new p) }
+        ensures { IfOk result (λ p. Comes (if_done (λ v s. making_with making depth v s (all_back self.old.stack))
+            (all_back self.old.stack) code value self.old.state) self.old.state.known
+            (weight_of self.old + budget making.purpose + 5 + 4 * length making.left) self.new p) }
     {
         match code {
             Code::Done => self.add_and_gather(alloc, making, value, depth),
@@ -154,7 +162,8 @@ impl Machine {
     #[tactic(auto, unfolding(crate::specs::Meaning::rest, crate::specs::Meaning::weight, dg_language::specs::State::departed))]
     fn after_call(&mut self, alloc: Global, code: Code, value: Bytes) -> Result<Pace, AllocError>
         requires { self.old.control ≡ Control.Go }
-        ensures { IfOk result (λ p. Goes (outside (all_back self.old.stack) code value (departed self.old.state)) self.old.state.known (weight_of self.old + 4) self.new p) }
+        ensures { IfOk result (λ p. Goes (outside (all_back self.old.stack) code value (departed self.old.state))
+            self.old.state.known (weight_of self.old + 4) self.new p) }
     {
         let (code, value) = outside(alloc, code, value)?;
         self.state.leave();
@@ -172,7 +181,9 @@ impl Machine {
         value: Bytes,
     ) -> Result<Pace, AllocError>
         requires { self.old.control ≡ Control.Go }
-        ensures { IfOk result (λ p. Comes (loop_after (λ s. next_round rounds rounds.values s (all_back self.old.stack)) (all_back self.old.stack) code value self.old.state) self.old.state.known (weight_of self.old + 5) self.new p) }
+        ensures { IfOk result (λ p. Comes (loop_after (λ s. next_round rounds rounds.values s (all_back self.old.stack))
+            (all_back self.old.stack) code value self.old.state) self.old.state.known (weight_of self.old + 5)
+            self.new p) }
     {
         match code {
             Code::Done | Code::Continued => self.next_round(alloc, rounds),
@@ -191,7 +202,8 @@ impl Machine {
         value: Bytes,
     ) -> Result<Pace, AllocError>
         requires { self.old.control ≡ Control.Go }
-        ensures { IfOk result (λ p. Comes (back frame (all_back self.old.stack) code value self.old.state) self.old.state.known (weight_of self.old + frame_weight frame + 1) self.new p) }
+        ensures { IfOk result (λ p. Comes (back frame (all_back self.old.stack) code value self.old.state)
+            self.old.state.known (weight_of self.old + frame_weight frame + 1) self.new p) }
     {
         match frame {
             Frame::Opening { what: _ } => Ok(self.go_up(code, value)),
@@ -240,7 +252,8 @@ impl Machine {
         value: Bytes,
     ) -> Result<Pace, AllocError>
         requires { self.old.control ≡ Control.Go }
-        ensures { IfOk result (λ p. Comes (back frame (all_back self.old.stack) code value self.old.state) self.old.state.known (weight_of self.old + frame_weight frame + 1) self.new p) }
+        ensures { IfOk result (λ p. Comes (back frame (all_back self.old.stack) code value self.old.state)
+            self.old.state.known (weight_of self.old + frame_weight frame + 1) self.new p) }
     {
         match frame {
             Frame::Sequence { commands, depth } => {

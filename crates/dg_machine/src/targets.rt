@@ -1,4 +1,4 @@
-//! The commands on the machines' triplets, and on the flags that they decide.
+//! The commands on the systems' triplets, and on the flags that they decide.
 ghost use Rattle.std.specs.Prelude.{◌≡◌, ◌<◌, IfOk};
 ghost use Rattle.std.specs.Option.{option_copied};
 ghost use Rattle.dg_language.specs.Play.{lookup};
@@ -13,34 +13,34 @@ use dg_cmds::glob_matches;
 use dg_expr::truth_text;
 use dg_forms::{any_pattern, flag_call, is_flagged, only, triplet_of};
 use dg_language::{Code, FlagCommand, TargetCommand};
-use dg_world::{Answer, Machine as Place, Question};
+use dg_world::{Answer, Question, System};
 use std::alloc::{AllocError, Global};
 
 impl Machine {
-    /// The answer to the question for a machine's triplet, if it is known.
-    fn answer_about(&self, place: Place) -> Option<&Answer>
-        ensures { option_copied result ≡ lookup (Question.Triplet place) self.now.state.known }
+    /// The answer to the question for a system's triplet, if it is known.
+    fn answer_about(&self, system: System) -> Option<&Answer>
+        ensures { option_copied result ≡ lookup (Question.Triplet system) self.now.state.known }
     {
-        self.state.answer_to(&Question::Triplet(place))
+        self.state.answer_to(&Question::Triplet(system))
     }
 
     /// `istarget pattern`, `ishost pattern`, `isbuild pattern`.
     #[tactic(auto, unfolding(dg_language::specs::Boards::do_is))]
-    fn is_place(
+    fn is_system(
         &mut self,
         alloc: Global,
-        place: Place,
+        system: System,
         name: &[u8],
         args: &[Bytes],
     ) -> Result<Pace, AllocError>
         requires { self.old.control ≡ Control.Go }
-        ensures { IfOk result (RunsAs (do_is place name.now args.now) self.old self.new) }
+        ensures { IfOk result (RunsAs (do_is system name.now args.now) self.old self.new) }
     {
         let Some(pattern) = only(args) else {
             return self.wrong_count(alloc, name);
         };
-        let Some(answer) = self.answer_about(place) else {
-            let ask = plain_ask(alloc, Question::Triplet(place))?;
+        let Some(answer) = self.answer_about(system) else {
+            let ask = plain_ask(alloc, Question::Triplet(system))?;
             return Ok(Pace::Stands(ask));
         };
         let holds = glob_matches(pattern.as_slice(), triplet_of(answer));
@@ -57,12 +57,12 @@ impl Machine {
         if !args.is_empty() {
             return self.wrong_count(alloc, b"isnative");
         }
-        let Some(build) = self.answer_about(Place::Build) else {
-            let ask = plain_ask(alloc, Question::Triplet(Place::Build))?;
+        let Some(build) = self.answer_about(System::Build) else {
+            let ask = plain_ask(alloc, Question::Triplet(System::Build))?;
             return Ok(Pace::Stands(ask));
         };
-        let Some(target) = self.answer_about(Place::Target) else {
-            let asked = plain_ask(alloc, Question::Triplet(Place::Target))?;
+        let Some(target) = self.answer_about(System::Target) else {
+            let asked = plain_ask(alloc, Question::Triplet(System::Target))?;
             return Ok(Pace::Stands(asked));
         };
         let holds = triplet_of(build) == triplet_of(target);
@@ -70,7 +70,7 @@ impl Machine {
         Ok(self.go_up(Code::Done, value))
     }
 
-    /// A command on the machines' triplets.
+    /// A command on the systems' triplets.
     pub(crate) fn target(
         &mut self,
         alloc: Global,
@@ -81,9 +81,9 @@ impl Machine {
         ensures { IfOk result (RunsAs (do_target which args.now) self.old self.new) }
     {
         match which {
-            TargetCommand::IsTarget => self.is_place(alloc, Place::Target, b"istarget", args),
-            TargetCommand::IsHost => self.is_place(alloc, Place::Host, b"ishost", args),
-            TargetCommand::IsBuild => self.is_place(alloc, Place::Build, b"isbuild", args),
+            TargetCommand::IsTarget => self.is_system(alloc, System::Target, b"istarget", args),
+            TargetCommand::IsHost => self.is_system(alloc, System::Host, b"ishost", args),
+            TargetCommand::IsBuild => self.is_system(alloc, System::Build, b"isbuild", args),
             TargetCommand::IsNative => self.is_native(alloc, args),
         }
     }
@@ -101,8 +101,8 @@ impl Machine {
         if !any_pattern(args) {
             return Ok(self.go_up(Code::Done, Bytes::new(alloc)));
         }
-        let Some(answer) = self.answer_about(Place::Target) else {
-            let ask = plain_ask(alloc, Question::Triplet(Place::Target))?;
+        let Some(answer) = self.answer_about(System::Target) else {
+            let ask = plain_ask(alloc, Question::Triplet(System::Target))?;
             return Ok(Pace::Stands(ask));
         };
         if !is_flagged(triplet_of(answer), args) {

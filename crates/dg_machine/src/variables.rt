@@ -73,7 +73,9 @@ impl Machine {
     ) -> Result<Pace, AllocError>
         requires go { self.old.control ≡ Control.Go }
         requires some { values.now ≢ [] }
-        ensures { IfOk result (GoesAs (append_elements name.now (or_empty (value_of self.old.state.variables name.now)) values.now) 2 self.old self.new) }
+        ensures { IfOk result (GoesAs
+            (append_elements name.now (or_empty (value_of self.old.state.variables name.now)) values.now) 2 self.old
+            self.new) }
     {
         match self.state.append_elements(alloc, name, values)? {
             Ok(true) => {
@@ -97,7 +99,8 @@ impl Machine {
     #[tactic(auto, unfolding(dg_language::specs::Variables::append_elements))]
     fn append_nothing(&mut self, alloc: Global, name: &[u8]) -> Result<Pace, AllocError>
         requires { self.old.control ≡ Control.Go }
-        ensures { IfOk result (GoesAs (append_elements name.now (or_empty (value_of self.old.state.variables name.now)) []) 2 self.old self.new) }
+        ensures { IfOk result (GoesAs (append_elements name.now (or_empty (value_of self.old.state.variables name.now)) [])
+            2 self.old self.new) }
     {
         let old = or_empty(alloc, self.state.value_of(name))?;
         if let Err(message) = elements_held(alloc, &old)? {
@@ -175,7 +178,8 @@ impl Machine {
     #[tactic(auto, unfolding(dg_language::specs::Variables::store, dg_language::specs::Evaluation::within, crate::specs::Meaning::rest, crate::specs::Meaning::weight))]
     fn append_text(&mut self, alloc: Global, name: &[u8], more: &[u8]) -> Result<Pace, AllocError>
         requires { self.old.control ≡ Control.Go }
-        ensures { IfOk result (GoesAs (store name.now (or_empty (value_of self.old.state.variables name.now) ++ more.now)) 2 self.old self.new) }
+        ensures { IfOk result (GoesAs (store name.now (or_empty (value_of self.old.state.variables name.now) ++ more.now)) 2
+            self.old self.new) }
     {
         if !self.state.append_text(alloc, name, more)? {
             let verdict = self.cut(alloc, b"value too long")?;
@@ -255,7 +259,9 @@ impl Machine {
     #[tactic(auto, unfolding(crate::specs::Meaning::rest, crate::specs::Meaning::weight))]
     fn exists(&mut self, alloc: Global, name: &[u8]) -> Result<Pace, AllocError>
         requires { self.old.control ≡ Control.Go }
-        ensures { IfOk result (RunsAs (λ s k. touch name.now s (λ t. k Code.Done (truth_text (is_some (value_of t.variables name.now))) t)) self.old self.new) }
+        ensures { IfOk result (RunsAs
+            (λ s k. touch name.now s (λ t. k Code.Done (truth_text (is_some (value_of t.variables name.now))) t))
+            self.old self.new) }
     {
         if let Some(pace) = self.ready(alloc, name)? {
             return Ok(pace);
@@ -308,7 +314,8 @@ impl Machine {
     #[tactic(auto, unfolding(dg_language::specs::Variables::do_unset, crate::specs::Meaning::rest, crate::specs::Meaning::go, crate::specs::Meaning::weight, crate::specs::Meaning::stack_weight))]
     fn unset(&mut self, alloc: Global, args: &[Bytes]) -> Result<Pace, AllocError>
         requires { self.old.control ≡ Control.Go }
-        ensures { IfOk result (λ p. Goes (do_unset args.now self.old.state (all_back self.old.stack)) self.old.state.known (weight_of self.old + 9 + 4 * length args.now) self.new p) }
+        ensures { IfOk result (λ p. Goes (do_unset args.now self.old.state (all_back self.old.stack)) self.old.state.known
+            (weight_of self.old + 9 + 4 * length args.now) self.new p) }
     {
         let (complains, names) = unset_names(args);
         let mut copies = Seq::new(alloc);
@@ -330,7 +337,9 @@ impl Machine {
         names: Queue<Bytes>,
     ) -> Result<Pace, AllocError>
         requires { self.old.control ≡ Control.Go }
-        ensures { IfOk result (λ p. Goes (unset_one complains (is_some (value_of self.old.state.variables name.now)) name.now self.old.state (λ t. unset_all complains names t (all_back self.old.stack)) (all_back self.old.stack)) self.old.state.known (weight_of self.old + 6 + 4 * length names) self.new p) }
+        ensures { IfOk result (λ p. Goes (unset_one complains (is_some (value_of self.old.state.variables name.now))
+            name.now self.old.state (λ t. unset_all complains names t (all_back self.old.stack))
+            (all_back self.old.stack)) self.old.state.known (weight_of self.old + 6 + 4 * length names) self.new p) }
     {
         let was_set = self.state.unassign(name);
         if complains && !was_set {
@@ -350,7 +359,8 @@ impl Machine {
         mut names: Queue<Bytes>,
     ) -> Result<Pace, AllocError>
         requires { self.old.control ≡ Control.Go }
-        ensures { IfOk result (λ p. Comes (unset_all complains names self.old.state (all_back self.old.stack)) self.old.state.known (weight_of self.old + 5 + 4 * length names) self.new p) }
+        ensures { IfOk result (λ p. Comes (unset_all complains names self.old.state (all_back self.old.stack))
+            self.old.state.known (weight_of self.old + 5 + 4 * length names) self.new p) }
     {
         let Some(name) = names.next() else {
             self.end(Code::Done, Bytes::new(alloc));

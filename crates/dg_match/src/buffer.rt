@@ -419,7 +419,6 @@ impl Buffer {
     /// Keeps at most so many bytes from now on, and of those here the last ones. It takes no memory.
     pub fn set_max(&mut self, max: usize)
         requires some { 1 ≤ max }
-        requires most { max ≤ 65536 }
         ensures { self.new ≡
             with_last max (record self.old { max = max }) }
     {

@@ -77,8 +77,10 @@ pub fn pump<R: Read>(
     bells: &Bells,
 ) -> bool
     ensures ring { SameProducer ring.old ring.new }
-    ensures some { result ≡ false → (items : List Item) × (sent ring.new ≡ sent ring.old ++ items) × PumpedSome (R.remaining reader.old) (R.remaining reader.new) items }
-    ensures all { result ≡ true → (items : List Item) × (sent ring.new ≡ sent ring.old ++ items) × PumpedAll (R.remaining reader.old) (R.remaining reader.new) items }
+    ensures some { result ≡ false → (items : List Item) × (sent ring.new ≡ sent ring.old ++ items) × PumpedSome
+        (R.remaining reader.old) (R.remaining reader.new) items }
+    ensures all { result ≡ true → (items : List Item) × (sent ring.new ≡ sent ring.old ++ items) × PumpedAll
+        (R.remaining reader.old) (R.remaining reader.new) items }
 {
     for _ in rt.forever() {
         let Ok(mut chunk) = Vec::from_elem(alloc, 0u8, MOST) else {

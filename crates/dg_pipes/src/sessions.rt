@@ -52,7 +52,8 @@ impl Sessions {
 
     // One session more, for which there is room.
     fn push(&mut self, slot: Slot)
-        requires { (vec_len self.old.slots < vec_capacity self.old.slots) × (vec_len self.old.slots < vec_capacity self.old.accounts) }
+        requires { (vec_len self.old.slots < vec_capacity self.old.slots) ×
+            (vec_len self.old.slots < vec_capacity self.old.accounts) }
         ensures { self.new.slots.items ≡ self.old.slots.items ++ slot ∷ [] }
     {
         let Ok(()) = self.slots.push(slot) else {
@@ -62,7 +63,8 @@ impl Sessions {
 
     // Room for one session more.
     fn reserve(&mut self) -> Result<(), GateFault>
-        ensures ok { OnOk result ((vec_len self.new.slots < vec_capacity self.new.slots) × (vec_len self.new.slots < vec_capacity self.new.accounts)) }
+        ensures ok { OnOk result ((vec_len self.new.slots < vec_capacity self.new.slots) ×
+            (vec_len self.new.slots < vec_capacity self.new.accounts)) }
         ensures slots { self.new.slots.items ≡ self.old.slots.items }
         ensures err { IfErr result (λ f. f ≡ fault.Memory) }
     {
@@ -90,8 +92,10 @@ impl Sessions {
         R: Processes<Started = SystemProcess>,
         F: Fn(ChildStdout) -> Result<Fresh, GateFault>,
         requires { F.IsAlwaysCallable opener.now }
-        ensures ok { OnOk result (PipeStep self.old.slots.items session (action.Spawn words.now) reply.Started self.new.slots.items) }
-        ensures err { IfErr result (FailsBy (λ r. PipeStep self.old.slots.items session (action.Spawn words.now) r self.new.slots.items)) }
+        ensures ok { OnOk result
+            (PipeStep self.old.slots.items session (action.Spawn words.now) reply.Started self.new.slots.items) }
+        ensures err { IfErr result
+            (FailsBy (λ r. PipeStep self.old.slots.items session (action.Spawn words.now) r self.new.slots.items)) }
     {
         if session == 0 || session as usize - 1 != self.slots.len() {
             return Err(GateFault::Device(Code::Other));
@@ -113,7 +117,8 @@ impl Sessions {
     /// Sends bytes to a session's child.
     pub(crate) fn send(&mut self, session: u32, bytes: &Bytes) -> Result<(), GateFault>
         ensures ok { OnOk result (PipeStep self.old.slots.items session (action.Send bytes.now) reply.Sent self.new.slots.items) }
-        ensures err { IfErr result (FailsBy (λ r. PipeStep self.old.slots.items session (action.Send bytes.now) r self.new.slots.items)) }
+        ensures err { IfErr result
+            (FailsBy (λ r. PipeStep self.old.slots.items session (action.Send bytes.now) r self.new.slots.items)) }
     {
         let Some(place) = self.place(session) else {
             return Err(GateFault::Device(Code::Other));
@@ -130,8 +135,10 @@ impl Sessions {
         limit: u32,
     ) -> Result<Piece, Code>
         ensures fits { IfOk result (λ p. fits (action.Read limit) (reply.Piece p) ≡ true) }
-        ensures ok { IfOk result (λ p. PipeStep self.old.slots.items session (action.Read limit) (reply.Piece p) self.new.slots.items) }
-        ensures err { IfErr result (λ code. PipeStep self.old.slots.items session (action.Read limit) (reply.Failed code) self.new.slots.items) }
+        ensures ok { IfOk result
+            (λ p. PipeStep self.old.slots.items session (action.Read limit) (reply.Piece p) self.new.slots.items) }
+        ensures err { IfErr result
+            (λ code. PipeStep self.old.slots.items session (action.Read limit) (reply.Failed code) self.new.slots.items) }
     {
         let Some(place) = self.place(session) else {
             return Err(Code::Other);
@@ -143,7 +150,8 @@ impl Sessions {
     /// Closes a session.
     pub(crate) fn close(&mut self, session: u32) -> Result<(), Code>
         ensures ok { OnOk result (PipeStep self.old.slots.items session action.Close reply.Closed self.new.slots.items) }
-        ensures err { IfErr result (λ code. PipeStep self.old.slots.items session action.Close (reply.Failed code) self.new.slots.items) }
+        ensures err { IfErr result
+            (λ code. PipeStep self.old.slots.items session action.Close (reply.Failed code) self.new.slots.items) }
     {
         let Some(place) = self.place(session) else {
             return Err(Code::Other);
@@ -156,7 +164,8 @@ impl Sessions {
     pub(crate) fn wait(&mut self, session: u32) -> Result<Ended, Code>
         ensures fits { IfOk result (λ e. fits action.Wait (reply.Ended e) ≡ true) }
         ensures ok { IfOk result (λ e. PipeStep self.old.slots.items session action.Wait (reply.Ended e) self.new.slots.items) }
-        ensures err { IfErr result (λ code. PipeStep self.old.slots.items session action.Wait (reply.Failed code) self.new.slots.items) }
+        ensures err { IfErr result
+            (λ code. PipeStep self.old.slots.items session action.Wait (reply.Failed code) self.new.slots.items) }
     {
         let Some(place) = self.place(session) else {
             return Err(Code::Other);

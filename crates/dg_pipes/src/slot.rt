@@ -91,8 +91,10 @@ impl Slot {
     /// The next piece of its output within a limit.
     pub(crate) fn read(&mut self, rt: &(impl Wait + Clock), limit: u32) -> Result<Piece, Code>
         ensures session { self.new.session ≡ self.old.session }
-        ensures ok { IfOk result (λ p. (fits (action.Read limit) (reply.Piece p) ≡ true) × Joins (action.Read limit) (reply.Piece p) (taken_of self.old.output) (taken_of self.new.output)) }
-        ensures err { IfErr result (λ code. Joins (action.Read limit) (reply.Failed code) (taken_of self.old.output) (taken_of self.new.output)) }
+        ensures ok { IfOk result (λ p. (fits (action.Read limit) (reply.Piece p) ≡ true) × Joins (action.Read limit)
+            (reply.Piece p) (taken_of self.old.output) (taken_of self.new.output)) }
+        ensures err { IfErr result
+            (λ code. Joins (action.Read limit) (reply.Failed code) (taken_of self.old.output) (taken_of self.new.output)) }
     {
         let Some(output) = &mut self.output else {
             return Err(Code::Other);

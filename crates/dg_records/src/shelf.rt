@@ -79,8 +79,10 @@ impl Shelf {
     /// Undoes an exchange of a test's record: the shelf is again what it was before, and the newest record comes back. It
     /// takes no memory.
     pub fn put_back(&mut self, test: &TestId, previous: Option<Record>) -> Record
-        requires { (before : List RecordView) × (newest : RecordView) × (newest.test ≡ test.now) × Exchanges before newest previous self.old }
-        ensures { (before : List RecordView) (newest : RecordView) → newest.test ≡ test.now → Exchanges before newest previous self.old → (self.new ≡ before) × (result ≡ newest) }
+        requires { (before : List RecordView) × (newest : RecordView) × (newest.test ≡ test.now) × Exchanges before newest
+            previous self.old }
+        ensures { (before : List RecordView) (newest : RecordView) → newest.test ≡ test.now → Exchanges before newest
+            previous self.old → (self.new ≡ before) × (result ≡ newest) }
     {
         match previous {
             Some(previous) => match self.records.get_mut(test) {

@@ -39,7 +39,8 @@ fn append_piece<R: BufRead>(
         × (done ≢ true → All (λ x. x ≢ 10) piece)
         × (done ≡ true → IsEmptyOrEndsWith piece 10)
         × (done ≡ true → length piece ≡ 0 → OnSome (R.remaining reader.old) (IsAtEnd (R.remaining reader.new)))) }
-    ensures too_long { result ≡ Err SessionFault.TooLong → IfSome (R.remaining reader.old) (λ xs. limit < length line.old.items + length (take_through 10 xs)) }
+    ensures too_long { result ≡ Err SessionFault.TooLong → IfSome (R.remaining reader.old)
+        (λ xs. limit < length line.old.items + length (take_through 10 xs)) }
     ensures no_write { result ≢ Err SessionFault.WriteFault }
 {
     let available = match reader.fill_buf() {
@@ -80,7 +81,8 @@ pub fn read_line<R: BufRead, W: Write>(
     ensures held { vec_len line.new ≤ limit }
     ensures bytes { OnOk result (IfSome (R.remaining reader.old) (λ xs. line.new.items ≡ take_through 10 xs)) }
     ensures rest { OnOk result (DropsThrough (R.remaining reader.old) (R.remaining reader.new) 10) }
-    ensures too_long { result ≡ Err SessionFault.TooLong → IfSome (R.remaining reader.old) (λ xs. limit < length (take_through 10 xs)) }
+    ensures too_long { result ≡ Err SessionFault.TooLong → IfSome (R.remaining reader.old)
+        (λ xs. limit < length (take_through 10 xs)) }
 {
     for _ in 0..u64::MAX {
         if !has_more {

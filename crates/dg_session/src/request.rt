@@ -51,7 +51,8 @@ impl fmt::Debug for Request {
 
 /// Cuts a text at its first space: what stands before it, and what stands behind it.
 fn split_field(text: &[u8]) -> (&[u8], Option<&[u8]>)
-    ensures { MatchOption result.1 (fields_of text.now ≡ result.0.now ∷ []) (λ rest. fields_of text.now ≡ result.0.now ∷ fields_of rest.now) }
+    ensures { MatchOption result.1 (fields_of text.now ≡ result.0.now ∷ [])
+        (λ rest. fields_of text.now ≡ result.0.now ∷ fields_of rest.now) }
 {
     match memchr(b' ', text) {
         Some(at) => (&text[..at], Some(&text[at + 1..])),

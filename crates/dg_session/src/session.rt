@@ -133,10 +133,12 @@ pub fn serve<R: BufRead, W: Write>(
     core: &mut Core,
     limit: usize,
 ) -> Result<(), SessionFault>
-    ensures ok { OnOk result (IfSome (R.remaining reader.old) (λ input. Answers core.old input (W.contents writer.old) (W.contents writer.new))) }
+    ensures ok { OnOk result
+        (IfSome (R.remaining reader.old) (λ input. Answers core.old input (W.contents writer.old) (W.contents writer.new))) }
     ensures read { OnOk result (IfSome (R.remaining reader.old) (λ input. IsAtEnd (R.remaining reader.new))) }
     ensures fits { OnOk result (IfSome (R.remaining reader.old) (λ input. length input ≤ limit)) }
-    ensures fault { OnErr result (IfSome (R.remaining reader.old) (λ input. AnswersFront core.old input (W.contents writer.old) (W.contents writer.new))) }
+    ensures fault { OnErr result (IfSome (R.remaining reader.old)
+        (λ input. AnswersFront core.old input (W.contents writer.old) (W.contents writer.new))) }
     ensures too_long { result ≡ Err SessionFault.TooLong → IfSome (R.remaining reader.old) (λ input. limit < length input) }
 {
     let mut line = Vec::new(alloc);
@@ -165,10 +167,12 @@ pub fn run_session<R: BufRead, W: Write>(
     writer: &mut W,
     mut core: Core,
 ) -> Result<(), SessionFault>
-    ensures ok { OnOk result (IfSome (R.remaining reader.old) (λ input. Answers core input (W.contents writer.old) (W.contents writer.new))) }
+    ensures ok { OnOk result
+        (IfSome (R.remaining reader.old) (λ input. Answers core input (W.contents writer.old) (W.contents writer.new))) }
     ensures read { OnOk result (IfSome (R.remaining reader.old) (λ input. IsAtEnd (R.remaining reader.new))) }
     ensures fits { OnOk result (IfSome (R.remaining reader.old) (λ input. length input ≤ 1073741824)) }
-    ensures fault { OnErr result (IfSome (R.remaining reader.old) (λ input. AnswersFront core input (W.contents writer.old) (W.contents writer.new))) }
+    ensures fault { OnErr result
+        (IfSome (R.remaining reader.old) (λ input. AnswersFront core input (W.contents writer.old) (W.contents writer.new))) }
     ensures too_long { result ≡ Err SessionFault.TooLong → IfSome (R.remaining reader.old) (λ input. 1073741824 < length input) }
 {
     serve(alloc, reader, writer, &mut core, LIMIT)

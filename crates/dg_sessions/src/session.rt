@@ -177,7 +177,8 @@ impl Session {
 
     /// What an entry that answers, or that is passed over, does to the buffer.
     fn hear(&mut self, alloc: Global, action: &Action, entry: &Entry) -> Result<(), AllocError>
-        ensures ok { OnOk result (self.new ≡ record self.old { buffer = buffer_behind (with_chunk self.old.max) action.now entry.now self.old.buffer }) }
+        ensures ok { OnOk result (self.new ≡ record self.old
+            { buffer = buffer_behind (with_chunk self.old.max) action.now entry.now self.old.buffer }) }
         ensures err { OnErr result (self.new ≡ self.old) }
     {
         match action {

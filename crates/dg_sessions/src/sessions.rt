@@ -140,7 +140,8 @@ impl Sessions {
     ) -> Result<Act, AllocError>
         requires there { IsSome (session_at number self.old) }
         requires room { self.old.used < most_entries }
-        ensures gives { IfOk result (λ act. IfSome (session_at number self.old) (λ s. act ≡ (step_of s action.old entry.now).act)) }
+        ensures gives { IfOk result
+            (λ act. IfSome (session_at number self.old) (λ s. act ≡ (step_of s action.old entry.now).act)) }
         ensures next { OnOk result (self.new ≡ all_acted number action.old entry.now self.old) }
         ensures limit { IfSome (session_at number self.old) (λ s. action.new ≡ (step_of s action.old entry.now).action) }
         ensures err { OnErr result (self.new ≡ self.old) }

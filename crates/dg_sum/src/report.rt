@@ -106,7 +106,8 @@ fn write_own_summary(
     board: &Bytes,
     tally: &Tally,
 ) -> Result<(), AllocError>
-    ensures { OnOk result (out.new ≡ out.old ++ (if nat_le 2 (length selection.now.boards) then board_summary selection.now.tool board.now tally.now else [])) }
+    ensures { OnOk result (out.new ≡ out.old ++
+        (if nat_le 2 (length selection.now.boards) then board_summary selection.now.tool board.now tally.now else [])) }
 {
     if selection.boards.len() < 2 {
         return Ok(());

@@ -14,3 +14,4 @@ pub mod Finding
 pub mod WordsLemmas
 pub mod SmallDigits
 pub mod DecodedLemmas
+pub mod KnownKinds

@@ -1,14 +1,16 @@
 -- Which lines may come after which, and the first bad line of a text.
 use Rattle.std.specs.Prelude.{◌≡◌, ℕ, suc, ◌+◌, ◌-◌, ◌==◌, nat_lt, nat_le, Bool, true, false, ◌&&◌, if◌then◌else◌, List, [], ◌∷◌, ◌++◌, length, take, slice_index, slice_get, count_by, codes, Option, Some, None, Result, Ok, Err}
+use Rattle.std.specs.List.{slice_split}
 use Rattle.bstr.specs.Text.{lines_of}
 use Rattle.dg_transcript.specs.declared.cause.Cause.{Cause}
 use Rattle.dg_transcript.specs.declared.cause.Cause.TheVariants as cause
+use Rattle.dg_transcript.specs.declared.line.Kind.{Kind}
 use Rattle.dg_transcript.specs.declared.line.Line.{Line}
 use Rattle.dg_transcript.specs.declared.line.Line.TheVariants as line
 use Rattle.dg_transcript.specs.declared.line.Place.{Place}
 use Rattle.dg_transcript.specs.declared.line.Place.TheVariants as place
 use Rattle.dg_transcript.specs.Order.{role_of, admits, opens_session, after_line}
-use Rattle.dg_transcript.specs.Fields.{◌>>=◌, read_line}
+use Rattle.dg_transcript.specs.Fields.{◌>>=◌, is_space, kind_of, read_line}
 use Rattle.dg_transcript.specs.Step.{same_bytes}
 use Rattle.dg_transcript.specs.declared.limits.TheConstants.{MAX_ENTRIES, MAX_SESSIONS}
 
@@ -51,6 +53,14 @@ ends_line text = nat_lt 0 (length text) && (slice_index text (length text - 1) =
 -- a line without its newline
 abbrev pub body : List ℕ → List ℕ
 body text = take (length text - 1) text
+
+-- the kind that the first of a line's fields names, if it names one
+abbrev pub kind_from : List (List ℕ) → Option Kind
+kind_from [] = None
+kind_from (word ∷ fields) = kind_of word
+
+abbrev pub kind_at : List ℕ → Option Kind
+kind_at text = kind_from (slice_split is_space (body text))
 
 -- what a line with its newline says at a place, or what is wrong with it
 unfoldable pub whole_line_at : Place → ℕ → ℕ → List ℕ → Result Line Cause

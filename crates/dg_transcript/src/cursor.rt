@@ -1,5 +1,6 @@
 //! A recorded session replayed, one entry at a time.
 ghost use Rattle.std.specs.Prelude.{◌≡◌, ◌<◌, ◌+◌, option_copied, Some, None, if◌then◌else◌};
+ghost use Rattle.dg_transcript.specs.declared.limits.TheConstants.{MAX_ENTRIES};
 ghost use Rattle.dg_transcript.specs.Step.{step, step_at, arrives, is_silent, gone_on};
 
 use crate::entry::Entry;
@@ -107,7 +108,7 @@ impl Cursor {
     }
 
     fn act_at(&mut self, action: &mut Action, entry: &Entry) -> Act
-        requires { self.old.place < 65536 }
+        requires { self.old.place < MAX_ENTRIES }
         ensures gives { result ≡ (step_at self.old action.old entry.now).act }
         ensures place { self.new ≡ (step_at self.old action.old entry.now).cursor }
         ensures limit { action.new ≡ (step_at self.old action.old entry.now).action }
@@ -123,7 +124,7 @@ impl Cursor {
 
     // A start: the child was started by these words, or failed to.
     fn spawn(&mut self, words: &Seq<Bytes>, entry: &Entry) -> Act
-        requires { self.old.place < 65536 }
+        requires { self.old.place < MAX_ENTRIES }
         ensures gives { result ≡ (step_at self.old (Action.Spawn words.now) entry.now).act }
         ensures place { self.new ≡ (step_at self.old (Action.Spawn words.now) entry.now).cursor }
         ensures action { Action.Spawn words.now ≡ (step_at self.old (Action.Spawn words.now) entry.now).action }
@@ -136,7 +137,7 @@ impl Cursor {
 
     // Bytes to be sent. Output and silences in front of the answer are passed over.
     fn send(&mut self, bytes: &Bytes, entry: &Entry) -> Act
-        requires { self.old.place < 65536 }
+        requires { self.old.place < MAX_ENTRIES }
         ensures gives { result ≡ (step_at self.old (Action.Send bytes.now) entry.now).act }
         ensures place { self.new ≡ (step_at self.old (Action.Send bytes.now) entry.now).cursor }
         ensures action { Action.Send bytes.now ≡ (step_at self.old (Action.Send bytes.now) entry.now).action }
@@ -150,7 +151,7 @@ impl Cursor {
 
     // The end of the session. Output and silences in front of the answer are passed over.
     fn close(&mut self, entry: &Entry) -> Act
-        requires { self.old.place < 65536 }
+        requires { self.old.place < MAX_ENTRIES }
         ensures gives { result ≡ (step_at self.old Action.Close entry.now).act }
         ensures place { self.new ≡ (step_at self.old Action.Close entry.now).cursor }
         ensures action { Action.Close ≡ (step_at self.old Action.Close entry.now).action }
@@ -164,7 +165,7 @@ impl Cursor {
 
     // The end of the child.
     fn wait(&mut self, entry: &Entry) -> Act
-        requires { self.old.place < 65536 }
+        requires { self.old.place < MAX_ENTRIES }
         ensures gives { result ≡ (step_at self.old Action.Wait entry.now).act }
         ensures place { self.new ≡ (step_at self.old Action.Wait entry.now).cursor }
         ensures action { Action.Wait ≡ (step_at self.old Action.Wait entry.now).action }
@@ -176,7 +177,7 @@ impl Cursor {
     }
 
     fn read(&mut self, limit: &mut u32, entry: &Entry) -> Act
-        requires { self.old.place < 65536 }
+        requires { self.old.place < MAX_ENTRIES }
         ensures gives { result ≡ (step_at self.old (Action.Read limit.old) entry.now).act }
         ensures place { self.new ≡ (step_at self.old (Action.Read limit.old) entry.now).cursor }
         ensures limit { Action.Read limit.new ≡ (step_at self.old (Action.Read limit.old) entry.now).action }
@@ -191,7 +192,7 @@ impl Cursor {
 
     // Bytes, or the end, come after a wait.
     fn arrives(&mut self, limit: &mut u32, wait: u32) -> Act
-        requires { self.old.place < 65536 }
+        requires { self.old.place < MAX_ENTRIES }
         ensures gives { result ≡ (arrives self.old limit.old wait).act }
         ensures place { self.new ≡ (arrives self.old limit.old wait).cursor }
         ensures limit { Action.Read limit.new ≡ (arrives self.old limit.old wait).action }
@@ -209,7 +210,7 @@ impl Cursor {
 
     // Nothing comes for a time.
     fn is_silent(&mut self, limit: &mut u32, wait: u32) -> Act
-        requires { self.old.place < 65536 }
+        requires { self.old.place < MAX_ENTRIES }
         ensures gives { result ≡ (is_silent self.old limit.old wait).act }
         ensures place { self.new ≡ (is_silent self.old limit.old wait).cursor }
         ensures limit { Action.Read limit.new ≡ (is_silent self.old limit.old wait).action }
@@ -229,7 +230,7 @@ impl Cursor {
     }
 
     fn answer_if(&mut self, fits: bool) -> Act
-        requires { self.old.place < 65536 }
+        requires { self.old.place < MAX_ENTRIES }
         ensures gives { result ≡ (if fits then Act.Answered else Act.Departed) }
         ensures place { self.new ≡ (if fits then gone_on self.old else self.old) }
     {
@@ -242,7 +243,7 @@ impl Cursor {
     }
 
     fn pass(&mut self) -> Act
-        requires { self.old.place < 65536 }
+        requires { self.old.place < MAX_ENTRIES }
         ensures gives { result ≡ Act.Wants (self.old.place + 1) }
         ensures place { self.new ≡ gone_on self.old }
     {
@@ -251,7 +252,7 @@ impl Cursor {
     }
 
     fn go_on(&mut self)
-        requires { self.old.place < 65536 }
+        requires { self.old.place < MAX_ENTRIES }
         ensures { self.new ≡ gone_on self.old }
     {
         self.place += 1;

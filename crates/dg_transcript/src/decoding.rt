@@ -7,6 +7,7 @@ ghost use Rattle.dg_transcript.specs.Limits.{IsTranscript};
 ghost use Rattle.dg_transcript.specs.Text.{text_of};
 ghost use Rattle.dg_transcript.specs.Sessions.{sessions_in};
 ghost use Rattle.dg_transcript.specs.declared.entry.Entry.{Entry};
+ghost use Rattle.dg_transcript.specs.declared.limits.TheConstants.{MAX_ENTRIES, MAX_SESSIONS};
 ghost use Rattle.dg_transcript.specs.Lines.{may_come, is_past, placed, whole_line_at, line_at, line_behind, body, ends_line, place_of, is_session, is_said, is_over, Say, Takes, IsFault};
 
 use crate::cause::Cause;
@@ -48,7 +49,7 @@ impl Model for Lines {
 
 // Whether a line may come at a place where so many sessions have begun.
 fn may_come(place: Place, sessions: u32, line: &Line) -> bool
-    requires { sessions < 65536 }
+    requires { sessions ≤ MAX_SESSIONS }
     ensures { result ≡ may_come place sessions line.now }
 {
     match line {
@@ -71,7 +72,7 @@ fn is_past(sessions: u32, entries: u32, line: &Line) -> bool
 }
 
 fn placed(place: Place, sessions: u32, entries: u32, line: Line) -> Result<Line, Cause>
-    requires { sessions < 65536 }
+    requires { sessions ≤ MAX_SESSIONS }
     ensures { Gives (λ l. l) result (placed place sessions entries line) }
 {
     if !may_come(place, sessions, &line) {
@@ -91,7 +92,7 @@ fn whole_line_at(
     entries: u32,
     text: &[u8],
 ) -> Result<Line, Cause>
-    requires few { sessions < 65536 }
+    requires few { sessions ≤ MAX_SESSIONS }
     requires some { 0 < length text.now }
     ensures { Gives (λ l. l) result (whole_line_at place sessions entries text.now) }
 {
@@ -119,7 +120,7 @@ fn line_at(
     entries: u32,
     text: &[u8],
 ) -> Result<Line, Cause>
-    requires { sessions < 65536 }
+    requires { sessions ≤ MAX_SESSIONS }
     ensures { Gives (λ l. l) result (line_at place sessions entries text.now) }
 {
     if text.is_empty() {
@@ -133,8 +134,8 @@ fn line_at(
 
 // The place behind a line, and how many sessions and entries there are with it.
 fn next_of(line: &Line, sessions: u32, entries: u32) -> (Place, u32, u32)
-    requires few_begun { sessions ≤ 64 }
-    requires few_said { entries ≤ 65536 }
+    requires few_begun { sessions ≤ MAX_SESSIONS }
+    requires few_said { entries ≤ MAX_ENTRIES }
     ensures { result ≡ next_of line.now sessions entries }
 {
     match line {

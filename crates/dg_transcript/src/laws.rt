@@ -1,12 +1,14 @@
 //! Laws of the text and of the replay, each the contract of a function that does nothing.
-ghost use Rattle.std.specs.Prelude.{◌≡◌, ◌+◌, ◌≤◌, ℕ, List, length, MatchResult};
+ghost use Rattle.bstr.specs.Text.{lines_of};
+ghost use Rattle.std.specs.Prelude.{◌≡◌, ◌+◌, ◌-◌, ◌≤◌, ℕ, List, length, slice_get, IsSome, IsSomeAnd, MatchResult};
 ghost use Rattle.dg_transcript.specs.declared.cursor.Cursor.{Cursor};
 ghost use Rattle.dg_transcript.specs.declared.cursor.Action.{Action};
 ghost use Rattle.dg_transcript.specs.Replay.{steps, replay};
 ghost use Rattle.dg_transcript.specs.declared.entry.Entry.{Entry};
+ghost use Rattle.dg_transcript.specs.declared.limits.TheConstants.{MAX_ENTRIES};
 ghost use Rattle.dg_transcript.specs.declared.cause.Cause.{Cause as Why};
 ghost use Rattle.dg_transcript.specs.Limits.{IsTranscript};
-ghost use Rattle.dg_transcript.specs.Lines.{IsFirstBad};
+ghost use Rattle.dg_transcript.specs.Lines.{IsFirstBad, kind_at};
 ghost use Rattle.dg_transcript.specs.Text.{text_of};
 ghost use Rattle.dg_transcript.specs.Decoded.{EachTextIsDecoded};
 
@@ -28,6 +30,12 @@ pub fn one_fault()
     ensures none { (ss : List (List Entry)) (n : ℕ) (why : Why) → IsTranscript ss → ¬ IsFirstBad (text_of ss) n why }
 {}
 
+/// A line that is bad by a field begins with the word of a kind: a line of no kind is never told as that.
+pub fn a_bad_field_is_of_a_known_kind()
+    ensures { (text : List ℕ) (n : ℕ) →
+        IsFirstBad text n Why.Field → IsSomeAnd (slice_get (lines_of text) (n - 1)) (λ line. IsSome (kind_at line)) }
+{}
+
 /// Each text spells just one transcript, or has just one first bad line, with one cause.
 pub fn each_text_is_decoded()
     ensures { EachTextIsDecoded }
@@ -37,7 +45,7 @@ pub fn each_text_is_decoded()
 /// chunk comes into the buffer.
 pub fn steps_are_replay()
     ensures { (add : List ℕ → List ℕ → List ℕ) (c : Cursor) (a : Action) (buffer : List ℕ) (es : List Entry) →
-        c.place + length es ≤ 65536 →
+        c.place + length es ≤ MAX_ENTRIES →
         steps add c a buffer es ≡ replay add a (record { entries = es; wait = c.wait; buffer = buffer }) }
 {}
 

@@ -10,7 +10,7 @@ use dg_bytes::{Bytes, Seq};
 /// The most sessions of a transcript.
 pub(crate) const MAX_SESSIONS: usize = 64;
 /// The most entries of a transcript.
-pub(crate) const MAX_ENTRIES: usize = 65_536;
+pub const MAX_ENTRIES: usize = 65_536;
 /// The most words of a start.
 pub const MAX_WORDS: usize = 64;
 /// The most bytes that are sent at once.

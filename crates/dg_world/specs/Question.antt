@@ -5,20 +5,20 @@ use Rattle.dg_match.specs.declared.reading.Reading.TheVariants.{Read, Syntax, To
 use Rattle.dg_world.specs.Entries.{same_entry}
 use Rattle.dg_world.specs.Script.{same}
 use Rattle.dg_world.specs.Test.{same_test}
-use Rattle.dg_world.specs.declared.question.Machine.{Machine}
-use Rattle.dg_world.specs.declared.question.Machine.TheVariants.{Target, Host, Build}
+use Rattle.dg_world.specs.declared.question.System.{System}
+use Rattle.dg_world.specs.declared.question.System.TheVariants.{Target, Host, Build}
 use Rattle.dg_world.specs.declared.question.EntryPlace.{EntryPlace}
 use Rattle.dg_world.specs.declared.question.Question.{Question}
 use Rattle.dg_world.specs.declared.question.Question.TheVariants.{File, Tool, Triplet, Variable, Entry, Pattern}
 use Rattle.dg_world.specs.declared.question.Answer.{Answer}
 use Rattle.dg_world.specs.declared.question.Answer.TheVariants as answer
 
--- whether two machines are the same
-abbrev pub same_machine : Machine → Machine → Bool
-same_machine Target Target = true
-same_machine Host Host = true
-same_machine Build Build = true
-same_machine _ _ = false
+-- whether two systems are the same
+abbrev pub same_system : System → System → Bool
+same_system Target Target = true
+same_system Host Host = true
+same_system Build Build = true
+same_system _ _ = false
 
 -- whether two places of entries are the same
 abbrev pub same_place : EntryPlace → EntryPlace → Bool
@@ -28,7 +28,7 @@ same_place a b = same_test a.test b.test && (a.session == b.session) && (a.place
 abbrev pub same_question : Question → Question → Bool
 same_question (File a) (File b) = same a b
 same_question Tool Tool = true
-same_question (Triplet a) (Triplet b) = same_machine a b
+same_question (Triplet a) (Triplet b) = same_system a b
 same_question (Variable a) (Variable b) = same a b
 same_question (Entry a) (Entry b) = same_place a b
 same_question (Pattern a) (Pattern b) = same a b
@@ -59,7 +59,7 @@ abbrev pub fits : Question → Answer → Bool
 fits (File n) answer.Absent = true
 fits (File n) (answer.Content bytes) = true
 fits Tool (answer.Tool name) = true
-fits (Triplet machine) (answer.Triplet triplet) = true
+fits (Triplet system) (answer.Triplet triplet) = true
 fits (Variable n) answer.Unset = true
 fits (Variable n) (answer.Value v) = true
 fits (Entry place) answer.Ended = true

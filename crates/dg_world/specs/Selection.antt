@@ -4,8 +4,8 @@ use Rattle.std.specs.List.{list_all, list_any}
 use Rattle.dg_world.specs.Name.{is_name, is_single_part}
 use Rattle.dg_world.specs.Script.{same, is_script, is_listed}
 use Rattle.dg_world.specs.Setting.{is_setting}
-use Rattle.dg_world.specs.declared.question.Machine.{Machine}
-use Rattle.dg_world.specs.declared.question.Machine.TheVariants.{Target, Host, Build}
+use Rattle.dg_world.specs.declared.question.System.{System}
+use Rattle.dg_world.specs.declared.question.System.TheVariants.{Target, Host, Build}
 use Rattle.dg_world.specs.declared.selection.Selection.{Selection}
 use Rattle.dg_world.specs.declared.setting.Setting.{Setting}
 use Rattle.dg_world.specs.declared.selection.TheConstants.{MAX_BOARDS, MAX_NAMES, MAX_SETTINGS}
@@ -46,8 +46,8 @@ first_selection =
       variables = [];
     }
 
--- the triplet of a machine
-abbrev pub triplet_of : Selection → Machine → List ℕ
+-- the triplet of a system
+abbrev pub triplet_of : Selection → System → List ℕ
 triplet_of s Target = s.target
 triplet_of s Host = s.host
 triplet_of s Build = s.build

@@ -78,7 +78,7 @@ entry_of w p = option_and_then (λ ss. entry_at ss p.session p.place) (transcrip
 abbrev pub look : WorldView → Question → Option Answer
 look w (File name) = Some (answer_of (content_of w name))
 look w Tool = Some (answer.Tool w.selection.tool)
-look w (Triplet machine) = Some (answer.Triplet (triplet_of w.selection machine))
+look w (Triplet system) = Some (answer.Triplet (triplet_of w.selection system))
 look w (Variable name) = Some (setting_answer (value_of w.selection.variables name))
 look w (Entry place) = Some (entry_answer (entry_of w place))
 look w (Pattern text) = option_map answer.Reading (reading_of w.book text)

@@ -12,7 +12,7 @@ mod world;
 
 pub use crate::edit::Edit;
 pub use crate::name::{Name, is_name, is_single_part};
-pub use crate::question::{Answer, EntryPlace, Machine, Question, Read};
+pub use crate::question::{Answer, EntryPlace, Question, Read, System};
 pub use crate::refusal::Refusal;
 pub use crate::selection::Selection;
 pub use crate::setting::{Setting, is_variable};

@@ -1,6 +1,6 @@
 //! What an evaluation may ask, and what it is told.
 ghost use Rattle.std.specs.Prelude.{◌≡◌, IfOk, IsTrue, ◌↔◌};
-ghost use Rattle.dg_world.specs.Question.{fits, same_answer, same_machine, same_place, same_question};
+ghost use Rattle.dg_world.specs.Question.{fits, same_answer, same_place, same_question, same_system};
 
 use crate::name::Name;
 use crate::test_id::TestId;
@@ -10,9 +10,9 @@ use dg_match::Reading;
 use dg_transcript::Entry;
 use std::alloc::{AllocError, Global};
 
-/// A machine of a run: the one that is tested for, the one that it is tested on, and the one that built it.
+/// A system of a run, as autoconf names them: the one that is tested for, the one that it is tested on, and the one that built it.
 #[derive(Clone, Copy, Debug, PartialEq, Eq, Hash)]
-pub enum Machine {
+pub enum System {
     Target,
     Host,
     Build,
@@ -38,8 +38,8 @@ pub enum Question {
     File(Name),
     /// Which tool is tested.
     Tool,
-    /// Which triplet a machine has.
-    Triplet(Machine),
+    /// Which triplet a system has.
+    Triplet(System),
     /// What the line of the run sets the global of this name to.
     Variable(Bytes),
     /// Which entry stands at a place of a transcript.
@@ -57,7 +57,7 @@ pub enum Answer {
     Content(Bytes),
     /// The tool.
     Tool(Bytes),
-    /// The triplet of the machine.
+    /// The triplet of the system.
     Triplet(Triplet),
     /// The line doesn't set the variable.
     Unset,
@@ -78,10 +78,10 @@ pub struct Read {
     pub answer: Answer,
 }
 
-impl Machine {
-    /// Whether these are the same machine.
-    fn is(self, other: Machine) -> bool
-        ensures { result ≡ same_machine self other }
+impl System {
+    /// Whether these are the same system.
+    fn is(self, other: System) -> bool
+        ensures { result ≡ same_system self other }
     {
         self == other
     }
@@ -126,7 +126,7 @@ impl Question {
         Ok(match self {
             Question::File(name) => Question::File(name.copy(alloc)?),
             Question::Tool => Question::Tool,
-            Question::Triplet(machine) => Question::Triplet(*machine),
+            Question::Triplet(system) => Question::Triplet(*system),
             Question::Variable(name) => Question::Variable(name.copy(alloc)?),
             Question::Entry(place) => Question::Entry(place.copy(alloc)?),
             Question::Pattern(text) => Question::Pattern(text.copy(alloc)?),

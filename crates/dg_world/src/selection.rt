@@ -1,4 +1,4 @@
-//! What is run: a tool, the boards, the machines, the scripts that are taken or left, and what variables are set to.
+//! What is run: a tool, the boards, the systems, the scripts that are taken or left, and what variables are set to.
 ghost use Rattle.std.specs.Prelude.{◌≡◌, IfOk, length, codes};
 ghost use Rattle.std.specs.Option.{option_copied};
 ghost use Rattle.std.specs.List.{list_all, list_any};
@@ -8,7 +8,7 @@ ghost use Rattle.dg_world.specs.Setting.{value_of};
 ghost use Rattle.dg_world.specs.Script.{first_part, last_part, is_reserved, is_script, is_listed, same};
 
 use crate::name::{is_name, is_single_part};
-use crate::question::Machine;
+use crate::question::System;
 use crate::setting::{self, Setting};
 use dg_boards::{Triplet, TripletFault};
 use dg_bytes::{Bytes, Seq, TryCopy, is_same};
@@ -20,7 +20,7 @@ const MAX_NAMES: usize = 4096;
 
 const MAX_SETTINGS: usize = 64;
 
-/// The triplet of each machine in a new world.
+/// The triplet of each system in a new world.
 const FIRST_TRIPLET: &[u8] = b"x86_64-pc-linux-gnu";
 
 /// What is run, as the command line of DejaGnu's `runtest` says it. A valid one has a tool of one part, 1 to 16 distinct
@@ -31,11 +31,11 @@ pub struct Selection {
     pub tool: Bytes,
     /// The boards, in the order in which they are run.
     pub boards: Seq<Bytes>,
-    /// The triplet of the machine that is tested for.
+    /// The triplet of the system that is tested for.
     pub target: Triplet,
-    /// The triplet of the machine that it is tested on.
+    /// The triplet of the system that it is tested on.
     pub host: Triplet,
-    /// The triplet of the machine that built it.
+    /// The triplet of the system that built it.
     pub build: Triplet,
     /// The scripts that are taken, by their name or its last part. None: all are.
     pub only: Seq<Bytes>,
@@ -63,7 +63,7 @@ impl Drop for Selection {
 impl Selection {
     ghost use Rattle.dg_world.specs.Selection.{first_selection, is_selected, is_selection, is_taken, triplet_of};
 
-    /// The selection of a new world: tool `t`, board `unix`, `x86_64-pc-linux-gnu` as each machine, all scripts, and no
+    /// The selection of a new world: tool `t`, board `unix`, `x86_64-pc-linux-gnu` as each system, all scripts, and no
     /// settings.
     pub fn of_new_world(alloc: Global) -> Result<Selection, AllocError>
         ensures { IfOk result (λ s. s ≡ first_selection) }
@@ -94,14 +94,14 @@ impl Selection {
             && are_settings(self.variables.as_slice())
     }
 
-    /// The triplet of a machine.
-    pub(crate) fn triplet(&self, machine: Machine) -> &Triplet
-        ensures { result.now ≡ triplet_of self.now machine }
+    /// The triplet of a system.
+    pub(crate) fn triplet(&self, system: System) -> &Triplet
+        ensures { result.now ≡ triplet_of self.now system }
     {
-        match machine {
-            Machine::Target => &self.target,
-            Machine::Host => &self.host,
-            Machine::Build => &self.build,
+        match system {
+            System::Target => &self.target,
+            System::Host => &self.host,
+            System::Build => &self.build,
         }
     }
 
@@ -146,7 +146,7 @@ impl Selection {
     }
 }
 
-/// The triplet of each machine in a new world.
+/// The triplet of each system in a new world.
 fn first_triplet(alloc: Global) -> Result<Triplet, AllocError>
     ensures { IfOk result (λ t. t ≡ codes "x86_64-pc-linux-gnu") }
 {

@@ -61,7 +61,8 @@ impl Model for World {
 
 /// The entry at a place of a transcript.
 fn entry_in<'a>(transcript: Option<&'a Transcript>, place: &EntryPlace) -> Option<&'a Entry>
-    ensures { option_copied result ≡ option_and_then (λ ss. entry_at ss place.now.session place.now.place) (option_copied transcript.entry) }
+    ensures { option_copied result ≡ option_and_then (λ ss. entry_at ss place.now.session place.now.place)
+        (option_copied transcript.entry) }
 {
     match transcript {
         Some(transcript) => transcript.entry(place.session, place.place),
@@ -216,7 +217,8 @@ impl World {
         text: Bytes,
     ) -> Result<(), Refusal>
         ensures ok { OnOk result (edited self.old (Edit.PutTranscript board script text) ≡ Ok self.new) }
-        ensures which { IfErr result (λ r. (r ≡ Refusal.Memory) ⊎ (edited self.old (Edit.PutTranscript board script text) ≡ Err r)) }
+        ensures which { IfErr result
+            (λ r. (r ≡ Refusal.Memory) ⊎ (edited self.old (Edit.PutTranscript board script text) ≡ Err r)) }
         ensures memory { (result ≡ Err Refusal.Memory) → IsTrue (takes_memory self.old (Edit.PutTranscript board script text)) }
         ensures err { OnErr result (self.new ≡ self.old) }
     {
@@ -272,8 +274,8 @@ impl World {
                 None => Ok(Some(Answer::Absent)),
             },
             Question::Tool => Ok(Some(Answer::Tool(self.selection.tool.copy(alloc)?))),
-            Question::Triplet(machine) => {
-                let triplet = self.selection.triplet(*machine);
+            Question::Triplet(system) => {
+                let triplet = self.selection.triplet(*system);
                 Ok(Some(Answer::Triplet(triplet.copy(alloc)?)))
             }
             Question::Variable(name) => match self.selection.value_of(name) {
@@ -305,8 +307,8 @@ impl World {
                 Answer::Tool(tool) => *tool == self.selection.tool,
                 _ => false,
             },
-            Question::Triplet(machine) => match answer {
-                Answer::Triplet(triplet) => *triplet == *self.selection.triplet(*machine),
+            Question::Triplet(system) => match answer {
+                Answer::Triplet(triplet) => *triplet == *self.selection.triplet(*system),
                 _ => false,
             },
             Question::Variable(name) => match (self.selection.value_of(name), answer) {

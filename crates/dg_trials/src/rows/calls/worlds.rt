@@ -3,7 +3,7 @@ use crate::rows::calls::text::{Line, Words, arg, text, yes};
 use dg_boards::{Triplet, TripletFault};
 use dg_bytes::{Bytes, Seq};
 use dg_world::{
-    Answer, Edit, Machine, Name, Question, Refusal, Selection, Setting, TestId, World, is_name,
+    Answer, Edit, Name, Question, Refusal, Selection, Setting, System, TestId, World, is_name,
     is_single_part, is_variable,
 };
 use std::alloc::{AllocError, Global};
@@ -56,12 +56,12 @@ fn add_answer(line: &mut Line, answer: &Answer) -> Result<(), AllocError> {
     }
 }
 
-/// The machine of a name.
-fn machine(name: &[u8]) -> Machine {
+/// The system of a name.
+fn system(name: &[u8]) -> System {
     match name {
-        b"target" => Machine::Target,
-        b"host" => Machine::Host,
-        _ => Machine::Build,
+        b"target" => System::Target,
+        b"host" => System::Host,
+        _ => System::Build,
     }
 }
 
@@ -73,7 +73,7 @@ fn question(
 ) -> Result<Option<Question>, AllocError> {
     match call {
         b"tool?" => Ok(Some(Question::Tool)),
-        b"triplet?" => Ok(Some(Question::Triplet(machine(words.take())))),
+        b"triplet?" => Ok(Some(Question::Triplet(system(words.take())))),
         b"variable?" => Ok(Some(Question::Variable(Bytes::from_slice(alloc, words.take())?))),
         b"file?" => match Name::new(alloc, words.take()) {
             Ok(name) => Ok(Some(Question::File(name))),
