@@ -6,12 +6,12 @@ use Rattle.dg_world.specs.declared.question.Question.{Question}
 use Rattle.dg_world.specs.declared.question.Answer.{Answer}
 use Rattle.dg_bench.specs.declared.call.Call.{Call}
 use Rattle.dg_bench.specs.History.{IsLegal, Makes, Steps}
-use Rattle.dg_bench.specs.Seen.{Seen, Told, Kept, seen_all, Begins, called, front}
+use Rattle.dg_bench.specs.Seen.{Seen, Told, Kept, seen_all, HasSeenBeginningOf, called, front}
 
 -- A call enters a history of at most `limit` calls: it is a step of the core, it stands last among the calls, which are legal, and the pass has then seen them all.
 pub record Enters (limit : ℕ) (old new : Kept) (pass later : Seen) (told : Told) (call : Call) : Type 0 where
   pub within : pass.count ≤ length old.calls
-  pub begins : Begins pass old.calls
+  pub begins : HasSeenBeginningOf pass old.calls
   pub room : length old.calls < limit
   pub running : old.stopped ≡ false
   pub goes_on : new.stopped ≡ false
@@ -24,7 +24,7 @@ pub record Enters (limit : ℕ) (old new : Kept) (pass later : Seen) (told : Tol
 -- A question that has an answer is no call of the history: nothing changes, and the answer is that of the world which the calls make that the pass has then seen.
 pub record Looks (old new : Kept) (pass later : Seen) (told : Told) (question : Question) (said : Answer) : Type 0 where
   pub within : pass.count ≤ length old.calls
-  pub begins : Begins pass old.calls
+  pub begins : HasSeenBeginningOf pass old.calls
   pub same : new ≡ old
   pub legal : IsLegal old.calls
   pub makes : Makes new_core old.calls old.core
@@ -36,7 +36,7 @@ pub record Looks (old new : Kept) (pass later : Seen) (told : Told) (question : 
 pub record IsMade (pass later : Seen) (told : Told) (call : Call) : Type 0 where
   pub before : List Call
   pub within : pass.count ≤ length before
-  pub begins : Begins pass before
+  pub begins : HasSeenBeginningOf pass before
   pub legal : IsLegal (before ++ call ∷ [])
   pub back : later ≡ seen_all (before ++ call ∷ [])
   pub receipt : told ≡ called (length before) call
@@ -45,7 +45,7 @@ pub record IsMade (pass later : Seen) (told : Told) (call : Call) : Type 0 where
 pub record IsLook (pass later : Seen) (told : Told) (question : Question) (said : Answer) : Type 0 where
   pub calls : List Call
   pub within : pass.count ≤ length calls
-  pub begins : Begins pass calls
+  pub begins : HasSeenBeginningOf pass calls
   pub legal : IsLegal calls
   pub core : CoreView
   pub makes : Makes new_core calls core

@@ -7,11 +7,11 @@ use Rattle.dg_bench.specs.declared.refusal.BenchRefusal.{BenchRefusal}
 use Rattle.dg_bench.specs.declared.refusal.BenchRefusal.TheVariants.{Shorter, HistoryFull, Edit, Memory}
 use Rattle.dg_bench.specs.declared.call.Call.{Call}
 use Rattle.dg_bench.specs.History.{IsLegal, Makes}
-use Rattle.dg_bench.specs.Seen.{Seen, Kept, seen_all, Begins}
+use Rattle.dg_bench.specs.Seen.{Seen, Kept, seen_all, HasSeenBeginningOf}
 
 -- a pass that comes back has seen all the calls, which begin with what it had seen
 abbrev pub SeesAll : Kept → Seen → Seen → Type 0
-SeesAll kept pass back = (pass.count ≤ length kept.calls) × (back ≡ seen_all kept.calls) × IsLegal kept.calls × Begins pass kept.calls
+SeesAll kept pass back = (pass.count ≤ length kept.calls) × (back ≡ seen_all kept.calls) × IsLegal kept.calls × HasSeenBeginningOf pass kept.calls
 
 -- What a refusal tells of a call that would enter the history of at most `limit` calls, and what it leaves. `cause`: when the core refuses the call.
 -- A pass that has seen more calls than there are is given back as it was.
@@ -33,7 +33,7 @@ RefusesBegun cause old new Memory = new ≡ old
 
 -- a pass that has since seen a legal list of calls, which begins with what it had seen
 abbrev pub SeesMore : Seen → Seen → Type 0
-SeesMore pass back = (back.ours ≡ true) × (back.count ≡ length back.calls) × (pass.count ≤ back.count) × IsLegal back.calls × Begins pass back.calls
+SeesMore pass back = (back.ours ≡ true) × (back.count ≡ length back.calls) × (pass.count ≤ back.count) × IsLegal back.calls × HasSeenBeginningOf pass back.calls
 
 -- there was a legal list of fewer calls than the pass has seen
 abbrev pub HasSeenMore : Seen → Type 0

@@ -76,8 +76,8 @@ abbrev pub seen_all : List Call → Seen
 seen_all calls = record { ours = true; count = length calls; calls = calls }
 
 -- these calls begin with all that a pass of this bench has seen
-abbrev pub Begins : Seen → List Call → Type 0
-Begins pass calls = pass.ours ≡ true → IsPrefix pass.calls calls
+abbrev pub HasSeenBeginningOf : Seen → List Call → Type 0
+HasSeenBeginningOf pass calls = pass.ours ≡ true → IsPrefix pass.calls calls
 
 -- the receipt of a call at this place
 abbrev pub called : ℕ → Call → Told

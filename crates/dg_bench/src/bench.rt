@@ -3,7 +3,7 @@ ghost use Rattle.std.specs.Prelude.{◌≡◌, ◌⊎◌, ◌≤◌, [], length,
 ghost use Rattle.once_cell.specs.Once.{cell_name};
 ghost use Rattle.dg_core.specs.Core.{edited_core, committed_live};
 ghost use Rattle.dg_bench.specs.History.{IsLegal};
-ghost use Rattle.dg_bench.specs.Seen.{Begins, seen_all};
+ghost use Rattle.dg_bench.specs.Seen.{HasSeenBeginningOf, seen_all};
 ghost use Rattle.dg_bench.specs.Made.{IsMade, IsLook};
 ghost use Rattle.dg_bench.specs.Refusals.{HasSeenMore, IsRefused, never};
 ghost use Rattle.dg_bench.specs.Work.{IsListed, IsRecalled};
@@ -202,7 +202,7 @@ impl<B: Room> Bench<B> {
     /// seen more calls.
     pub fn into_history(self, pass: &mut Pass<B>) -> Result<History, Bench<B>>
         ensures same { pass.new ≡ pass.old }
-        ensures history { IfOk result (λ h. IsLegal h × (pass.old.count ≤ length h) × Begins pass.old h) }
+        ensures history { IfOk result (λ h. IsLegal h × (pass.old.count ≤ length h) × HasSeenBeginningOf pass.old h) }
         ensures back { IfErr result (λ bench. (bench ≡ self) × HasSeenMore pass.old) }
     {
         let Bench { cells, locked } = self;

@@ -8,7 +8,7 @@ ghost use Rattle.dg_world.specs.declared.question.Answer.TheVariants.{Reading as
 ghost use Rattle.dg_bench.specs.declared.refusal.BenchRefusal.TheVariants.{HistoryFull};
 ghost use Rattle.dg_bench.specs.History.{IsLegal, Makes, Steps};
 ghost use Rattle.dg_bench.specs.Made.{Enters, Looks};
-ghost use Rattle.dg_bench.specs.Seen.{Begins, seen_all};
+ghost use Rattle.dg_bench.specs.Seen.{HasSeenBeginningOf, seen_all};
 ghost use Rattle.dg_bench.specs.Refusals.{Refuses, RefusesBegun, SeesAll, never};
 ghost use Rattle.dg_bench.specs.Work.{Lists, Recalls, tests_of};
 ghost use Rattle.dg_bench.specs.declared.call.Call.TheVariants.{Edit as edited, Ask as asked, Commit as committed, Live as lived, Report as reported};
@@ -92,7 +92,7 @@ impl<B: Room> Locked<B> {
         ensures same { self.new ≡ self.old }
         ensures seen { result ≡ seen_all self.old.calls }
         ensures legal { IsLegal self.old.calls }
-        ensures begins { Begins pass self.old.calls }
+        ensures begins { HasSeenBeginningOf pass self.old.calls }
     {
         let Locked { calls, notes, .. } = self;
         agree(notes, calls, pass);
@@ -582,7 +582,7 @@ impl<B: Room> Locked<B> {
     pub fn into_history(mut self, pass: &mut Pass<B>) -> Result<History, Locked<B>>
         ensures pass { pass.new ≡ pass.old }
         ensures ok { IfOk result (λ h. (h ≡ self.calls) × IsLegal h) }
-        ensures begins { OnOk result ((pass.old.count ≤ length self.calls) × Begins pass.old self.calls) }
+        ensures begins { OnOk result ((pass.old.count ≤ length self.calls) × HasSeenBeginningOf pass.old self.calls) }
         ensures err { IfErr result (λ l. (l ≡ self) × (length self.calls < pass.old.count) × IsLegal self.calls) }
     {
         if self.len() < pass.seen() {

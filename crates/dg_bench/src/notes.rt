@@ -5,7 +5,7 @@ ghost use Rattle.once_cell.specs.Once.{cell_name, Agrees};
 ghost use mathlib.Core.List.{IsPrefix};
 ghost use Rattle.dg_bench.specs.declared.place.Place.{Place};
 ghost use Rattle.dg_bench.specs.History.{IsLegal};
-ghost use Rattle.dg_bench.specs.Seen.{KnowsAll, Begins, seen_all, called};
+ghost use Rattle.dg_bench.specs.Seen.{KnowsAll, HasSeenBeginningOf, seen_all, called};
 
 use crate::call::Call;
 use crate::pass::Pass;

@@ -2,7 +2,7 @@
 use dg_bench::MakeGate;
 use dg_bytes::{Bytes, Seq};
 use dg_gate::{Ended, Gate, GateFault, Piece, Reply, ScriptGate};
-use dg_transcript::Code;
+use dg_transcript::ErrorCode;
 use std::alloc::{AllocError, Global};
 use std::collections::VecDeque;
 use std::sync::atomic::{AtomicU64, Ordering};
@@ -139,7 +139,7 @@ impl MakeGate for Deaf {
     fn make(&self, _worker: usize) -> Result<ScriptGate, AllocError> {
         let mut answers = VecDeque::new(self.alloc);
         answers.push_back(Reply::Started)?;
-        answers.push_back(Reply::Failed(Code::BrokenPipe))?;
+        answers.push_back(Reply::Failed(ErrorCode::BrokenPipe))?;
         Ok(ScriptGate::new(answers))
     }
 

@@ -1,31 +1,16 @@
 //! Triplets, which name a machine by its processor, its maker and its system.
 ghost use Rattle.std.specs.Prelude.{◌≡◌, ◌↔◌, Err, IfOk, OnOk, IsTrue, true, false, nat_eq, count_by, ◌==◌};
-ghost use Rattle.std.specs.List.{list_all};
 ghost use Rattle.std.specs.Cmp.Lexicographic.{pointwise, nat_list_eq_equiv};
 ghost use Rattle.std.specs.Cmp.{partial_equiv_from_equiv};
 ghost use Rattle.dg_boards.specs.Triplet as word;
 ghost use Rattle.dg_glob.specs.Glob.{Matches};
 
 use crate::fault::TripletFault;
-use dg_bytes::{Bytes, TryCopy};
+use dg_bytes::{Bytes, TryCopy, are_portable};
 use dg_glob::string_match;
 use std::alloc::{AllocError, Global};
 use std::fmt;
 use std::marker::Model;
-
-/// Whether the byte may stand in a triplet.
-fn is_part_byte(byte: u8) -> bool
-    ensures { result ≡ word.is_part_byte byte }
-{
-    matches!(byte, b'A'..=b'Z' | b'a'..=b'z' | b'0'..=b'9' | b'.' | b'_' | b'+' | b'-')
-}
-
-/// Whether each byte may stand in a triplet.
-fn are_part_bytes(text: &[u8]) -> bool
-    ensures { result ≡ list_all word.is_part_byte text.now }
-{
-    text.iter().all(|byte| is_part_byte(*byte))
-}
 
 /// How many bytes are `-`.
 fn dashes(text: &[u8]) -> usize
@@ -38,7 +23,7 @@ fn dashes(text: &[u8]) -> usize
 fn is_triplet(text: &[u8]) -> bool
     ensures { result ≡ word.is_triplet text.now }
 {
-    !text.is_empty() && text.len() <= 255 && are_part_bytes(text) && dashes(text) >= 2
+    !text.is_empty() && text.len() <= 255 && are_portable(text) && dashes(text) >= 2
 }
 
 /// The triplet of a machine, as `x86_64-pc-linux-gnu` (the DejaGnu manual, "Config names"): 1 to 255

@@ -4,3 +4,6 @@ pub mod Forms
 pub mod Canonical
 pub mod Added
 pub mod Growth
+pub mod Same
+pub mod Portable
+pub mod Chain

@@ -8,6 +8,7 @@ mod few;
 mod listed;
 mod measure;
 mod order;
+mod portable;
 mod seq;
 mod text;
 
@@ -15,5 +16,6 @@ pub use crate::bytes::{Bytes, Growth};
 pub use crate::copying::TryCopy;
 pub use crate::measure::behind_element;
 pub use crate::order::is_same;
+pub use crate::portable::are_portable;
 pub use crate::seq::Seq;
 pub use crate::text::Text;

@@ -2,7 +2,8 @@
 use Rattle.std.proofs.Common.{◌≡◌, ℕ, List, [], ◌∷◌, ◌++◌, length, refl, ap, ◌∙◌, Err, arith}
 use Rattle.std.specs.Prelude.{codes}
 use Rattle.dg_cmds.specs.declared.fault.CmdFault.TheVariants.{Tcl}
-use Rattle.dg_cmds.specs.Answers.{◌>>=◌, limited}
+use Rattle.dg_bytes.specs.Chain.{◌>>=◌}
+use Rattle.dg_cmds.specs.Answers.{limited}
 use Rattle.dg_cmds.specs.Formats.{with_parts, with_field}
 
 pub plain-step : (text part plain : List ℕ) (parts later rest values : List (List ℕ)) → parts ≡ part ∷ later → part ≡ [] → later ≡ plain ∷ rest

@@ -13,7 +13,8 @@ use Rattle.dg_cmds.specs.declared.field.Style.TheVariants as style
 use Rattle.dg_cmds.specs.declared.strings.Operation.{Operation}
 use Rattle.dg_cmds.specs.declared.strings.Operation.TheVariants as op
 use Rattle.dg_cmds.specs.declared.lists.Search.{Search}
-use Rattle.dg_cmds.specs.Answers.{Answer, Command, ◌>>=◌, given_by, limited, failed}
+use Rattle.dg_bytes.specs.Chain.{◌>>=◌}
+use Rattle.dg_cmds.specs.Answers.{Answer, Command, given_by, limited, failed}
 use Rattle.dg_cmds.specs.Bytes.{trimmed, trimmed_left, trimmed_right}
 use Rattle.dg_cmds.specs.Indices.{index_of, index_or_error, read_index}
 use Rattle.dg_cmds.specs.Numbers.{number_or_error, read_number}

@@ -27,12 +27,6 @@ abbrev pub given_by : List (List ℕ × Command) → List ℕ → List (List ℕ
 given_by [] name words = None
 given_by (row ∷ rows) name words = if pointwise nat_eq name row.0 then Some (row.1 words) else given_by rows name words
 
-infixl 10 ◌>>=◌
--- what is made of a value, if there is one
-abbrev pub ◌>>=◌ : {X Y : Type 0} → Result X CmdFault → (X → Result Y CmdFault) → Result Y CmdFault
-Ok x >>= more = more x
-Err f >>= more = Err f
-
 -- a value of a script has at most 1,048,576 bytes
 unfoldable pub limited : List ℕ → Answer
 limited v = if nat_le (length v) LONGEST then Ok v else Err TooLong

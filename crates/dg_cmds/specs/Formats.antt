@@ -10,7 +10,8 @@ use Rattle.dg_cmds.specs.declared.field.TheConstants.{PAST}
 use Rattle.dg_cmds.specs.declared.field.Field.{Field}
 use Rattle.dg_cmds.specs.declared.field.Style.{Style}
 use Rattle.dg_cmds.specs.declared.field.Style.TheVariants as style
-use Rattle.dg_cmds.specs.Answers.{Answer, ◌>>=◌, limited, wrong_count}
+use Rattle.dg_bytes.specs.Chain.{◌>>=◌}
+use Rattle.dg_cmds.specs.Answers.{Answer, limited, wrong_count}
 use Rattle.dg_cmds.specs.Bytes.{member, trimmed_left}
 use Rattle.dg_cmds.specs.Numbers.{read_number}
 

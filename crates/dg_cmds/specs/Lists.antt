@@ -11,10 +11,12 @@ use Rattle.dg_cmds.specs.declared.fault.CmdFault.{CmdFault}
 use Rattle.dg_cmds.specs.declared.fault.CmdFault.TheVariants.{Tcl}
 use Rattle.dg_cmds.specs.declared.lists.Search.{Search}
 use Rattle.dg_cmds.specs.declared.lists.Search.TheVariants as kind
-use Rattle.dg_cmds.specs.Answers.{Answer, Command, ◌>>=◌, failed, limited, place_text, quoted, wrong_count}
+use Rattle.dg_bytes.specs.Chain.{◌>>=◌}
+use Rattle.dg_cmds.specs.Answers.{Answer, Command, failed, limited, place_text, quoted, wrong_count}
 use Rattle.dg_cmds.specs.Bytes.{blanks, member, trimmed_left, trimmed_right}
 use Rattle.dg_cmds.specs.Indices.{part_of, read_index}
 use Rattle.dg_cmds.specs.Places.{glob_matches}
+use Rattle.dg_bytes.specs.Same.{same_bytes}
 
 -- the elements of a list, or the script error of a text that is none
 abbrev pub or_error : Result (List (List ℕ)) WordFault → Result (List (List ℕ)) CmdFault
@@ -78,15 +80,12 @@ split_of args = wrong_count (codes "split")
 abbrev pub search_of : (List ℕ → Bool) → List ℕ → Answer
 search_of test l = read_list l >>= λ xs. Ok (place_text (position test xs))
 
-abbrev pub same : List ℕ → List ℕ → Bool
-same = pointwise nat_eq
-
 -- how elements are tested, as a flag says
 abbrev pub search_named : List ℕ → Option Search
-search_named flag = if same flag (codes "-exact") then Some kind.Exact else if same flag (codes "-glob") then Some kind.Glob else None
+search_named flag = if same_bytes flag (codes "-exact") then Some kind.Exact else if same_bytes flag (codes "-glob") then Some kind.Glob else None
 
 abbrev pub passes : Search → List ℕ → List ℕ → Bool
-passes kind.Exact p x = same x p
+passes kind.Exact p x = same_bytes x p
 passes kind.Glob p x = glob_matches p x
 
 abbrev pub flagged_search : Option Search → List ℕ → List ℕ → List ℕ → Answer

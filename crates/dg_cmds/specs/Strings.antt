@@ -13,7 +13,8 @@ use Rattle.dg_cmds.specs.declared.strings.Case.{Case}
 use Rattle.dg_cmds.specs.declared.strings.Case.TheVariants as case
 use Rattle.dg_cmds.specs.declared.strings.Operation.{Operation}
 use Rattle.dg_cmds.specs.declared.strings.Operation.TheVariants as op
-use Rattle.dg_cmds.specs.Answers.{Answer, ◌>>=◌, limited, place_text, wrong_count}
+use Rattle.dg_bytes.specs.Chain.{◌>>=◌}
+use Rattle.dg_cmds.specs.Answers.{Answer, limited, place_text, wrong_count}
 use Rattle.dg_expr.specs.Truth.{truth_text}
 use Rattle.dg_cmds.specs.Bytes.{blanks, member, trimmed, trimmed_left, trimmed_right}
 use Rattle.dg_cmds.specs.Indices.{before, part_of, read_index, through}

@@ -13,8 +13,10 @@ use Rattle.dg_language.specs.declared.substitution.Purpose.TheVariants.{Load}
 use Rattle.dg_language.specs.Language.{used, evaluate}
 use Rattle.dg_language.specs.declared.substitution.Substitution.{Substitution}
 use Rattle.dg_language.specs.Control.{head_or_empty}
-use Rattle.dg_language.specs.Expressions.{host, operand_steps, or_fault}
-use Rattle.dg_language.specs.Evaluation.{Then, fail, if_done}
+use Rattle.dg_language.specs.Expressions.{host, or_fault}
+use Rattle.dg_language.specs.WordSteps.{operand_steps}
+use Rattle.dg_language.specs.Play.{Play}
+use Rattle.dg_language.specs.Evaluation.{Ending, Then, fail, if_done}
 use Rattle.dg_language.specs.State.{State}
 use Rattle.dg_compiled.specs.declared.computing.Computed.{Computed}
 use Rattle.dg_compiled.specs.declared.computing.Computed.TheVariants.{Value, Whole, Failed, Operand}
@@ -25,6 +27,7 @@ use Rattle.dg_compiled.specs.Computing.{Does, Instructs, Computes}
 use Rattle.dg_compiled.specs.Making.{making_on}
 use Rattle.dg_compiled.specs.Texts.{Makes}
 use Rattle.dg_compiled.proofs.ExpressionLemmas.{run-none, run-now, two-value, two-fault}
+use Rattle.dg_compiled.proofs.WordParts.{operand-loaded}
 use Rattle.dg_compiled.proofs.GatherLemmas.{gather-none}
 
 pub nothing : (xs : List Substitution) → length xs ≤ 0 → xs ≡ []
@@ -44,7 +47,9 @@ module _ (c : Calculation) (s : State) (pieces : List Piece) (left : List Substi
   pub operand-begins : (k : Then)
       → instructing c (code.Push pieces) s k ≡ making_on made c.depth s (if_done (λ v t. calculating_with (record c { passed = 0 }) v t k) k)
   unfolding run host
-  operand-begins k = sym (rw (b, e) at (same c.depth (if_done (λ v t. calculating_with (record c { passed = 0 }) v t k) k)))
+  operand-begins k =
+      let then : List ℕ → State → Play Ending = λ v t. calculating_with (record c { passed = 0 }) v t k in
+      sym (rw (b, e) at (same c.depth (if_done then k)) ∙ operand-loaded (evaluate c.depth) pieces s k then)
 
   -- an operand is made
   pub operand-made : made.purpose ≡ begun.purpose → length made.left ≤ 0 → (k : Then)
@@ -60,7 +65,9 @@ module _ (c : Calculation) (s : State) (pieces : List Piece) (left : List Substi
 pub operand-value : (c : Calculation) (s : State) (pieces : List Piece) (v : List ℕ) → Makes s (operand_steps pieces) v → (k : Then)
     → instructing c (code.Push pieces) s k ≡ calculating (record c { values = v ∷ c.values; passed = 0 }) s k
 unfolding run host
-operand-value c s pieces v h k = h c.depth (used (evaluate c.depth) Load) (if_done (λ u t. calculating_with (record c { passed = 0 }) u t k) k)
+operand-value c s pieces v h k =
+    let then : List ℕ → State → Play Ending = λ u t. calculating_with (record c { passed = 0 }) u t k in
+    sym (operand-loaded (evaluate c.depth) pieces s k then) ∙ h c.depth (used (evaluate c.depth) Load) (if_done then k)
 
 -- an instruction has ended an expression, or has come to an operand
 module _ (s : State) (first now last : Calculation) (same : (k : Then) → calculating now s k ≡ calculating first s k) (fewer : length now.left ≤ length first.left)

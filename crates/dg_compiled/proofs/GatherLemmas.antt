@@ -9,7 +9,8 @@ use Rattle.dg_language.specs.State.{State}
 use Rattle.dg_language.specs.Evaluation.{Ending, Then, fail, if_done, list_in}
 use Rattle.dg_language.specs.Variables.{touch, given, cannot_read, read_variable}
 use Rattle.dg_language.specs.Language.{evaluate}
-use Rattle.dg_language.specs.Words.{Act, longer, element, with_elements, gather}
+use Rattle.dg_language.specs.Words.{Act, longer, element, with_elements}
+use Rattle.dg_compiled.specs.Gathering.{gather}
 
 -- an error goes through what would be done after a good end
 pub fail-through : (message : List ℕ) (s : State) (f : List ℕ → State → Play Ending) (k : Then) → fail message s (if_done f k) ≡ fail message s k

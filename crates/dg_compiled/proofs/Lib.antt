@@ -1,5 +1,6 @@
 pub mod ScriptLemmas
 pub mod GatherLemmas
+pub mod WordParts
 pub mod TextLemmas
 pub mod ExpressionLemmas
 pub mod ComputingLemmas

@@ -12,7 +12,8 @@ use Rattle.dg_language.specs.Touch.{value_in_use}
 use Rattle.dg_language.specs.Variables.{given}
 use Rattle.dg_language.specs.Evaluation.{Ending, Then, if_done}
 use Rattle.dg_language.specs.Language.{evaluate, used}
-use Rattle.dg_language.specs.Words.{Act, gather, longer}
+use Rattle.dg_language.specs.Words.{Act, longer}
+use Rattle.dg_compiled.specs.Gathering.{gather}
 use Rattle.dg_language.proofs.TouchLemmas.{within-short, in-use}
 use Rattle.dg_compiled.specs.Source.{steps_at}
 use Rattle.dg_compiled.specs.Steps.{operand_in, steps_in}

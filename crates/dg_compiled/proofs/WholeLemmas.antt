@@ -13,7 +13,8 @@ use Rattle.dg_language.specs.declared.code.Code.TheVariants.{Done}
 use Rattle.dg_language.specs.declared.substitution.Substitution.{Substitution}
 use Rattle.dg_language.specs.State.{State}
 use Rattle.dg_language.specs.Evaluation.{Then}
-use Rattle.dg_language.specs.Expressions.{host, operand_steps, or_fault}
+use Rattle.dg_language.specs.Expressions.{host, or_fault}
+use Rattle.dg_language.specs.WordSteps.{operand_steps}
 use Rattle.dg_language.specs.Language.{evaluate}
 use Rattle.dg_expr.specs.Arithmetic.{GivesWhole}
 use Rattle.dg_compiled.specs.Texts.{Makes}

@@ -10,7 +10,7 @@ use Rattle.dg_words.specs.Piece.{Piece}
 use Rattle.dg_expr.specs.declared.code.Instruction.{Instruction}
 use Rattle.dg_expr.specs.declared.code.Instruction.TheVariants.{Push, ApplyOne, Apply, And, Or, Truth, Unless, Skip}
 use Rattle.dg_language.specs.declared.substitution.Substitution.{Substitution}
-use Rattle.dg_language.specs.Expressions.{operand_steps}
+use Rattle.dg_language.specs.WordSteps.{operand_steps}
 use Rattle.dg_language.specs.State.{State}
 use Rattle.dg_compiled.specs.Texts.{Makes}
 use Rattle.dg_compiled.specs.declared.instructions.Taken.{Taken}
@@ -61,5 +61,5 @@ Takes s old new None = (old ≡ []) × (new ≡ [])
 Takes s old new (Some taken) = (i : Instruction) × ((old ≡ i ∷ new) × IsTaken s i taken)
 
 -- how the instruction at a place is taken
-abbrev pub Begins : State → List Instruction → ℕ → Option Taken → Type 0
-Begins s code at taken = Takes s (drop at code) (drop (at + 1) code) taken
+abbrev pub TakesAt : State → List Instruction → ℕ → Option Taken → Type 0
+TakesAt s code at taken = Takes s (drop at code) (drop (at + 1) code) taken

@@ -1,3 +1,4 @@
+pub mod Gathering
 pub mod Script
 pub mod Source
 pub mod Steps

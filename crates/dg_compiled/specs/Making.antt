@@ -4,7 +4,7 @@ use Rattle.dg_language.specs.Play.{Play}
 use Rattle.dg_language.specs.State.{State}
 use Rattle.dg_language.specs.Evaluation.{Ending, Then}
 use Rattle.dg_language.specs.Language.{used, evaluate}
-use Rattle.dg_language.specs.Words.{gather}
+use Rattle.dg_compiled.specs.Gathering.{gather}
 use Rattle.dg_compiled.specs.declared.making.Making.{Making}
 
 -- the words of a command go on being made

@@ -8,7 +8,8 @@ use Rattle.dg_language.specs.Play.{Play}
 use Rattle.dg_language.specs.State.{State}
 use Rattle.dg_language.specs.Evaluation.{Ending, Then}
 use Rattle.dg_language.specs.Language.{command, commands_at, evaluate}
-use Rattle.dg_language.specs.Words.{gather, substitutions}
+use Rattle.dg_language.specs.WordSteps.{substitutions}
+use Rattle.dg_compiled.specs.Gathering.{gather}
 use Rattle.dg_compiled.specs.declared.script.WordSteps.{WordSteps}
 use Rattle.dg_compiled.specs.declared.script.WordSteps.TheVariants.{Read, Kept as KeptSteps}
 use Rattle.dg_compiled.specs.declared.script.Begun.{Begun}
@@ -38,8 +39,8 @@ Takes old new (Some (Made steps)) = (ws : List Word) × ((old ≡ Words ws ∷ n
 Takes old new (Some (NoSteps fault)) = (more : List Command) × (old ≡ Unreadable fault ∷ more)
 
 -- how the command at a place begins
-abbrev pub Begins : List Command → ℕ → Begun → Type 0
-Begins commands at begun = Takes (drop at commands) (drop (at + 1) commands) (Some begun)
+abbrev pub BeginsAt : List Command → ℕ → Begun → Type 0
+BeginsAt commands at begun = Takes (drop at commands) (drop (at + 1) commands) (Some begun)
 
 -- the command at a place has the steps of its words
 abbrev pub HasSteps : List Command → ℕ → List Substitution → Type 0

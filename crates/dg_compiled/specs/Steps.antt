@@ -5,8 +5,8 @@ use Rattle.dg_expr.specs.declared.code.Instruction.TheVariants.{Push, ApplyOne, 
 use Rattle.dg_language.specs.declared.command.Command.{Command}
 use Rattle.dg_language.specs.declared.command.Command.TheVariants.{Words, Unreadable}
 use Rattle.dg_language.specs.declared.substitution.Substitution.{Substitution}
-use Rattle.dg_language.specs.Expressions.{operand_steps}
-use Rattle.dg_language.specs.Words.{substitutions}
+use Rattle.dg_language.specs.WordSteps.{operand_steps}
+use Rattle.dg_language.specs.WordSteps.{substitutions}
 
 -- the steps in which the words of a command are made, if it can be read
 abbrev pub steps_in : Command → List Substitution

@@ -7,7 +7,8 @@ use Rattle.dg_language.specs.Play.{Play}
 use Rattle.dg_language.specs.State.{State}
 use Rattle.dg_language.specs.Evaluation.{Ending, Then}
 use Rattle.dg_language.specs.Language.{used, evaluate}
-use Rattle.dg_language.specs.Words.{Act, gather}
+use Rattle.dg_language.specs.Words.{Act}
+use Rattle.dg_compiled.specs.Gathering.{gather}
 use Rattle.dg_compiled.specs.declared.making.Making.{Making}
 
 -- words go on being made, by these steps in place of their own

@@ -10,7 +10,7 @@ use Rattle.dg_language.specs.declared.substitution.Substitution.{Substitution}
 use Rattle.dg_language.specs.declared.substitution.Substitution.TheVariants.{Literal, Script, WordEnds}
 use Rattle.dg_language.specs.Expressions.{code_in}
 use Rattle.dg_language.specs.Language.{commands_at}
-use Rattle.dg_language.specs.Words.{substitutions}
+use Rattle.dg_language.specs.WordSteps.{substitutions}
 use Rattle.dg_compiled.specs.declared.ways.Way.{Way}
 use Rattle.dg_compiled.specs.declared.ways.Way.TheVariants.{Setting, Counting, Computing, SettingComputed, Returning, Other}
 

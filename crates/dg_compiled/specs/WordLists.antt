@@ -9,7 +9,8 @@ use Rattle.dg_language.specs.Play.{Play}
 use Rattle.dg_language.specs.State.{State}
 use Rattle.dg_language.specs.Evaluation.{Ending, Then, fail}
 use Rattle.dg_language.specs.Language.{used, evaluate}
-use Rattle.dg_language.specs.Words.{gather, substitutions}
+use Rattle.dg_language.specs.WordSteps.{substitutions}
+use Rattle.dg_compiled.specs.Gathering.{gather}
 use Rattle.dg_compiled.specs.declared.word_lists.WordList.{WordList}
 use Rattle.dg_compiled.specs.declared.word_lists.WordList.TheVariants.{Words, Unreadable}
 

@@ -3,7 +3,8 @@ ghost use Rattle.std.specs.Prelude.{◌≡◌, ◌∷◌, List, IfOk, IfSome, On
 ghost use Rattle.dg_expr.specs.Code.{below, top};
 ghost use Rattle.dg_expr.specs.Truth.{truth_of};
 ghost use Rattle.dg_expr.specs.declared.code.Instruction.{Instruction as Step};
-ghost use Rattle.dg_language.specs.Expressions.{operand_steps, or_no_truth};
+ghost use Rattle.dg_language.specs.Expressions.{or_no_truth};
+ghost use Rattle.dg_language.specs.WordSteps.{operand_steps};
 ghost use Rattle.dg_words.specs.Piece.{Piece};
 ghost use Rattle.dg_compiled.specs.declared.computing.Computed.{Computed as TheComputed};
 ghost use Rattle.dg_compiled.specs.Computing.{Computes, Does, Instructs, Loads};

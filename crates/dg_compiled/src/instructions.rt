@@ -6,7 +6,7 @@ ghost use Rattle.dg_expr.specs.Reading.{tree_in};
 ghost use Rattle.dg_expr.specs.declared.code.Instruction.{Instruction as Step};
 ghost use Rattle.dg_words.specs.Piece.{Piece};
 ghost use Rattle.dg_language.specs.Expressions.{code_in};
-ghost use Rattle.dg_compiled.specs.Instructions.{Begins, IsBetween, IsOperand, Takes};
+ghost use Rattle.dg_compiled.specs.Instructions.{TakesAt, IsBetween, IsOperand, Takes};
 ghost use Rattle.dg_compiled.specs.Steps.{operand_in};
 ghost use Rattle.dg_compiled.specs.Wholes.{ComesToWhole};
 
@@ -230,7 +230,7 @@ fn take_at(
     at: usize,
 ) -> Result<Option<Taken>, AllocError>
     requires { steps.now ≡ map operand_in code.now }
-    ensures { IfOk result (Begins state.now code.now at) }
+    ensures { IfOk result (TakesAt state.now code.now at) }
 {
     if at >= code.len() {
         return Ok(None);

@@ -7,7 +7,7 @@ ghost use Rattle.dg_language.specs.Language.{commands_at};
 ghost use Rattle.dg_language.specs.declared.substitution.Purpose.{Purpose};
 ghost use Rattle.dg_compiled.specs.Making.{making_on};
 ghost use Rattle.dg_compiled.specs.Script.{HasSteps};
-ghost use Rattle.dg_compiled.specs.Script.{Begins, Reads, Takes, begins, steps_of};
+ghost use Rattle.dg_compiled.specs.Script.{BeginsAt, Reads, Takes, begins, steps_of};
 ghost use Rattle.dg_compiled.specs.Steps.{steps_in};
 ghost use Rattle.dg_compiled.specs.Ways.{HasWay};
 
@@ -269,7 +269,7 @@ fn commands_of(alloc: Global, text: &[u8]) -> Result<Seq<KeptCommand>, AllocErro
 /// How the command at a place begins.
 fn begin_at(commands: &Arc<Commands>, at: usize) -> Result<Begun, AllocError>
     requires { at < length (arc_value commands.now) }
-    ensures { IfOk result (Begins (arc_value commands.now) at) }
+    ensures { IfOk result (BeginsAt (arc_value commands.now) at) }
 {
     let kept = &commands.all.as_slice()[at];
     match &kept.command {

@@ -6,7 +6,7 @@ ghost use Rattle.dg_words.specs.declared.word.Word.{Word};
 ghost use Rattle.dg_scope.specs.Scopes.{value_limit};
 ghost use Rattle.dg_language.specs.Expressions.{code_in};
 ghost use Rattle.dg_language.specs.Language.{commands_at};
-ghost use Rattle.dg_language.specs.Words.{substitutions};
+ghost use Rattle.dg_language.specs.WordSteps.{substitutions};
 ghost use Rattle.dg_language.specs.declared.command.Command.{Command as TheCommand};
 ghost use Rattle.dg_language.specs.declared.substitution.Substitution.{Substitution as Step};
 ghost use Rattle.dg_compiled.specs.Ways.{HasWay, HasWord, IsCoded, IsExpr};

@@ -2,7 +2,7 @@
 ghost use Rattle.std.specs.Prelude.{◌≡◌, ◌∷◌, [], List, IfSome, map};
 ghost use Rattle.dg_expr.specs.declared.code.Instruction.{Instruction as Step};
 ghost use Rattle.dg_words.specs.Piece.{Piece};
-ghost use Rattle.dg_language.specs.Expressions.{operand_steps};
+ghost use Rattle.dg_language.specs.WordSteps.{operand_steps};
 ghost use Rattle.dg_language.specs.State.{State};
 ghost use Rattle.dg_compiled.specs.Steps.{operand_in};
 ghost use Rattle.dg_compiled.specs.Wholes.{Advances, Combines, ComesToWhole, MakesWhole};

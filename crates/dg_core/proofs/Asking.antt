@@ -10,7 +10,7 @@ use Rattle.dg_world.specs.declared.question.Answer.{Answer}
 use Rattle.dg_world.specs.declared.question.Read.{Read}
 use Rattle.dg_world.specs.declared.test_id.TestId.{TestId}
 use Rattle.dg_language.specs.declared.ask.Ask.{Ask}
-use Rattle.dg_language.specs.Play.{Play, Ends, Asks, Source, heard, lookup, end_of, Gives, Leads, reads_in, read_on}
+use Rattle.dg_language.specs.Play.{Play, Ends, Asks, Source, heard, lookup, end_of, GivesEach, Leads, reads_in, read_on}
 use Rattle.dg_language.specs.Evaluation.{Ending}
 use Rattle.dg_language.specs.Judge.{judge, verdict_in, verdict_of}
 use Rattle.dg_language.proofs.Sources.{run-leads, leads_more}
@@ -36,7 +36,7 @@ some≢none : {A : Type 0} (a : A) → Some a ≡ None → ⊥
 some≢none a h = cc
 
 -- reads that the source gave, and where they led to, are the first of all reads
-pub reads-along : {A : Type 0} (p : Play A) (source : Source) (reads : List Read) (rest : Play A) → Leads p reads rest → Gives source reads
+pub reads-along : {A : Type 0} (p : Play A) (source : Source) (reads : List Read) (rest : Play A) → Leads p reads rest → GivesEach source reads
     → reads_in source p ≡ reads ++ reads_in source rest
 reads-along p source [] rest l g = ap (reads_in source) l
 reads-along (Ends a) source (r ∷ rs) rest l g = absurd l
@@ -52,7 +52,7 @@ left-along p [] rest l = l
 left-along (Ends a) (r ∷ rs) rest l = absurd l
 left-along (Asks q k) (r ∷ rs) rest l = left-along (k r.answer) rs rest l.2
 
-pub gives-more : (source : Source) (rs : List Read) (r : Read) → Gives source rs → heard r.question (source r.question) ≡ Some r.answer → Gives source (rs ++ r ∷ [])
+pub gives-more : (source : Source) (rs : List Read) (r : Read) → GivesEach source rs → heard r.question (source r.question) ≡ Some r.answer → GivesEach source (rs ++ r ∷ [])
 gives-more source [] r h e = (e, tt)
 gives-more source (x ∷ rs) r h e = (h.0, gives-more source rs r h.1 e)
 
@@ -86,13 +86,13 @@ told-first w t j is =
       live = ap (λ (x : JobView). x.live) is;
       failed = ap (λ (x : JobView). x.failed) is;
       asked = ap (λ (x : JobView). x.asked) is;
-      gives = subst (Gives (answers_of w)) (sym (ap (λ (x : JobView). x.reads) is)) tt;
+      gives = subst (GivesEach (answers_of w)) (sym (ap (λ (x : JobView). x.reads) is)) tt;
       rest = judge t;
       leads = subst (λ rs. Leads (judge t) rs (judge t)) (sym (ap (λ (x : JobView). x.reads) is)) refl;
     }
 
 -- the record of a job that has ended is the record of its test in that world
-record-ended : (w : WorldView) (t : TestId) (reads : List Read) (e : Ending) (r : RecordView) → HasEnded t reads e → Gives (answers_of w) reads
+record-ended : (w : WorldView) (t : TestId) (reads : List Read) (e : Ending) (r : RecordView) → HasEnded t reads e → GivesEach (answers_of w) reads
     → r.test ≡ t → r.reads ≡ reads → r.verdict ≡ e.verdict → Judges w t r
 unfolding record_in
 record-ended w t reads e r h g et er ev =
@@ -207,11 +207,11 @@ stops-fails before w old mid new q a f s asked h =
     subst (λ t. Fails w t f) s.same (refuses-fails before.world w s.last mid new q a f (subst (λ t. IsTold before.world t s.last) (sym s.same) s.told) s.advances asked h)
 
 -- what a source gives, one list after another
-gives-both : (source : Source) (xs ys : List Read) → Gives source xs → Gives source ys → Gives source (xs ++ ys)
+gives-both : (source : Source) (xs ys : List Read) → GivesEach source xs → GivesEach source ys → GivesEach source (xs ++ ys)
 gives-both source [] ys g h = h
 gives-both source (x ∷ xs) ys g h = (g.0, gives-both source xs ys g.1 h)
 
-gives-given : (source : Source) (holds : Question → Answer → Type 0) (rs : List Read) → AreGiven source holds rs → Gives source rs
+gives-given : (source : Source) (holds : Question → Answer → Type 0) (rs : List Read) → AreGiven source holds rs → GivesEach source rs
 gives-given source holds [] g = tt
 gives-given source holds (r ∷ rs) g = (g.0, gives-given source holds rs g.2)
 
@@ -221,7 +221,7 @@ asks-given k [] g = refl
 asks-given k (r ∷ rs) g = (k, asked-looked k r.question r.answer (sym (heard-look k.world r.question) ∙ g.0) g.1, asks-given k rs g.2)
 
 -- answers leave at most as many questions
-bound-along : {A : Type 0} (w : WorldView) (p : Play A) (rs : List Read) (rest : Play A) → Leads p rs rest → Gives (answers_of w) rs → bound w rest ≤ bound w p
+bound-along : {A : Type 0} (w : WorldView) (p : Play A) (rs : List Read) (rest : Play A) → Leads p rs rest → GivesEach (answers_of w) rs → bound w rest ≤ bound w p
 bound-along w p [] rest l g = let e = ap (bound w) l in omega (arith, e)
 bound-along w (Ends a) (r ∷ rs) rest l g = absurd l
 bound-along w (Asks q k) (r ∷ rs) rest l g =
@@ -238,7 +238,7 @@ leads-behind (Asks q k) (r ∷ rs) more mid rest l m = leads-behind (k r.answer)
 
 -- turns that are told in a row leave at most as many
 fewer-along : (w : WorldView) (t : TestId) (reads more : List Read) (mid rest : Play Ending) → Leads (judge t) reads mid → Leads (judge t) (reads ++ more) rest
-    → Gives (answers_of w) more → turns_left w t (reads ++ more) ≤ turns_left w t reads
+    → GivesEach (answers_of w) more → turns_left w t (reads ++ more) ≤ turns_left w t reads
 unfolding turns_left
 fewer-along w t reads more mid rest l m g =
     let here = ap (bound w) (left-along (judge t) reads mid l) in

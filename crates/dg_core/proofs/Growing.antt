@@ -19,7 +19,7 @@ use Rattle.dg_world.specs.Question.{fits}
 use Rattle.dg_world.specs.declared.test_id.TestId.{TestId}
 use Rattle.dg_results.specs.declared.verdict.Line.{Line}
 use Rattle.dg_language.specs.declared.ask.Ask.{Ask}
-use Rattle.dg_language.specs.Play.{Play, Ends, Asks, Source, Coming, Over, Needs, run, on_answer, end_of, heard, Gives, reads_in, read_on}
+use Rattle.dg_language.specs.Play.{Play, Ends, Asks, Source, Coming, Over, Needs, run, on_answer, end_of, heard, GivesEach, reads_in, read_on}
 use Rattle.dg_language.specs.Evaluation.{Ending}
 use Rattle.dg_language.specs.Judge.{judge, verdict_of}
 use Rattle.dg_language.proofs.Sources.{run_more}
@@ -77,7 +77,7 @@ look-more w more (Pattern text) a h = step (reading_of w.book text) refl h
 pub grown-look : (old new : WorldView) → IsGrown old new → (q : Question) (a : Answer) → look old q ≡ Some a → look new q ≡ Some a
 grown-look old new g q a h = ap (λ (w : WorldView). look w q) g.1 ∙ look-more old g.0 q a h
 
-pub grown-gives : (old new : WorldView) → IsGrown old new → (rs : List Read) → Gives (answers_of old) rs → Gives (answers_of new) rs
+pub grown-gives : (old new : WorldView) → IsGrown old new → (rs : List Read) → GivesEach (answers_of old) rs → GivesEach (answers_of new) rs
 grown-gives old new g [] h = tt
 grown-gives old new g (r ∷ rs) h = (
   heard-look new r.question ∙ grown-look old new g r.question r.answer (sym (heard-look old r.question) ∙ h.0),

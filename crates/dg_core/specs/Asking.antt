@@ -5,7 +5,7 @@ use Rattle.dg_world.specs.declared.question.Read.{Read}
 use Rattle.dg_world.specs.declared.test_id.TestId.{TestId}
 use Rattle.dg_results.specs.declared.verdict.Line.{Line}
 use Rattle.dg_language.specs.Evaluation.{Ending}
-use Rattle.dg_language.specs.Play.{Play, Gives, Leads, reads_in}
+use Rattle.dg_language.specs.Play.{Play, GivesEach, Leads, reads_in}
 use Rattle.dg_language.specs.Judge.{judge, verdict_in}
 use Rattle.dg_records.specs.Truth.{RecordView, answers_of}
 use Rattle.dg_eval.specs.Lost.{HasReadPattern}
@@ -33,7 +33,7 @@ pub record IsTold (w : WorldView) (t : TestId) (j : JobView) : Type 0 where
   pub live : j.live ≡ true
   pub failed : j.failed ≡ false
   pub asked : j.asked ≡ None
-  pub gives : Gives (answers_of w) j.reads
+  pub gives : GivesEach (answers_of w) j.reads
   pub rest : Play Ending
   pub leads : Leads (judge t) j.reads rest
 

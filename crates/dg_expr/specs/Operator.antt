@@ -16,6 +16,7 @@ use Rattle.dg_expr.specs.declared.operator.Prefix.{Prefix}
 use Rattle.dg_expr.specs.declared.operator.Prefix.TheVariants as before
 use Rattle.dg_expr.specs.Number.{number_of, decimal_text}
 use Rattle.dg_expr.specs.Truth.{truth_of, truth_text}
+use Rattle.dg_bytes.specs.Same.{same_bytes}
 
 -- a text, or one fault
 abbrev pub Value : Type 0
@@ -77,12 +78,9 @@ abbrev pub order_of : List ℕ → List ℕ → Ordering
 order_of a b = order_by (number_of a) (number_of b) (slice_cmp nat_cmp a b)
 
 -- the same text
-abbrev pub is_same : List ℕ → List ℕ → Bool
-is_same a b = pointwise nat_eq a b
-
 -- whether a list has an equal element
 abbrev pub found_in : Result (List (List ℕ)) WordFault → List ℕ → (Bool → Bool) → Value
-found_in (Ok elements) a f = truth_value (f (list_any (λ x. is_same x a) elements))
+found_in (Ok elements) a f = truth_value (f (list_any (λ x. same_bytes x a) elements))
 found_in (Err fault) a f = Err (BadList fault)
 
 -- the truth of a text
@@ -116,8 +114,8 @@ value_of between.LessOrEqual a b = truth_value (not (is_gt (order_of a b)))
 value_of between.GreaterOrEqual a b = truth_value (not (is_lt (order_of a b)))
 value_of between.Equal a b = truth_value (is_eq (order_of a b))
 value_of between.NotEqual a b = truth_value (not (is_eq (order_of a b)))
-value_of between.SameText a b = truth_value (is_same a b)
-value_of between.OtherText a b = truth_value (not (is_same a b))
+value_of between.SameText a b = truth_value (same_bytes a b)
+value_of between.OtherText a b = truth_value (not (same_bytes a b))
 value_of between.In a b = found_in (elements_of b) a (λ t. t)
 value_of between.NotIn a b = found_in (elements_of b) a not
 value_of between.BitAnd a b = of_wholes (λ x y. number_value (int_bit_and w64 x y)) a b

@@ -14,7 +14,7 @@ use Rattle.dg_expr.specs.declared.token.Lexeme.{Lexeme}
 use Rattle.dg_expr.specs.declared.token.Token.{Token}
 use Rattle.dg_expr.specs.declared.token.Token.TheVariants as token
 use Rattle.dg_expr.specs.Number.{is_space}
-use Rattle.dg_expr.specs.Operator.{is_same}
+use Rattle.dg_bytes.specs.Same.{same_bytes}
 use Rattle.dg_expr.specs.Truth.{word_truth}
 
 abbrev pub is_letter : ℕ → Bool
@@ -97,10 +97,10 @@ truth_operand w (Some t) = Some (text_operand w)
 
 abbrev pub word_token : List ℕ → Option Token
 word_token w =
-    if is_same w (codes "eq") then Some (token.Infix between.SameText) else
-    if is_same w (codes "ne") then Some (token.Infix between.OtherText) else
-    if is_same w (codes "in") then Some (token.Infix between.In) else
-    if is_same w (codes "ni") then Some (token.Infix between.NotIn) else truth_operand w (word_truth w)
+    if same_bytes w (codes "eq") then Some (token.Infix between.SameText) else
+    if same_bytes w (codes "ne") then Some (token.Infix between.OtherText) else
+    if same_bytes w (codes "in") then Some (token.Infix between.In) else
+    if same_bytes w (codes "ni") then Some (token.Infix between.NotIn) else truth_operand w (word_truth w)
 
 -- one word of the language; a dollar sign has to begin a variable
 abbrev pub is_text : List Piece → Bool

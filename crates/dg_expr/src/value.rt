@@ -5,7 +5,8 @@ ghost use Rattle.std.specs.List.{list_any};
 ghost use Rattle.dg_lists.specs.Elements.{elements_of};
 ghost use Rattle.dg_expr.specs.Answers.{Computes, Gives, IsNotWhole};
 ghost use Rattle.dg_expr.specs.Number.{decimal_text, number_of};
-ghost use Rattle.dg_expr.specs.Operator.{and_then, denied, divided, found_in, is_same, number_value, of_whole, of_wholes, or_else, order_of, quotient, remainder, shifted_left, shifted_right, truly, truth_value, value_of, value_of_one};
+ghost use Rattle.dg_expr.specs.Operator.{and_then, denied, divided, found_in, number_value, of_whole, of_wholes, or_else, order_of, quotient, remainder, shifted_left, shifted_right, truly, truth_value, value_of, value_of_one};
+ghost use Rattle.dg_bytes.specs.Same.{same_bytes};
 ghost use Rattle.dg_expr.specs.Truth.{truth_of};
 
 use crate::boolean::{truth, truth_text};
@@ -222,7 +223,7 @@ fn order(left: &[u8], right: &[u8]) -> Ordering
 
 /// Whether one of some texts is this one.
 fn has(texts: &[Bytes], text: &[u8]) -> bool
-    ensures { result ≡ list_any (λ x. is_same x text.now) texts.now }
+    ensures { result ≡ list_any (λ x. same_bytes x text.now) texts.now }
 {
     texts.iter().any(|one| one.as_slice() == text)
 }

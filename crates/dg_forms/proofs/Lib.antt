@@ -7,3 +7,4 @@ pub mod ExpressionLemmas
 pub mod PairLemmas
 pub mod SessionLemmas
 pub mod OutputLemmas
+pub mod StepLemmas

@@ -2,10 +2,11 @@
 use Rattle.std.proofs.Common.{◌≡◌, ℕ, true, false, List, ◌∷◌, ap, sym, ◌∙◌}
 use Rattle.std.specs.Prelude.{Option, Some, codes}
 use Rattle.dg_language.specs.declared.switch.Matching.{Matching}
-use Rattle.dg_language.specs.Switching.{body_for, first_body, is, pairs_fault, takes}
+use Rattle.dg_language.specs.Switching.{body_for, first_body, pairs_fault, takes}
+use Rattle.dg_bytes.specs.Same.{same_bytes}
 
 -- a body that is `-`
-pub body-shared : (words : List (List ℕ)) (b p : List ℕ) (behind more : List (List ℕ)) → words ≡ b ∷ behind → behind ≡ p ∷ more → is b (codes "-") ≡ true
+pub body-shared : (words : List (List ℕ)) (b p : List ℕ) (behind more : List (List ℕ)) → words ≡ b ∷ behind → behind ≡ p ∷ more → same_bytes b (codes "-") ≡ true
     → first_body words ≡ first_body more
 unfolding first_body
 body-shared words b p behind more e f t =

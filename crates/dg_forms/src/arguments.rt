@@ -2,7 +2,7 @@
 ghost use Rattle.std.specs.Prelude.{◌≡◌, ◌∷◌, [], IfOk, MatchOption, None};
 ghost use Rattle.std.specs.Option.{option_copied};
 ghost use Rattle.dg_language.specs.Arguments.{only, two, three, four};
-ghost use Rattle.dg_language.specs.Switching.{is};
+ghost use Rattle.dg_bytes.specs.Same.{same_bytes};
 
 use dg_bytes::{Bytes, TryCopy};
 use std::alloc::{AllocError, Global};
@@ -20,7 +20,7 @@ pub fn split<T>(items: &[T]) -> Option<(&T, &[T])>
 /// Whether a name is this word. Most names differ from most words in the first byte.
 #[inline(always)]
 pub(crate) fn is_word(name: &[u8], word: &[u8]) -> bool
-    ensures { result ≡ is name.now word.now }
+    ensures { result ≡ same_bytes name.now word.now }
 {
     match (name, word) {
         ([first, rest @ ..], [letter, others @ ..]) => *first == *letter && rest == others,

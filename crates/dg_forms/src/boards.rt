@@ -3,7 +3,6 @@ ghost use Rattle.std.specs.Prelude.{◌≡◌, ◌++◌, ◌&&◌, IfOk};
 ghost use Rattle.std.specs.List.{list_any};
 ghost use Rattle.dg_cmds.specs.Places.{glob_matches};
 ghost use Rattle.dg_language.specs.Boards.{content_of, do_board_info, do_load_generic_config, do_set_board_info, do_target_info, do_unset_board_info, flag_call, is_pattern, library_file, no_library, told_of, triplet_of};
-ghost use Rattle.dg_language.specs.Calls.{call_of};
 ghost use Rattle.dg_language.specs.Judge.{board_file, tool_library, tool_of};
 
 use crate::arguments::{only, split, two};
@@ -13,7 +12,8 @@ use crate::switch::is;
 use dg_bytes::{Bytes, TryCopy};
 use dg_cmds::glob_matches;
 use dg_expr::truth_text;
-use dg_language::{Change, Completion, FlagCommand, ResultCall, State};
+use dg_language::{Change, Completion, FlagCommand, State};
+use dg_results::ResultCall;
 use dg_world::Answer;
 use std::alloc::{AllocError, Global};
 
@@ -220,7 +220,7 @@ pub fn is_flagged(target: &[u8], args: &[Bytes]) -> bool
 
 /// The call that a command on flags makes.
 pub fn flag_call(which: FlagCommand) -> ResultCall
-    ensures { call_of result ≡ flag_call which }
+    ensures { result ≡ flag_call which }
 {
     match which {
         FlagCommand::SetupXfail => ResultCall::SetupXfail,

@@ -7,7 +7,8 @@ use crate::arguments::{only, split};
 use crate::completing::{does, miscounted};
 use dg_bytes::{Bytes, TryCopy};
 use dg_expr::number;
-use dg_language::{Change, Completion, ResultCall, ResultCommand};
+use dg_language::{Change, Completion, ResultCommand};
+use dg_results::ResultCall;
 use std::alloc::{AllocError, Global};
 
 /// The most that a count may be set to.

@@ -1,7 +1,7 @@
 //! The steps in which the words of a command are made.
-ghost use Rattle.std.specs.Prelude.{◌≡◌, ◌++◌, ◌∷◌, map, length, IfOk, OnOk};
-ghost use Rattle.dg_language.specs.Words.{substitution_of, substitutions, ending_of};
-ghost use Rattle.dg_language.specs.Expressions.{operand_steps};
+ghost use Rattle.std.specs.Prelude.{◌≡◌, ◌++◌, ◌∷◌, [], IfOk, OnOk};
+ghost use Rattle.dg_language.specs.Words.{nested_in};
+ghost use Rattle.dg_language.specs.WordSteps.{AddsSteps, ending_of, operand_steps, part_steps, substitutions};
 ghost use Rattle.dg_words.specs.Parts.{pieces_of_part};
 
 use dg_bytes::{Seq, TryCopy};
@@ -12,7 +12,7 @@ use std::alloc::{AllocError, Global};
 /// Adds the steps of one part.
 #[cycle(parts)]
 fn push_part(alloc: Global, steps: &mut Seq<Substitution>, part: &Part) -> Result<(), AllocError>
-    ensures { OnOk result (steps.new ≡ steps.old ++ map substitution_of (pieces_of_part part.now)) }
+    ensures { OnOk result (AddsSteps steps.old steps.new (pieces_of_part part.now)) }
 {
     match part {
         Part::Text(text) => steps.push(Substitution::Literal(text.copy(alloc)?))?,
@@ -30,7 +30,7 @@ fn push_part(alloc: Global, steps: &mut Seq<Substitution>, part: &Part) -> Resul
 /// Adds the steps of parts, one after another.
 #[cycle(parts)]
 fn push_parts(alloc: Global, steps: &mut Seq<Substitution>, parts: &Parts) -> Result<(), AllocError>
-    ensures { OnOk result (steps.new ≡ steps.old ++ map substitution_of parts.now) }
+    ensures { OnOk result (AddsSteps steps.old steps.new parts.now) }
 {
     for part in parts.as_slice() {
         push_part(alloc, steps, part)?;
@@ -49,14 +49,27 @@ fn ending_of(expand: bool) -> Substitution
     }
 }
 
+/// Adds the steps of a word of these parts, and its end.
+fn push_word(
+    alloc: Global,
+    steps: &mut Seq<Substitution>,
+    parts: &Parts,
+    end: Substitution,
+) -> Result<(), AllocError>
+    ensures { OnOk result (steps.new ≡ steps.old ++ part_steps (nested_in parts.now) ++ end ∷ []) }
+{
+    push_parts(alloc, steps, parts)?;
+    steps.push(end)?;
+    Ok(())
+}
+
 /// The steps in which these words are made.
 pub fn substitutions_of(alloc: Global, words: &[Word]) -> Result<Queue<Substitution>, AllocError>
     ensures { IfOk result (λ q. q ≡ substitutions words.now) }
 {
     let mut steps = Seq::new(alloc);
     for word in words {
-        push_parts(alloc, &mut steps, &word.parts)?;
-        steps.push(ending_of(word.expand))?;
+        push_word(alloc, &mut steps, &word.parts, ending_of(word.expand))?;
     }
     Ok(Queue::new(steps.into_vec()))
 }
@@ -66,7 +79,6 @@ pub fn operand_of(alloc: Global, parts: &Parts) -> Result<Queue<Substitution>, A
     ensures { IfOk result (λ q. q ≡ operand_steps parts.now) }
 {
     let mut steps = Seq::new(alloc);
-    push_parts(alloc, &mut steps, parts)?;
-    steps.push(Substitution::WordEnds)?;
+    push_word(alloc, &mut steps, parts, Substitution::WordEnds)?;
     Ok(Queue::new(steps.into_vec()))
 }

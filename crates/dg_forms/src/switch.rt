@@ -1,6 +1,7 @@
 //! The pairs of `switch`, and the body that it takes.
 ghost use Rattle.std.specs.Prelude.{◌≡◌, ◌∷◌, IfOk, MatchOption, Some, None};
-ghost use Rattle.dg_language.specs.Switching.{among, behind_kind, body_for, first_body, flag_in, is, is_flag, last_fault, matching_of, pairs_fault, switched, taken, takes};
+ghost use Rattle.dg_language.specs.Switching.{among, behind_kind, body_for, first_body, flag_in, is_flag, last_fault, matching_of, pairs_fault, switched, taken, takes};
+ghost use Rattle.dg_bytes.specs.Same.{same_bytes};
 
 use crate::arguments::split;
 use crate::elements::Elements;
@@ -13,7 +14,7 @@ use std::alloc::{AllocError, Global};
 
 /// Whether a word is this one.
 pub(crate) fn is(text: &Bytes, word: &[u8]) -> bool
-    ensures { result ≡ is text.now word.now }
+    ensures { result ≡ same_bytes text.now word.now }
 {
     text.as_slice() == word
 }

@@ -10,7 +10,8 @@ use Rattle.dg_transcript.specs.declared.cursor.Action.{Action}
 use Rattle.dg_transcript.specs.declared.cursor.Action.TheVariants as action
 use Rattle.dg_transcript.specs.declared.entry.Entry.{Entry}
 use Rattle.dg_transcript.specs.declared.entry.Entry.TheVariants as entry
-use Rattle.dg_transcript.specs.Step.{Step, step, step_at, gone_on, answers, answers_if, arrives, departs, passes, waiting, same_bytes, same_words}
+use Rattle.dg_bytes.specs.Same.{same_bytes, same_words}
+use Rattle.dg_transcript.specs.Step.{Step, step, step_at, gone_on, answers, answers_if, arrives, departs, passes, waiting}
 use Rattle.dg_gate.specs.Made.{Made, Takes}
 
 same_text : (xs ys : List ℕ) → xs ≡ ys → same_bytes xs ys ≡ true

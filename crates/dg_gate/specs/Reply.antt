@@ -1,7 +1,7 @@
 -- What a gate may answer to a call, and the entry that the answer makes.
 use Rattle.std.specs.Prelude.{ℕ, ◌≡◌, ◌+◌, nat_le, Bool, true, false, ◌&&◌, if◌then◌else◌, List, [], ◌∷◌, length, Option, Some, None}
-use Rattle.dg_transcript.specs.declared.code.Code.{Code}
-use Rattle.dg_transcript.specs.declared.code.Code.TheVariants.{Other}
+use Rattle.dg_transcript.specs.declared.code.ErrorCode.{ErrorCode}
+use Rattle.dg_transcript.specs.declared.code.ErrorCode.TheVariants.{Other}
 use Rattle.dg_transcript.specs.declared.cursor.Action.{Action}
 use Rattle.dg_transcript.specs.declared.cursor.Action.TheVariants as action
 use Rattle.dg_transcript.specs.declared.entry.Entry.{Entry}
@@ -65,7 +65,7 @@ first_reply a [] = reply.Failed Other
 first_reply a (r ∷ rs) = if fits a r then r else reply.Failed Other
 
 -- the code that a list's answer fails with
-abbrev pub code_in : Option Reply → Code
+abbrev pub code_in : Option Reply → ErrorCode
 code_in None = Other
 code_in (Some (reply.Failed code)) = code
 code_in (Some r) = Other

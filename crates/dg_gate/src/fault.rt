@@ -1,5 +1,5 @@
 //! Why a gate or an asker did not answer.
-use dg_transcript::Code;
+use dg_transcript::ErrorCode;
 use thiserror::Error;
 
 /// Why a gate did not do what it was asked.
@@ -9,7 +9,7 @@ pub enum GateFault {
     /// has: 1 there is no such program (ENOENT), 2 it is not permitted (EACCES, EPERM), 3 nobody
     /// reads the other end of the pipe (EPIPE), 4 any other cause.
     #[error("the call of the child failed")]
-    Device(Code),
+    Device(ErrorCode),
     /// Memory ran out.
     #[error("out of memory")]
     Memory,

@@ -5,7 +5,7 @@ ghost use Rattle.dg_gate.specs.declared.reply.Reply.TheVariants as reply;
 ghost use Rattle.dg_gate.specs.Reply.{fits};
 
 use dg_bytes::Bytes;
-use dg_transcript::Code;
+use dg_transcript::ErrorCode;
 
 /// The most bytes of a chunk.
 const MAX_CHUNK: usize = 4_096;
@@ -46,7 +46,7 @@ pub enum Reply {
     /// The child ended so.
     Ended(Ended),
     /// The call failed.
-    Failed(Code),
+    Failed(ErrorCode),
 }
 
 impl Piece {

@@ -7,7 +7,7 @@ use crate::fault::GateFault;
 use crate::gate::Gate;
 use crate::reply::{Ended, Piece, Reply};
 use dg_bytes::{Bytes, Seq};
-use dg_transcript::Code;
+use dg_transcript::ErrorCode;
 use std::collections::VecDeque;
 
 /// A gate without children. Each call is answered by the next of a list, whatever the session;
@@ -46,7 +46,7 @@ impl ScriptGate {
         self.failures += 1;
         match reply {
             Some(Reply::Failed(code)) => GateFault::Device(code),
-            _ => GateFault::Device(Code::Other),
+            _ => GateFault::Device(ErrorCode::Other),
         }
     }
 }

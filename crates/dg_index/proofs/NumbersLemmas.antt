@@ -13,7 +13,7 @@ use Rattle.indexmap.specs.IndexMap.{insert_entry as insert_record}
 use Rattle.dg_contents.specs.Contents.{ContentsView, number_of, holders_of, one_at, IsNumbering, KeepsHeldNumbers, KeepsNumbers}
 use Rattle.dg_contents.proofs.ContentsLemmas.{held-numbered}
 use Rattle.dg_world.specs.Question.{same_answer}
-use Rattle.dg_world.specs.Script.{same}
+use Rattle.dg_bytes.specs.Same.{same_bytes}
 use Rattle.dg_world.specs.Test.{same_test}
 use Rattle.dg_world.specs.World.{WorldView, look, edited, with_file, content_of, answer_of}
 use Rattle.dg_world.specs.Name.{is_name}
@@ -255,19 +255,19 @@ stale_by (Content text) (Some given) (Some current) = not (nat_eq given current)
 stale_by _ _ _ = true
 
 single_number : (c : ContentsView) (text given : List ℕ) → IsNumbering c → HasNumber c (Some given)
-    → not (same text given) ≡ stale_by (Content given) (number_of c given) (number_of c text)
-single_number c text given single (n, is) = step (same text given) refl (number_of c text) refl
+    → not (same_bytes text given) ≡ stale_by (Content given) (number_of c given) (number_of c text)
+single_number c text given single (n, is) = step (same_bytes text given) refl (number_of c text) refl
   where
     numbered : (o : Option ℕ) → stale_by (Content given) (Some n) o ≡ stale_by (Content given) (number_of c given) o
     numbered o = ap (λ x. stale_by (Content given) x o) (sym is)
 
-    apart : (m : ℕ) (b : Bool) → nat_eq n m ≡ b → number_of c text ≡ Some m → same text given ≡ false → true ≡ not b
+    apart : (m : ℕ) (b : Bool) → nat_eq n m ≡ b → number_of c text ≡ Some m → same_bytes text given ≡ false → true ≡ not b
     apart m true e other differs =
         let one : n ≡ m = eqb-true n m e in
         absurd (false≢true (sym differs ∙ (bytes_decides text given).1 (single.single text given m other (is ∙ ap Some one))))
     apart m false e other differs = refl
 
-    step : (b : Bool) → same text given ≡ b → (o : Option ℕ) → number_of c text ≡ o → not b ≡ stale_by (Content given) (number_of c given) o
+    step : (b : Bool) → same_bytes text given ≡ b → (o : Option ℕ) → number_of c text ≡ o → not b ≡ stale_by (Content given) (number_of c given) o
     step true e o other =
         let one : o ≡ Some n = sym other ∙ ap (number_of c) ((bytes_decides text given).0 e) ∙ is in
         sym (ap not (eq-eqb n n refl)) ∙ ap (stale_by (Content given) (Some n)) (sym one) ∙ numbered o

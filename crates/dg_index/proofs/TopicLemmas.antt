@@ -13,7 +13,7 @@ use Rattle.dg_match.specs.Book.{reading_of}
 use Rattle.dg_transcript.specs.declared.entry.Entry.{Entry as EntryOfSession}
 use Rattle.dg_transcript.specs.Sessions.{entry_at}
 use Rattle.dg_world.specs.Name.{is_name, is_single_part}
-use Rattle.dg_world.specs.Script.{same}
+use Rattle.dg_bytes.specs.Same.{same_bytes}
 use Rattle.dg_world.specs.Test.{TestView, test_cmp, test_of}
 use Rattle.dg_world.specs.Transcripts.{entry_answer, for_test, for_sessions, transcript_in}
 use Rattle.dg_world.specs.World.{WorldView, look, answer_of, content_of, transcript_of, edited, recorded, lacks_room, with_file, without_file, with_transcript, without_transcript, IsAsked}
@@ -84,11 +84,11 @@ fails : (b : Bool) → (b ≡ true → ⊥) → b ≡ false
 fails true h = absurd (h refl)
 fails false h = refl
 
-other_name : (name n : List ℕ) → same name n ≡ false → is_eq (slice_cmp nat_cmp n name) ≡ false
+other_name : (name n : List ℕ) → same_bytes name n ≡ false → is_eq (slice_cmp nat_cmp n name) ≡ false
 other_name name n other =
     fails (is_eq (slice_cmp nat_cmp n name)) (λ h. false≢true (sym other ∙ (bytes_decides name n).1 (sym (bytes_equal n name h))))
 
-other_test : (t u : TestView) → (same t.board u.board && same t.script u.script) ≡ false → is_eq (test_cmp u t) ≡ false
+other_test : (t u : TestView) → (same_bytes t.board u.board && same_bytes t.script u.script) ≡ false → is_eq (test_cmp u t) ≡ false
 other_test t u other =
     fails (is_eq (test_cmp u t)) (λ h.
     let e = tests_equal u t h in
@@ -96,7 +96,7 @@ other_test t u other =
 
 -- other files leave the answers to the questions that aren't on them
 files-look : (w : WorldView) (name : List ℕ) (fs : List (List ℕ × List ℕ))
-    → ((n : List ℕ) → same name n ≡ false → lookup (is_at (slice_cmp nat_cmp n)) fs ≡ lookup (is_at (slice_cmp nat_cmp n)) w.files)
+    → ((n : List ℕ) → same_bytes name n ≡ false → lookup (is_at (slice_cmp nat_cmp n)) fs ≡ lookup (is_at (slice_cmp nat_cmp n)) w.files)
     → (q : Question) → is_on (topic.File name) q ≡ false → look (record w { files = fs }) q ≡ look w q
 files-look w name fs h (File n) other = ap (λ o. Some (answer_of o)) (h n other)
 files-look w name fs h Tool other = refl
@@ -107,7 +107,7 @@ files-look w name fs h (Pattern text) other = refl
 
 -- and other transcripts those that aren't on them
 transcripts-look : (w : WorldView) (t : TestView) (ts : List (TestView × Sessions))
-    → ((u : TestView) → (same t.board u.board && same t.script u.script) ≡ false → lookup (is_at (test_cmp u)) ts ≡ lookup (is_at (test_cmp u)) w.transcripts)
+    → ((u : TestView) → (same_bytes t.board u.board && same_bytes t.script u.script) ≡ false → lookup (is_at (test_cmp u)) ts ≡ lookup (is_at (test_cmp u)) w.transcripts)
     → (q : Question) → is_on (topic.Transcript t.board t.script) q ≡ false → look (record w { transcripts = ts }) q ≡ look w q
 transcripts-look w t ts h (File n) other = refl
 transcripts-look w t ts h Tool other = refl
@@ -194,11 +194,11 @@ recorded-look w v t ss q h other =
     made-look w (with_transcript w t ss) v q (Ok (with_transcript w t ss)) (made (lacks_room w t) TooMany _ v h) refl (recorded_in-look w t ss q other)
 
 -- what the book has for another text stays as one is read
-reading-more : (book : List (List ℕ × ReadingOfText)) (text other_text : List ℕ) (r : ReadingOfText) → same text other_text ≡ false
+reading-more : (book : List (List ℕ × ReadingOfText)) (text other_text : List ℕ) (r : ReadingOfText) → same_bytes text other_text ≡ false
     → reading_of (book ++ (text, r) ∷ []) other_text ≡ reading_of book other_text
 reading-more [] text other_text r apart =
-    ap (λ b. cond b (Some r) None) (fails (same other_text text) (λ h. false≢true (sym apart ∙ (bytes_decides text other_text).1 (sym ((bytes_decides other_text text).0 h)))))
-reading-more (e ∷ book) text other_text r apart = ap (λ o. cond (same other_text e.0) (Some e.1) o) (reading-more book text other_text r apart)
+    ap (λ b. cond b (Some r) None) (fails (same_bytes other_text text) (λ h. false≢true (sym apart ∙ (bytes_decides text other_text).1 (sym ((bytes_decides other_text text).0 h)))))
+reading-more (e ∷ book) text other_text r apart = ap (λ o. cond (same_bytes other_text e.0) (Some e.1) o) (reading-more book text other_text r apart)
 
 book-look : (w : WorldView) (text : List ℕ) (r : ReadingOfText) (q : Question) → is_on (topic.Pattern text) q ≡ false → look (record w { book = w.book ++ (text, r) ∷ [] }) q ≡ look w q
 book-look w text r (File n) other = refl

@@ -1,6 +1,6 @@
 -- What questions are about, and what edits touch.
 use Rattle.std.specs.Prelude.{Bool, true, false, ◌&&◌}
-use Rattle.dg_world.specs.Script.{same}
+use Rattle.dg_bytes.specs.Same.{same_bytes}
 use Rattle.dg_world.specs.declared.edit.Edit.{Edit}
 use Rattle.dg_world.specs.declared.edit.Edit.TheVariants.{PutFile, RemoveFile, Select, PutTranscript, DropTranscript}
 use Rattle.dg_world.specs.declared.question.Question.{Question}
@@ -27,10 +27,10 @@ touched (DropTranscript board script) = topic.Transcript board script
 
 -- whether two topics are the same
 abbrev pub same_topic : Topic → Topic → Bool
-same_topic (topic.File a) (topic.File b) = same a b
+same_topic (topic.File a) (topic.File b) = same_bytes a b
 same_topic topic.Selection topic.Selection = true
-same_topic (topic.Transcript a s) (topic.Transcript b t) = same a b && same s t
-same_topic (topic.Pattern a) (topic.Pattern b) = same a b
+same_topic (topic.Transcript a s) (topic.Transcript b t) = same_bytes a b && same_bytes s t
+same_topic (topic.Pattern a) (topic.Pattern b) = same_bytes a b
 same_topic _ _ = false
 
 -- whether a question is on a topic

@@ -4,7 +4,7 @@ pub mod Asking
 pub mod Places
 pub mod ReadsLemmas
 pub mod RowLemmas
-pub mod CallLemmas
+pub mod NestedForms
 pub mod TouchLemmas
 pub mod StateLemmas
 pub mod Commands

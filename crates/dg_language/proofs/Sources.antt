@@ -6,7 +6,7 @@ use Rattle.dg_world.specs.declared.question.Answer.{Answer}
 use Rattle.dg_world.specs.declared.question.Read.{Read}
 use Rattle.dg_world.specs.Question.{fits}
 use Rattle.dg_language.specs.declared.ask.Ask.{Ask}
-use Rattle.dg_language.specs.Play.{Play, Ends, Asks, Source, heard, Coming, Over, on_answer, run, Gives, Leads}
+use Rattle.dg_language.specs.Play.{Play, Ends, Asks, Source, heard, Coming, Over, on_answer, run, GivesEach, Leads}
 
 -- a source that gives more answers gives the same end
 heard_more : {A : Type 0} (q : Ask) (f g : Answer → Coming A) (v : A)
@@ -28,7 +28,7 @@ run_more (Asks q k) few more m v e =
     heard_more q (λ a. run few (k a)) (λ a. run more (k a)) v (λ a. run_more (k a) few more m v) (few q.question) (more q.question) (m q.question) e
 
 -- in a source that gives the answers that were read, an evaluation comes to what the rest of it comes to
-pub run-leads : {A : Type 0} (p : Play A) (look : Source) (reads : List Read) (rest : Play A) → Leads p reads rest → Gives look reads → run look p ≡ run look rest
+pub run-leads : {A : Type 0} (p : Play A) (look : Source) (reads : List Read) (rest : Play A) → Leads p reads rest → GivesEach look reads → run look p ≡ run look rest
 run-leads p look [] rest l g = ap (run look) l
 run-leads (Ends a) look (r ∷ rs) rest l g = absurd l
 run-leads (Asks q k) look (r ∷ rs) rest l g =

@@ -5,7 +5,8 @@ use Rattle.std.specs.List.{list_any}
 use Rattle.std.specs.FinMap as map
 use Rattle.dg_cmds.specs.Places.{glob_matches}
 use Rattle.dg_expr.specs.Truth.{truth_text}
-use Rattle.dg_results.specs.Calls.{Call, CallSetupXfail, CallClearXfail, CallSetupKfail, CallClearKfail}
+use Rattle.dg_results.specs.declared.call.ResultCall.{ResultCall}
+use Rattle.dg_results.specs.declared.call.ResultCall.TheVariants as call
 use Rattle.dg_world.specs.Name.{is_name}
 use Rattle.dg_world.specs.declared.question.System.{System}
 use Rattle.dg_world.specs.declared.question.System.TheVariants.{Target, Host, Build}
@@ -121,11 +122,11 @@ do_target IsHost args s k = do_is Host (codes "ishost") args s k
 do_target IsBuild args s k = do_is Build (codes "isbuild") args s k
 do_target IsNative args s k = do_is_native args s k
 
-abbrev pub flag_call : FlagCommand → Call
-flag_call SetupXfail = CallSetupXfail
-flag_call SetupKfail = CallSetupKfail
-flag_call ClearXfail = CallClearXfail
-flag_call ClearKfail = CallClearKfail
+abbrev pub flag_call : FlagCommand → ResultCall
+flag_call SetupXfail = call.SetupXfail
+flag_call SetupKfail = call.SetupKfail
+flag_call ClearXfail = call.ClearXfail
+flag_call ClearKfail = call.ClearKfail
 
 -- an argument without `-` names a bug, and has no effect
 abbrev pub is_pattern : List ℕ → Bool

@@ -1,6 +1,5 @@
 -- What commands come to that evaluate nothing inside and ask nothing, and what comes after them.
 use Rattle.std.specs.Prelude.{ℕ, Option, Some, None, List, [], Result, Ok, Err}
-use Rattle.dg_language.specs.Calls.{call_of}
 use Rattle.dg_language.specs.declared.code.Code.{Code}
 use Rattle.dg_language.specs.declared.code.Code.TheVariants.{Done}
 use Rattle.dg_language.specs.declared.completion.Change.{Change}
@@ -34,7 +33,7 @@ counted name (Some a) f = f a
 -- what has changed
 abbrev pub performed : Change → State → State
 performed Nothing s = s
-performed (Calls c) s = with_call (call_of c) s
+performed (Calls c) s = with_call c s
 performed (Sets key value) s = with_setting key value s
 performed (Unsets key) s = without_setting key s
 performed (Defines name p) s = defined name p s

@@ -9,17 +9,18 @@ use Rattle.dg_language.specs.declared.expect.PatternKind.TheVariants as kind
 use Rattle.dg_language.specs.declared.expect.Pair.{Pair}
 use Rattle.dg_language.specs.declared.expect.Expectation.{Expectation}
 use Rattle.dg_language.specs.Evaluation.{wrong_count}
-use Rattle.dg_language.specs.Switching.{is, is_flag}
+use Rattle.dg_language.specs.Switching.{is_flag}
+use Rattle.dg_bytes.specs.Same.{same_bytes}
 use Rattle.dg_language.specs.SessionWords.{bad_flag}
 
 -- the kind that a flag gives to the pattern behind it
 abbrev pub kind_named : List ℕ → Option PatternKind
 kind_named w =
-    elim (is w (codes "-gl")) [
+    elim (same_bytes w (codes "-gl")) [
       | true ↦ Some kind.Glob
-      | false ↦ elim (is w (codes "-ex")) [
+      | false ↦ elim (same_bytes w (codes "-ex")) [
         | true ↦ Some kind.Exact
-        | false ↦ elim (is w (codes "-re")) [ true ↦ Some kind.Regex | false ↦ None ]
+        | false ↦ elim (same_bytes w (codes "-re")) [ true ↦ Some kind.Regex | false ↦ None ]
       ]
     ]
 
@@ -31,11 +32,11 @@ awaited_as kind.Regex p = Regex p
 -- what a word without a kind waits for
 abbrev pub awaited_by : List ℕ → Awaited
 awaited_by w =
-    elim (is w (codes "timeout")) [
+    elim (same_bytes w (codes "timeout")) [
       | true ↦ Timeout
-      | false ↦ elim (is w (codes "eof")) [
+      | false ↦ elim (same_bytes w (codes "eof")) [
         | true ↦ End
-        | false ↦ elim (is w (codes "default")) [ true ↦ Default | false ↦ Glob w ]
+        | false ↦ elim (same_bytes w (codes "default")) [ true ↦ Default | false ↦ Glob w ]
       ]
     ]
 
@@ -81,14 +82,14 @@ with_flags timeout id (Err why) = Err why
 unfoldable pub expect_words : Option (List ℕ) → Option (List ℕ) → List (List ℕ) → Result Expectation (List ℕ)
 expect_words timeout id [] = with_flags timeout id (pairs_of [])
 expect_words timeout id (w ∷ []) =
-    elim (is w (codes "-timeout") || is w (codes "-i")) [
+    elim (same_bytes w (codes "-timeout") || same_bytes w (codes "-i")) [
       | true ↦ Err (wrong_count (codes "expect"))
       | false ↦ with_flags timeout id (pairs_of (w ∷ []))
     ]
 expect_words timeout id (w ∷ v ∷ ws) =
-    elim (is w (codes "-timeout")) [
+    elim (same_bytes w (codes "-timeout")) [
       | true ↦ expect_words (Some v) id ws
-      | false ↦ elim (is w (codes "-i")) [
+      | false ↦ elim (same_bytes w (codes "-i")) [
         | true ↦ expect_words timeout (Some v) ws
         | false ↦ with_flags timeout id (pairs_of (w ∷ v ∷ ws))
       ]

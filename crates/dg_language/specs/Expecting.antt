@@ -22,7 +22,7 @@ use Rattle.dg_language.specs.State.{State, assigned, with_sessions, in_action, o
 use Rattle.dg_language.specs.Evaluation.{Ending, Then, Nested, out_of_steps, fail, wrong_count, outside_of_expect}
 use Rattle.dg_language.specs.Completing.{Immediately, completes}
 use Rattle.dg_language.specs.Variables.{expected_integer}
-use Rattle.dg_language.specs.Words.{element, gather, substitutions}
+use Rattle.dg_language.specs.Words.{element, words_made}
 use Rattle.dg_language.specs.Sessions.{perform, on_session, on_words, seek, not_open, is_session_open}
 use Rattle.dg_language.specs.ExpectWords.{expect_words, listed, patterns_in, regexes_in, output_pairs, is_for_timeout, is_for_end}
 use Rattle.dg_language.specs.Patterns.{with_patterns}
@@ -180,7 +180,7 @@ do_exp_continue (_ ∷ _) s = Err (wrong_count (codes "exp_continue"))
 
 abbrev pub expect_list : Nested → Result (List Word) WordFault → State → Then → Play Ending
 expect_list nested (Err fault) s k = fail (fault_text fault) s k
-expect_list nested (Ok words) s k = gather nested (expect_with nested) [] [] [] (substitutions words) s k
+expect_list nested (Ok words) s k = words_made nested (expect_with nested) words s k
 
 abbrev pub expect_args : Nested → Option (List ℕ) → List (List ℕ) → State → Then → Play Ending
 expect_args nested None args s k = expect_with nested args s k

@@ -13,13 +13,10 @@ use Rattle.dg_expr.specs.Reading.{tree_in}
 use Rattle.dg_expr.specs.Tree.{Tree}
 use Rattle.dg_expr.specs.Truth.{truth_of}
 use Rattle.dg_language.specs.declared.code.Code.TheVariants.{Done}
-use Rattle.dg_language.specs.declared.substitution.Substitution.{Substitution}
-use Rattle.dg_language.specs.declared.substitution.Substitution.TheVariants.{WordEnds}
 use Rattle.dg_language.specs.Play.{Play}
 use Rattle.dg_language.specs.State.{State}
 use Rattle.dg_language.specs.Evaluation.{Ending, Then, Nested, within, fail, if_done, quoted, wrong_count}
-use Rattle.dg_language.specs.Control.{head_or_empty}
-use Rattle.dg_language.specs.Words.{Act, substitution_of, gather}
+use Rattle.dg_language.specs.Words.{joined, nested_in}
 
 -- the operand on a side
 abbrev pub on_side : Side → List ℕ → List ℕ → List ℕ
@@ -37,19 +34,11 @@ fault_message NegativeShift x y = codes "negative shift argument"
 fault_message (BadList fault) x y = fault_text fault
 fault_message _ x y = codes "syntax error in expression " ++ quoted x
 
--- the steps in which an operand is made: it is one word
-abbrev pub operand_steps : List Piece → List Substitution
-operand_steps pieces = map substitution_of pieces ++ WordEnds ∷ []
-
--- what is done with it
-abbrev pub load : Act
-load made s k = k Done (head_or_empty made) s
-
--- Operands are made like words, from left to right, and a fault is an error.
+-- Operands are made like words, of their parts, and a fault is an error.
 unfoldable pub host : Nested → Then → Host State (Play Ending)
 host nested k =
     record {
-      load = λ pieces s f. gather nested load [] [] [] (operand_steps pieces) s (if_done f k);
+      load = λ pieces s f. joined nested (nested_in pieces) [] s k f;
       fail = λ fault x y s. fail (fault_message fault x y) s k;
     }
 

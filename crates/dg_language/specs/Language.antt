@@ -28,7 +28,7 @@ use Rattle.dg_language.specs.Expressions.{do_expr}
 use Rattle.dg_language.specs.Choosing.{do_if, do_while, do_for}
 use Rattle.dg_language.specs.Switching.{do_eval, do_switch}
 use Rattle.dg_language.specs.Boards.{do_load_lib, do_target, do_flag}
-use Rattle.dg_language.specs.Words.{Act, gather, substitutions}
+use Rattle.dg_language.specs.Words.{Act, words_made}
 use Rattle.dg_language.specs.Sessions.{do_session}
 use Rattle.dg_language.specs.Expecting.{do_expect, expect_with}
 use Rattle.dg_language.specs.Matching.{do_regexp}
@@ -90,7 +90,7 @@ unfoldable pub sequence : Nested → List Command → List ℕ → State → The
 sequence nested [] v s k = k Done v s
 sequence nested (Unreadable fault ∷ cs) v s k = fail (fault_text fault) s k
 sequence nested (Words ws ∷ cs) v s k =
-    tick s (λ s'. gather nested (command nested) [] [] [] (substitutions ws) s' (if_done (λ v' s''. sequence nested cs v' s'' k) k))
+    tick s (λ s'. words_made nested (command nested) ws s' (if_done (λ v' s''. sequence nested cs v' s'' k) k))
 
 abbrev pub and_commands : Result (List Word × ℕ) WordFault → (ℕ → List Command) → List Command
 and_commands (Err fault) more = Unreadable fault ∷ []

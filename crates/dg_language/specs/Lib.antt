@@ -11,6 +11,7 @@ pub mod Procedures
 pub mod Control
 pub mod Boards
 pub mod Words
+pub mod WordSteps
 pub mod Expressions
 pub mod Choosing
 pub mod Switching
@@ -25,6 +26,5 @@ pub mod Builtins
 pub mod Language
 pub mod Judge
 pub mod Law
-pub mod Calls
 pub mod Touch
 pub mod Growing

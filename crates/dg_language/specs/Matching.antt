@@ -8,7 +8,8 @@ use Rattle.dg_language.specs.Play.{Play}
 use Rattle.dg_language.specs.State.{State}
 use Rattle.dg_language.specs.Evaluation.{Ending, Then, wrong_count}
 use Rattle.dg_language.specs.Control.{give_each}
-use Rattle.dg_language.specs.Switching.{is, is_flag}
+use Rattle.dg_language.specs.Switching.{is_flag}
+use Rattle.dg_bytes.specs.Same.{same_bytes}
 use Rattle.dg_language.specs.SessionWords.{bad_flag}
 use Rattle.dg_language.specs.Sessions.{on_words}
 use Rattle.dg_language.specs.Expecting.{group_text}
@@ -24,7 +25,7 @@ search_of (p ∷ t ∷ names) = Ok (record { pattern = p; text = t; names = name
 abbrev pub regexp_words : List (List ℕ) → Result Search (List ℕ)
 regexp_words [] = search_of []
 regexp_words (w ∷ ws) =
-    elim (is w (codes "--")) [
+    elim (same_bytes w (codes "--")) [
       | true ↦ search_of ws
       | false ↦ elim (is_flag w) [ true ↦ Err (bad_flag w) | false ↦ search_of (w ∷ ws) ]
     ]

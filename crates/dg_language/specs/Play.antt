@@ -52,9 +52,9 @@ abbrev pub source_of : List Read → Source
 source_of reads q = lookup q reads
 
 -- the source gives the answers that were read
-abbrev pub Gives : Source → List Read → Type 0
-Gives look [] = Unit {0}
-Gives look (r ∷ rs) = (heard r.question (look r.question) ≡ Some r.answer) × Gives look rs
+abbrev pub GivesEach : Source → List Read → Type 0
+GivesEach look [] = Unit {0}
+GivesEach look (r ∷ rs) = (heard r.question (look r.question) ≡ Some r.answer) × GivesEach look rs
 
 -- the evaluation asks just these questions first, in this order, and with these answers goes on to that
 abbrev pub Leads : {A : Type 0} → Play A → List Read → Play A → Type 0

@@ -1,8 +1,8 @@
 -- The commands that record results and messages, by the DejaGnu manual.
 use Rattle.std.specs.Prelude.{ℕ, ℤ, pos, negsuc, Bool, true, false, nat_le, Option, Some, None, List, [], ◌∷◌, codes, Err}
 use Rattle.dg_expr.specs.Number.{number_of}
-use Rattle.dg_language.specs.declared.calls.ResultCall.{ResultCall}
-use Rattle.dg_language.specs.declared.calls.ResultCall.TheVariants as call
+use Rattle.dg_results.specs.declared.call.ResultCall.{ResultCall}
+use Rattle.dg_results.specs.declared.call.ResultCall.TheVariants as call
 use Rattle.dg_language.specs.declared.completion.Change.TheVariants.{Calls}
 use Rattle.dg_language.specs.declared.command.ResultCommand.{ResultCommand}
 use Rattle.dg_language.specs.declared.command.ResultCommand.TheVariants.{Pass, Fail, Unresolved, Untested, Unsupported, Note, Perror, Warning}

@@ -1,7 +1,8 @@
 -- The words of spawn, send, close, wait and match_max, by expect(1).
 use Rattle.std.specs.Prelude.{ℕ, Bool, true, false, Option, Some, None, List, [], ◌∷◌, ◌++◌, codes, Result, Ok, Err}
 use Rattle.dg_language.specs.Evaluation.{quoted, wrong_count}
-use Rattle.dg_language.specs.Switching.{is, is_flag}
+use Rattle.dg_language.specs.Switching.{is_flag}
+use Rattle.dg_bytes.specs.Same.{same_bytes}
 
 abbrev pub bad_flag : List ℕ → List ℕ
 bad_flag w = codes "bad flag " ++ quoted w
@@ -11,7 +12,7 @@ unfoldable pub spawn_words : List (List ℕ) → Result (List (List ℕ)) (List 
 spawn_words [] = Err (wrong_count (codes "spawn"))
 spawn_words (w ∷ ws) =
     elim (is_flag w) [
-      | true ↦ elim (is w (codes "-noecho")) [ true ↦ spawn_words ws | false ↦ Err (bad_flag w) ]
+      | true ↦ elim (same_bytes w (codes "-noecho")) [ true ↦ spawn_words ws | false ↦ Err (bad_flag w) ]
       | false ↦ Ok (w ∷ ws)
     ]
 
@@ -24,9 +25,9 @@ sent_text id (_ ∷ _ ∷ _) = Err (wrong_count (codes "send"))
 abbrev pub last_of_send : Option (List ℕ) → List ℕ → Result (Option (List ℕ) × List ℕ) (List ℕ)
 last_of_send id w =
     elim (is_flag w) [
-      | true ↦ elim (is w (codes "--")) [
+      | true ↦ elim (same_bytes w (codes "--")) [
         | true ↦ Err (wrong_count (codes "send"))
-        | false ↦ elim (is w (codes "-i")) [ true ↦ Err (wrong_count (codes "send")) | false ↦ Err (bad_flag w) ]
+        | false ↦ elim (same_bytes w (codes "-i")) [ true ↦ Err (wrong_count (codes "send")) | false ↦ Err (bad_flag w) ]
       ]
       | false ↦ Ok (id, w)
     ]
@@ -37,9 +38,9 @@ send_words id [] = Err (wrong_count (codes "send"))
 send_words id (w ∷ []) = last_of_send id w
 send_words id (w ∷ v ∷ ws) =
     elim (is_flag w) [
-      | true ↦ elim (is w (codes "--")) [
+      | true ↦ elim (same_bytes w (codes "--")) [
         | true ↦ sent_text id (v ∷ ws)
-        | false ↦ elim (is w (codes "-i")) [ true ↦ send_words (Some v) ws | false ↦ Err (bad_flag w) ]
+        | false ↦ elim (same_bytes w (codes "-i")) [ true ↦ send_words (Some v) ws | false ↦ Err (bad_flag w) ]
       ]
       | false ↦ sent_text id (w ∷ v ∷ ws)
     ]
@@ -49,12 +50,12 @@ unfoldable pub id_words : List ℕ → Option (List ℕ) → List (List ℕ) →
 id_words name id [] = Ok id
 id_words name id (w ∷ []) =
     elim (is_flag w) [
-      | true ↦ elim (is w (codes "-i")) [ true ↦ Err (wrong_count name) | false ↦ Err (bad_flag w) ]
+      | true ↦ elim (same_bytes w (codes "-i")) [ true ↦ Err (wrong_count name) | false ↦ Err (bad_flag w) ]
       | false ↦ Err (wrong_count name)
     ]
 id_words name id (w ∷ v ∷ ws) =
     elim (is_flag w) [
-      | true ↦ elim (is w (codes "-i")) [ true ↦ id_words name (Some v) ws | false ↦ Err (bad_flag w) ]
+      | true ↦ elim (same_bytes w (codes "-i")) [ true ↦ id_words name (Some v) ws | false ↦ Err (bad_flag w) ]
       | false ↦ Err (wrong_count name)
     ]
 
@@ -68,6 +69,6 @@ unfoldable pub match_words : Bool → List (List ℕ) → Result (Bool × Option
 match_words later [] = Ok (later, None)
 match_words later (w ∷ ws) =
     elim (is_flag w) [
-      | true ↦ elim (is w (codes "-d")) [ true ↦ match_words true ws | false ↦ Err (bad_flag w) ]
+      | true ↦ elim (same_bytes w (codes "-d")) [ true ↦ match_words true ws | false ↦ Err (bad_flag w) ]
       | false ↦ only_number later w ws
     ]

@@ -6,7 +6,7 @@ use Rattle.dg_world.specs.declared.question.Question.{Question}
 use Rattle.dg_world.specs.declared.question.Answer.{Answer}
 use Rattle.dg_world.specs.declared.question.Read.{Read}
 use Rattle.dg_world.specs.declared.test_id.TestId.{TestId}
-use Rattle.dg_results.specs.Calls.{Call}
+use Rattle.dg_results.specs.declared.call.ResultCall.{ResultCall}
 use Rattle.dg_boards.specs.Table.{setting, without}
 use Rattle.dg_scope.specs.Scopes.{Names, Variables, no_variables, with_value, with_global, without_value, with_link, with_scope, with_outermost, without_scope}
 use Rattle.dg_sessions.specs.Views.{SessionsView, no_sessions}
@@ -17,7 +17,7 @@ pub record State : Type 0 where
   -- the test that is judged
   pub test : TestId
   -- the calls of result commands, in order
-  pub calls : List Call
+  pub calls : List ResultCall
   -- whether the board's file is evaluated
   pub on_board : Bool
   -- the steps that the board's file took, once it has been evaluated
@@ -81,7 +81,7 @@ taken s = s.earlier + s.steps
 unfoldable pub board_steps : State → ℕ
 board_steps s = elim s.on_board [ true ↦ s.steps | false ↦ s.earlier ]
 
-unfoldable pub with_call : Call → State → State
+unfoldable pub with_call : ResultCall → State → State
 with_call c s = record s { calls = s.calls ++ c ∷ [] }
 
 unfoldable pub stepped : State → State

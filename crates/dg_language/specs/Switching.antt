@@ -10,24 +10,22 @@ use Rattle.dg_language.specs.Play.{Play}
 use Rattle.dg_language.specs.State.{State}
 use Rattle.dg_language.specs.Evaluation.{Ending, Then, Nested, cut, fail, quoted, wrong_count, list_in}
 use Rattle.dg_language.specs.Choosing.{do_otherwise}
-
-abbrev pub is : List ℕ → List ℕ → Bool
-is text word = pointwise nat_eq text word
+use Rattle.dg_bytes.specs.Same.{same_bytes}
 
 -- whether a pattern takes a text; `default` takes each where no pair comes behind it
 abbrev pub matches : Matching → List ℕ → List ℕ → Bool
-matches Exact pattern text = is pattern text
+matches Exact pattern text = same_bytes pattern text
 matches Glob pattern text = glob_matches pattern text
 
 abbrev pub takes : Matching → List ℕ → List ℕ → List (List ℕ) → Bool
-takes m text pattern [] = is pattern (codes "default") || matches m pattern text
+takes m text pattern [] = same_bytes pattern (codes "default") || matches m pattern text
 takes m text pattern (_ ∷ _) = matches m pattern text
 
 -- the first body from here on, in words of which every other is a pattern; `-` is none
 unfoldable pub first_body : List (List ℕ) → Option (List ℕ)
 first_body [] = None
 first_body (b ∷ []) = Some b
-first_body (b ∷ _ ∷ more) = elim (is b (codes "-")) [ true ↦ first_body more | false ↦ Some b ]
+first_body (b ∷ _ ∷ more) = elim (same_bytes b (codes "-")) [ true ↦ first_body more | false ↦ Some b ]
 
 -- the body of the first pattern that takes the text
 unfoldable pub body_for : Matching → List ℕ → List (List ℕ) → Option (List ℕ)
@@ -37,7 +35,7 @@ body_for m text (p ∷ b ∷ more) = elim (takes m text p more) [ true ↦ first
 
 -- why words are no pairs
 abbrev pub last_fault : List ℕ → List ℕ → Option (List ℕ)
-last_fault p b = elim (is b (codes "-")) [ true ↦ Some (codes "no body specified for pattern " ++ quoted p) | false ↦ None ]
+last_fault p b = elim (same_bytes b (codes "-")) [ true ↦ Some (codes "no body specified for pattern " ++ quoted p) | false ↦ None ]
 
 unfoldable pub pairs_fault : List (List ℕ) → Option (List ℕ)
 pairs_fault [] = Some (wrong_count (codes "switch"))
@@ -76,12 +74,12 @@ flag_in (_ ∷ _ ∷ []) = None
 flag_in (w ∷ a ∷ b ∷ more) = elim (is_flag w) [ true ↦ Some (w, a ∷ b ∷ more) | false ↦ None ]
 
 abbrev pub matching_of : List ℕ → Option Matching
-matching_of flag = elim (is flag (codes "-exact")) [ true ↦ Some Exact | false ↦ elim (is flag (codes "-glob")) [ true ↦ Some Glob | false ↦ None ] ]
+matching_of flag = elim (same_bytes flag (codes "-exact")) [ true ↦ Some Exact | false ↦ elim (same_bytes flag (codes "-glob")) [ true ↦ Some Glob | false ↦ None ] ]
 
 -- `--` ends the flags, and no other may come behind the kind of matching
 abbrev pub behind_kind : Matching → List (List ℕ) → Option (List ℕ × List (List ℕ)) → Result (Option (List ℕ)) (List ℕ)
 behind_kind m args None = taken m args
-behind_kind m args (Some f) = elim (is f.0 (codes "--")) [ true ↦ taken m f.1 | false ↦ Err (codes "bad flag " ++ quoted f.0) ]
+behind_kind m args (Some f) = elim (same_bytes f.0 (codes "--")) [ true ↦ taken m f.1 | false ↦ Err (codes "bad flag " ++ quoted f.0) ]
 
 abbrev pub kind_or : List (List ℕ) → List (List ℕ) → Option Matching → Result (Option (List ℕ)) (List ℕ)
 kind_or args others None = behind_kind Exact args (flag_in args)

@@ -1,8 +1,8 @@
 //! What a command comes to that evaluates nothing inside and asks nothing.
-use crate::calls::ResultCall;
 use crate::code::Code;
 use crate::procedure::Procedure;
 use dg_bytes::Bytes;
+use dg_results::ResultCall;
 
 /// What such a command changes.
 #[derive(Drop)]

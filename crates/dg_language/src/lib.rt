@@ -21,7 +21,7 @@ mod substitution;
 mod switch;
 
 pub use crate::ask::Ask;
-pub use crate::calls::{Calls, ResultCall};
+pub use crate::calls::Calls;
 pub use crate::clause::{Clause, Clauses};
 pub use crate::close::Close;
 pub use crate::code::Code;

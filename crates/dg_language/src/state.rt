@@ -11,12 +11,11 @@ ghost use Rattle.dg_language.specs.Variables.{is_to_begin, first_value, all_link
 ghost use Rattle.dg_language.specs.Procedures.{longest};
 ghost use Rattle.dg_language.specs.State.{bound};
 ghost use Rattle.dg_language.specs.Touch.{Touches, value_in_use};
-ghost use Rattle.dg_language.specs.Calls.{call_of};
 ghost use Rattle.dg_language.specs.Completing.{performed};
 ghost use Rattle.dg_results.specs.Standing.{after_calls};
 
 use crate::actions::Actions;
-use crate::calls::{Calls, ResultCall};
+use crate::calls::Calls;
 use crate::completion::Change;
 use crate::procedure::{Binding, Procedure};
 use crate::reads::Reads;
@@ -24,7 +23,7 @@ use dg_boards::BoardTable;
 use dg_bytes::{Bytes, Seq, TryCopy};
 use dg_lists::{ListFault, WordFault};
 use dg_match::{Hit, Pattern};
-use dg_results::Judging;
+use dg_results::{Judging, ResultCall};
 use dg_scope::{LONGEST_VALUE, ScopeFault, Scopes, Table, global_name, has_index};
 use dg_sessions::{Session, Sessions};
 use dg_transcript::{Act, Action, Entry};
@@ -178,7 +177,7 @@ impl State {
 
     /// Adds a result call.
     pub fn add_call(&mut self, call: ResultCall) -> Result<(), AllocError>
-        ensures { OnOk result (self.new ≡ with_call (call_of call) self.old) }
+        ensures { OnOk result (self.new ≡ with_call call self.old) }
     {
         self.calls.push(call)
     }

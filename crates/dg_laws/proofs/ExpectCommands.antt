@@ -16,14 +16,13 @@ use Rattle.dg_language.specs.declared.code.Code.TheVariants.{Done, Failed, Retur
 use Rattle.dg_language.specs.Play.{Play}
 use Rattle.dg_language.specs.State.{State, in_action, out_of_action}
 use Rattle.dg_language.specs.Evaluation.{Ending, Then, Nested}
-use Rattle.dg_language.specs.Words.{substitutions}
 use Rattle.dg_language.specs.Sessions.{is_session_open}
 use Rattle.dg_language.specs.ExpectWords.{expect_words, patterns_in, regexes_in, is_for_timeout, is_for_end, listed}
 use Rattle.dg_language.specs.Expecting.{Waiting, with_match, with_end, bytes_of, action_at, first_action, after_action, act, taking, tries, after_read, after_limit, reading, one_round, rounds, milliseconds, with_number, or_ten, with_limit, expect_with, expect_list, expect_args, do_expect}
 use Rattle.dg_laws.specs.Grafting.{Grafted}
 use Rattle.dg_laws.proofs.Trees.{one_after_another}
 use Rattle.dg_laws.proofs.Steps.{IsGraftedInside, completes, stops, either, fail-grafted}
-use Rattle.dg_laws.proofs.WordMaking.{gather-grafted}
+use Rattle.dg_laws.proofs.WordMaking.{words-grafted}
 use Rattle.dg_laws.proofs.SessionCommands.{perform-grafted, seek-grafted, on_session-grafted, on_words-grafted}
 use Rattle.dg_laws.proofs.Matching.{with_patterns-grafted}
 
@@ -93,7 +92,7 @@ module _ (nested : Nested) (inside : IsGraftedInside nested) where
 
   expect_list-grafted : (r : Result (List Word) WordFault) (s : State) → Grafted (expect_list nested r s)
   expect_list-grafted (Err fault) s = fail-grafted _ s
-  expect_list-grafted (Ok words) s = gather-grafted nested inside (expect_with nested) expect_with-grafted [] [] [] (substitutions words) s
+  expect_list-grafted (Ok words) s = words-grafted nested inside (expect_with nested) expect_with-grafted words s
 
   expect_args-grafted : (text : Option (List ℕ)) (args : List (List ℕ)) (s : State) → Grafted (expect_args nested text args s)
   expect_args-grafted None args s = expect_with-grafted args s

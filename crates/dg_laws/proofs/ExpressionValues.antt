@@ -13,11 +13,11 @@ use Rattle.dg_language.specs.declared.code.Code.TheVariants.{Done}
 use Rattle.dg_language.specs.Play.{Play}
 use Rattle.dg_language.specs.State.{State}
 use Rattle.dg_language.specs.Evaluation.{Ending, Then, Nested}
-use Rattle.dg_language.specs.Control.{head_or_empty}
-use Rattle.dg_language.specs.Expressions.{operand_steps, load, host, value_of_tree, calculate, judged, condition, in_decimal, behind_spaces, do_expr}
+use Rattle.dg_language.specs.Expressions.{host, value_of_tree, calculate, judged, condition, in_decimal, behind_spaces, do_expr}
 use Rattle.dg_laws.specs.Grafting.{Grafted}
 use Rattle.dg_laws.proofs.Steps.{IsGraftedInside, completes, either_if, within-grafted, fail-grafted, if_done-grafted}
-use Rattle.dg_laws.proofs.WordMaking.{gather-grafted}
+use Rattle.dg_language.specs.Words.{nested_in}
+use Rattle.dg_laws.proofs.WordMaking.{joined-grafted}
 
 module _ (nested : Nested) (inside : IsGraftedInside nested) where
   settle-grafted : (r : Value) (x y : List ℕ) (s : State) {f : List ℕ → State → Then → Play Ending}
@@ -57,13 +57,9 @@ module _ (nested : Nested) (inside : IsGraftedInside nested) where
   value_behind-grafted WhereFalse op x right is s more =
       judge-grafted (truth_of x) x s (λ t. either_if t (more (truth_text true) s) (truth_behind-grafted right is s more))
 
-  operand-grafted : (made : List (List ℕ)) (s : State) → Grafted (load made s)
-  operand-grafted made s = completes Done (head_or_empty made) s
-
   value-grafted : (tree : Tree) → IsGraftedValue tree
   unfolding value IsGraftedValue host
-  value-grafted (Operand pieces) s f more =
-      if_done-grafted (gather-grafted nested inside load operand-grafted [] [] [] (operand_steps pieces) s) more
+  value-grafted (Operand pieces) s f more = joined-grafted nested inside (nested_in pieces) [] s more
   value-grafted (One op a) s f more =
       value-grafted a s (λ x s' k. settle (host nested k) (value_of_one op x) x [] s' (λ v t. f v t k))
       (λ x s'. settle-grafted (value_of_one op x) x [] s' more)

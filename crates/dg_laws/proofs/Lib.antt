@@ -4,7 +4,6 @@ pub mod Completing
 pub mod VariableCommands
 pub mod CourseCommands
 pub mod WordMaking
-pub mod WordParts
 pub mod NestedWords
 pub mod ExpressionValues
 pub mod ChoiceCommands

@@ -1,16 +1,18 @@
 -- The words that are read in a text have parts that are nested in one another.
-use Rattle.std.proofs.Common.{◌≡◌, ℕ, true, false, List, [], ◌∷◌, ◌++◌, map, refl, ap, ◌∙◌}
+use Rattle.std.proofs.Common.{◌≡◌, ℕ, true, false, List, [], ◌∷◌, ◌++◌, map, refl, ap, sym, ◌∙◌}
 use Rattle.std.specs.Prelude.{Ok}
 use Rattle.dg_words.specs.Piece.{Piece, End}
 use Rattle.dg_words.specs.Piece as piece
-use Rattle.dg_words.specs.Reading.{command_at, words_of}
+use Rattle.dg_words.specs.Reading.{command_at, operand_at, words_of}
 use Rattle.dg_words.specs.declared.kinds.Level.{Level}
 use Rattle.dg_lists.specs.declared.kinds.Context.{Context}
 use Rattle.dg_words.specs.declared.word.Word.{Word}
 use Rattle.dg_words.specs.Grammar.Words.{Begun, OneCommand, OneWord, Plain, Words, with_text}
 use Rattle.dg_words.specs.Grammar.Words as spelled
-use Rattle.dg_words.proofs.GrammarLemmas.CommandSpelled.{read_command_is_spelled, read_words_are_spelled}
-use Rattle.dg_laws.specs.WordValues.{AreNested, Parts, Nothing, Text, Variable, Element, Command, in_a_row, NestedWord, word_of}
+use Rattle.dg_words.specs.Grammar.Operands as operands
+use Rattle.dg_words.proofs.GrammarLemmas.CommandSpelled.{read_command_is_spelled, read_operand_is_spelled, read_words_are_spelled}
+use Rattle.dg_language.specs.Words.{Parts, Nothing, Text, Variable, Element, Command, in_a_row, NestedWord, word_of}
+use Rattle.dg_laws.specs.WordValues.{AreNested}
 
 -- these pieces are nested parts in a row
 abbrev Nest : List Piece → Type 0
@@ -99,3 +101,24 @@ read-command-nested text at next ws h = begun-words (read_command_is_spelled tex
 
 pub read-words-nested : (text : List ℕ) (ws : List Word) → words_of text ≡ Ok ws → AreNested ws
 read-words-nested text ws h = words-nest (read_words_are_spelled text ws h)
+
+-- operands
+operand-nest : {after t : List ℕ} {ps : List Piece} → operands.Operand after t ps → Nest ps
+operand-nest (operands.quoted parts) = parts-nest parts
+operand-nest (operands.braced {v = v} braced) = text-nest v nothing-nest
+operand-nest (operands.variable name named some ends) = variable-nest name nothing-nest
+operand-nest (operands.braced_variable name closed) = variable-nest name nothing-nest
+operand-nest (operands.element name named index) = element-nest name (parts-nest index) nothing-nest
+operand-nest (operands.substitution {c = c} script) = command-nest c nothing-nest
+operand-nest (operands.dollar other colon) = text-nest (36 ∷ []) nothing-nest
+operand-nest (operands.dollar_colon colon) = text-nest (36 ∷ 58 ∷ []) nothing-nest
+operand-nest (operands.nothing none) = nothing-nest
+
+begun-operand : {t : List ℕ} {ps : List Piece} {n : ℕ} → operands.Begun t ps n → Nest ps
+begun-operand (operands.operand one) = operand-nest one
+
+pub read-operand-nested : (text : List ℕ) (at next : ℕ) (ws : List Word) → operand_at text at ≡ Ok (ws, next) → AreNested ws
+read-operand-nested text at next ws h =
+    let x = read_operand_is_spelled text at next ws h in
+    let n = begun-operand x.4 in
+    (record { expand = false; parts = n.0 } ∷ [], ap (λ ps. record { expand = false; parts = ps } ∷ []) n.1 ∙ sym x.2)

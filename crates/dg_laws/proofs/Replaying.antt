@@ -20,7 +20,7 @@ use Rattle.dg_world.specs.declared.question.Answer.TheVariants as answer
 use Rattle.dg_world.specs.declared.question.Read.{Read}
 use Rattle.dg_world.specs.Question.{same_question}
 use Rattle.dg_language.specs.declared.ask.Ask.{Ask}
-use Rattle.dg_language.specs.Play.{Play, Source, heard, on_answer, Gives, lookup, run}
+use Rattle.dg_language.specs.Play.{Play, Source, heard, on_answer, GivesEach, lookup, run}
 use Rattle.dg_language.specs.State.{State, learn, with_sessions}
 use Rattle.dg_language.specs.Evaluation.{Ending}
 use Rattle.dg_language.specs.Arguments.{on}
@@ -34,7 +34,7 @@ some-same : (a b : Answer) → Some a ≡ Some b → a ≡ b
 some-same a b e = cc
 
 -- what was answered is what the source gives
-lookup-given : (look : Source) (q : Question) (rs : List Read) (a : Answer) → Gives look rs → lookup q rs ≡ Some a → heard q (look q) ≡ Some a
+lookup-given : (look : Source) (q : Question) (rs : List Read) (a : Answer) → GivesEach look rs → lookup q rs ≡ Some a → heard q (look q) ≡ Some a
 unfolding lookup
 lookup-given look q [] a known e = cc
 lookup-given look q (r ∷ rs) a known e = go (same_question r.question q) refl e (λ h. lookup-given look q rs a known.1 h)
@@ -51,9 +51,9 @@ record Heard (look : Source) (s : State) (before : Play Ending) (f : State → P
   only : OnlySessions s then
   sessions : then.sessions ≡ s.sessions
   test : then.test ≡ s.test
-  given : Gives look then.known
+  given : GivesEach look then.known
 
-ask_for-heard : (look : Source) (q : Ask) (a : Answer) (s : State) (f : Answer → State → Play Ending) → Gives look s.known
+ask_for-heard : (look : Source) (q : Ask) (a : Answer) (s : State) (f : Answer → State → Play Ending) → GivesEach look s.known
     → heard q.question (look q.question) ≡ Some a → Heard look s (ask_for q s f) (f a)
 unfolding ask_for learn
 ask_for-heard look q a s f known told = go (lookup q.question s.known) refl
@@ -104,7 +104,7 @@ module _ (n : ℕ) (a : Action) (e : Entry) where
 
 -- a session of whose record these entries are left, and the source tells of them
 record Holds (look : Source) (n : ℕ) (s : State) (es : List Entry) : Type 0 where
-  given : Gives look s.known
+  given : GivesEach look s.known
   session : SessionView
   there : session_at n s.sessions ≡ Some session
   tells : Tells look s.test n session.cursor.place es
@@ -126,7 +126,7 @@ module _ (look : Source) (n : ℕ) (told : Told) (late : Late) where
   next v a x t =
       on (entry_in x) (depart t) (λ e. come_to (step_of v a e).act e told late (at_entry n a e t) (perform n (step_of v a e).action told late (at_entry n a e t)))
 
-  reached : (a : Action) (s : State) (v : SessionView) (x : Answer) → session_at n s.sessions ≡ Some v → s.sessions.used < most_entries → Gives look s.known
+  reached : (a : Action) (s : State) (v : SessionView) (x : Answer) → session_at n s.sessions ≡ Some v → s.sessions.used < most_entries → GivesEach look s.known
       → heard (entry_for n v a s).question (look (entry_for n v a s).question) ≡ Some x
       → Heard look s (perform n a told late s) (next v a x)
   reached a s v x there room known told_x =
@@ -174,8 +174,8 @@ module _ (look : Source) (n : ℕ) (told : Told) (late : Late) where
       u_used : u.sessions.used ≡ s.sessions.used + used_between v (acted v a e)
       u_used = ap (λ x. x.used) u_sessions ∙ acted-used n a e s.sessions v h.there
 
-      u_given : Gives look u.known
-      u_given = subst (Gives look) (sym (at_entry-known n a e r.then)) r.given
+      u_given : GivesEach look u.known
+      u_given = subst (GivesEach look) (sym (at_entry-known n a e r.then)) r.given
 
       u_test : u.test ≡ s.test
       u_test = at_entry-test n a e r.then ∙ r.test

@@ -13,7 +13,6 @@ use Rattle.dg_language.specs.declared.command.Command.TheVariants.{Words, Unread
 use Rattle.dg_language.specs.declared.procedure.Procedure.{Procedure}
 use Rattle.dg_language.specs.State.{State}
 use Rattle.dg_language.specs.Evaluation.{Nested}
-use Rattle.dg_language.specs.Words.{substitutions}
 use Rattle.dg_language.specs.Immediate.{immediate}
 use Rattle.dg_language.specs.Builtins.{builtin_of, usable}
 use Rattle.dg_language.specs.Language.{builtin, pure_value, known_command, by_name, command, sequence, commands_at, evaluate}
@@ -22,7 +21,7 @@ use Rattle.dg_laws.proofs.Steps.{IsGraftedInside, completes, cut-grafted, tick-g
 use Rattle.dg_laws.proofs.Completing.{completed-grafted}
 use Rattle.dg_laws.proofs.VariableCommands.{do_variable-grafted}
 use Rattle.dg_laws.proofs.CourseCommands.{call-grafted, do_control-grafted}
-use Rattle.dg_laws.proofs.WordMaking.{gather-grafted}
+use Rattle.dg_laws.proofs.WordMaking.{words-grafted}
 use Rattle.dg_laws.proofs.ChoiceCommands.{do_choice-grafted}
 use Rattle.dg_laws.proofs.BoardCommands.{do_load_lib-grafted, do_target-grafted, do_flag-grafted}
 use Rattle.dg_laws.proofs.SessionCommands.{do_session-grafted}
@@ -68,7 +67,7 @@ module _ (nested : Nested) (inside : IsGraftedInside nested) where
   sequence-grafted (Unreadable fault ∷ cs) v s = fail-grafted _ s
   sequence-grafted (Words ws ∷ cs) v s =
       tick-grafted s (λ s'.
-      if_done-grafted (gather-grafted nested inside (command nested) command-grafted [] [] [] (substitutions ws) s')
+      if_done-grafted (words-grafted nested inside (command nested) command-grafted ws s')
       (λ v' s''. sequence-grafted cs v' s''))
 
 pub evaluate-grafted : (depth : ℕ) → IsGraftedInside (evaluate depth)

@@ -10,7 +10,7 @@ use Rattle.dg_world.specs.declared.question.Question.TheVariants as question
 use Rattle.dg_world.specs.declared.question.Answer.TheVariants as answer
 use Rattle.dg_world.specs.declared.question.Question.{Question}
 use Rattle.dg_world.specs.declared.test_id.TestId.{TestId}
-use Rattle.dg_language.specs.Play.{Play, Source, Gives, run}
+use Rattle.dg_language.specs.Play.{Play, Source, GivesEach, run}
 use Rattle.dg_language.specs.State.{State}
 use Rattle.dg_language.specs.Evaluation.{Ending}
 use Rattle.dg_language.specs.Sessions.{Told, Late, depart, perform}
@@ -27,7 +27,7 @@ Tells look test n place (e ∷ es) = (look (entry_question test n place) ≡ Som
 -- What was answered so far the source gives too, and session n has this left of its record: of which the source tells, and which is
 -- so short that not all entries of an evaluation come to be used up.
 pub record Stands (look : Source) (n max : ℕ) (s : State) (l : Left) : Type 0 where
-  pub given : Gives look s.known
+  pub given : GivesEach look s.known
   pub session : SessionView
   pub there : session_at n s.sessions ≡ Some session
   pub wait : session.cursor.wait ≡ l.wait

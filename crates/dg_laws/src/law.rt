@@ -1,6 +1,6 @@
 //! The laws on continuations.
 ghost use Rattle.dg_laws.specs.Law.{EachTextIsGrafted, TheJudgingIsGrafted, EachTextComesToAnOutcome, NoPeekIsGrafted};
-ghost use Rattle.dg_laws.specs.WordValues.{ReadWordsAreNested, WordsAreMadeOfTheirParts};
+ghost use Rattle.dg_laws.specs.WordValues.{NestedFormIsOne, ReadWordsAreNested};
 
 /// The tree of each text under a continuation is the tree of the text alone, with the continuation grafted on its ends.
 pub fn each_text_is_grafted()
@@ -23,13 +23,12 @@ pub fn no_peek_is_grafted()
     ensures { NoPeekIsGrafted }
 {}
 
-/// The words of a command, which the meaning makes step by step, are made of their parts by cases, an index of parts of its
-/// own (Tcl(n)).
-pub fn words_are_made_of_their_parts()
-    ensures { WordsAreMadeOfTheirParts }
+/// The nested form of pieces in a row is one, and it is found from the last piece on.
+pub fn nested_form_is_one()
+    ensures { NestedFormIsOne }
 {}
 
-/// The words that a text has are of that form: the parts of each are nested.
+/// The words that a text has, and its operands, are of such a form: the parts of each are nested.
 pub fn read_words_are_nested()
     ensures { ReadWordsAreNested }
 {}

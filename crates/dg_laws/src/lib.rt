@@ -6,8 +6,8 @@ mod law;
 mod replays;
 
 pub use crate::law::{
-    each_text_comes_to_an_outcome, each_text_is_grafted, no_peek_is_grafted, read_words_are_nested,
-    the_judging_is_grafted, words_are_made_of_their_parts,
+    each_text_comes_to_an_outcome, each_text_is_grafted, nested_form_is_one, no_peek_is_grafted,
+    read_words_are_nested, the_judging_is_grafted,
 };
 pub use crate::replays::{
     actions_are_replayed, chunks_come_into_the_buffer, expect_takes_the_first_hit,

@@ -8,3 +8,6 @@ pub mod ListSteps
 pub mod ListFaults
 pub mod ListKinds
 pub mod Answered
+pub mod Places
+pub mod ListInside
+pub mod ListTold

@@ -2,7 +2,7 @@
 ghost use Rattle.std.specs.Prelude.{◌≡◌, ℕ, List, Ok, Err};
 ghost use Rattle.dg_lists.specs.declared.fault.WordFault.{WordFault};
 ghost use Rattle.dg_lists.specs.Elements.{elements_of, list_read, unread};
-ghost use Rattle.dg_lists.specs.Grammar.Continuing.{GoesOn, IsList, IsNoList, StopsAt};
+ghost use Rattle.dg_lists.specs.Grammar.Continuing.{GoesOn, IsList, IsNoList, IsNot, StopsAt};
 ghost use Rattle.dg_lists.specs.Grammar.Saying.{Says};
 ghost use Rattle.dg_lists.specs.Grammar.Lists.{ListOf};
 
@@ -20,4 +20,10 @@ pub fn read_list_is_spelled()
 /// one; and its kind says what is wrong there.
 pub fn list_fault_has_its_place()
     ensures { (text : List ℕ) (fault : WordFault) → elements_of text ≡ Err fault → (place : ℕ) × GoesOn IsList text place × StopsAt (IsNoList fault) text place × Says fault text place }
+{}
+
+/// A law: where the text before a place can go on to a list and the text up to it cannot, and this fault is what is
+/// wrong there, just this fault is told.
+pub fn what_is_wrong_in_a_list_is_told()
+    ensures { (text : List ℕ) (place : ℕ) (fault : WordFault) → GoesOn IsList text place → StopsAt (IsNot IsList) text place → Says fault text place → elements_of text ≡ Err fault }
 {}

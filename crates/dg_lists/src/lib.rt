@@ -10,7 +10,10 @@ mod run;
 mod transition;
 
 pub use crate::fault::{ListFault, WordFault, fault_text};
-pub use crate::grammar::{list_fault_has_its_place, read_list_is_spelled, spelled_list_is_read};
+pub use crate::grammar::{
+    list_fault_has_its_place, read_list_is_spelled, spelled_list_is_read,
+    what_is_wrong_in_a_list_is_told,
+};
 pub use crate::kinds::{
     Class, Context, Delimiter, Digits, Effect, Ending, Escape, Mode, Target, Transition,
 };

@@ -12,7 +12,7 @@ use Rattle.dg_world.specs.declared.question.Read.{Read}
 use Rattle.dg_world.specs.declared.test_id.TestId.{TestId}
 use Rattle.dg_world.specs.Question.{fits}
 use Rattle.dg_language.specs.declared.ask.Ask.{Ask}
-use Rattle.dg_language.specs.Play.{Play, Ends, Asks, Source, Over, run, Gives, Leads}
+use Rattle.dg_language.specs.Play.{Play, Ends, Asks, Source, Over, run, GivesEach, Leads}
 use Rattle.dg_language.specs.Evaluation.{Ending}
 use Rattle.dg_language.specs.Judge.{judge}
 use Rattle.dg_results.specs.declared.verdict.Line.{Line}
@@ -179,7 +179,7 @@ module _ {G A : Type 0} (gates : GateStep G) (asks : AskerStep A) where
           ending = turn.0.ending;
           verdict = turn.0.lines;
           stays = all.stays;
-          replay = subst (λ rs. (look : Source) → Gives look (others rs) → TellsOf look t (transcript_of rs) → run look (judge t) ≡ Over turn.0.ending) same all.replay;
+          replay = subst (λ rs. (look : Source) → GivesEach look (others rs) → TellsOf look t (transcript_of rs) → run look (judge t) ≡ Over turn.0.ending) same all.replay;
         }
 
     -- the same run under other names

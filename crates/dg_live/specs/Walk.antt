@@ -15,7 +15,7 @@ use Rattle.dg_world.specs.declared.test_id.TestId.{TestId}
 use Rattle.dg_world.specs.Question.{fits}
 use Rattle.dg_language.specs.declared.ask.Ask.{Ask}
 use Rattle.dg_language.specs.declared.close.Close.TheVariants.{Departed}
-use Rattle.dg_language.specs.Play.{Play, Ends, Asks, Source, Over, run, Gives}
+use Rattle.dg_language.specs.Play.{Play, Ends, Asks, Source, Over, run, GivesEach}
 use Rattle.dg_language.specs.Evaluation.{Ending}
 use Rattle.dg_language.specs.Judge.{judge}
 use Rattle.dg_records.specs.Truth.{RecordView}
@@ -87,7 +87,7 @@ pub record IsLiveRun {G A : Type 0} (gates : GateStep G) (asks : AskerStep A) (t
   pub ending : Ending
   pub verdict : ending.verdict ≡ r.verdict
   pub stays : ending.close ≢ Departed
-  pub replay : (look : Source) → Gives look (others r.reads) → TellsOf look t ss → run look (judge t) ≡ Over ending
+  pub replay : (look : Source) → GivesEach look (others r.reads) → TellsOf look t ss → run look (judge t) ≡ Over ending
 
 -- One turn: the next question is answered, or the judging has ended and nobody was called.
 abbrev pub Turns : {G A : Type 0} → GateStep G → AskerStep A → (G → ℕ) → JobView → JobView → G → A → G → A → Option RecordView → Type 0

@@ -5,7 +5,7 @@ use Rattle.std.specs.Prelude.{Option, Some, None, nat_lt, is_some, slice_get, de
 use Rattle.std.proofs.lemmas.Option.{same_Some}
 use Rattle.dg_glob.specs.declared.glob.Span.{Span}
 use Rattle.dg_match.specs.declared.hit.Hit.{Hit}
-use Rattle.dg_results.specs.Calls.{Call}
+use Rattle.dg_results.specs.declared.call.ResultCall.{ResultCall}
 use Rattle.dg_transcript.specs.declared.entry.Entry.{Entry}
 use Rattle.dg_sessions.specs.Views.{SessionView, session_at}
 use Rattle.dg_sessions.specs.Steps.{changed_at, changed, emptied, taken, limited}
@@ -32,7 +32,7 @@ pub with_board_made-same : (s : State) → Same s (with_board_made s)
 unfolding with_board_made
 with_board_made-same s = record { test = refl; known = refl; used = refl; agree = λ ss h. h }
 
-pub with_call-same : (c : Call) (s : State) → Same s (with_call c s)
+pub with_call-same : (c : ResultCall) (s : State) → Same s (with_call c s)
 unfolding with_call
 with_call-same c s = record { test = refl; known = refl; used = refl; agree = λ ss h. h }
 

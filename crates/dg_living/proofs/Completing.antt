@@ -1,6 +1,5 @@
 -- What comes after a command that evaluates nothing inside and asks nothing.
 use Rattle.std.specs.Prelude.{Ok, Err}
-use Rattle.dg_language.specs.Calls.{call_of}
 use Rattle.dg_language.specs.declared.completion.Change.{Change}
 use Rattle.dg_language.specs.declared.completion.Change.TheVariants.{Nothing, Calls, Sets, Unsets, Defines}
 use Rattle.dg_language.specs.State.{State}
@@ -11,7 +10,7 @@ use Rattle.dg_living.proofs.Steps.{Lives, along, completes, fail-lives}
 
 performed-same : (e : Change) (s : State) → Same s (performed e s)
 performed-same Nothing s = stays s
-performed-same (Calls c) s = with_call-same (call_of c) s
+performed-same (Calls c) s = with_call-same c s
 performed-same (Sets key value) s = with_setting-same key value s
 performed-same (Unsets key) s = without_setting-same key s
 performed-same (Defines name p) s = defined-same name p s

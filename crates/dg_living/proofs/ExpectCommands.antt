@@ -16,14 +16,13 @@ use Rattle.dg_language.specs.declared.code.Code.TheVariants.{Done, Failed, Retur
 use Rattle.dg_language.specs.Play.{Play}
 use Rattle.dg_language.specs.State.{State, in_action, out_of_action}
 use Rattle.dg_language.specs.Evaluation.{Ending, Then, Nested}
-use Rattle.dg_language.specs.Words.{substitutions}
 use Rattle.dg_language.specs.Sessions.{is_session_open}
 use Rattle.dg_language.specs.ExpectWords.{expect_words, patterns_in, regexes_in, is_for_timeout, is_for_end, listed}
 use Rattle.dg_language.specs.Expecting.{Waiting, with_match, with_end, bytes_of, action_at, first_action, after_action, act, taking, tries, after_read, after_limit, reading, one_round, rounds, milliseconds, with_number, or_ten, with_limit, expect_with, expect_list, expect_args, do_expect}
 use Rattle.dg_living.proofs.Changes.{in_action-same, out_of_action-same, with_match-same, with_end-same}
 use Rattle.dg_living.proofs.SessionWords.{Fit, open-phase, open-fit}
 use Rattle.dg_living.proofs.Steps.{Lives, LivesInside, completes, along, ends_out, either_known, fail-lives, one_after_another}
-use Rattle.dg_living.proofs.WordMaking.{gather-lives}
+use Rattle.dg_living.proofs.WordMaking.{words-lives}
 use Rattle.dg_living.proofs.Performing.{perform-lives}
 use Rattle.dg_living.proofs.SessionCommands.{at_open, seek-lives, on_session-lives, on_words-lives}
 use Rattle.dg_living.proofs.Matching.{with_patterns-lives}
@@ -110,7 +109,7 @@ module _ (nested : Nested) (inside : LivesInside nested) where
   expect_list-lives : (r : Result (List Word) WordFault) (s : State) → Lives s (expect_list nested r s)
   expect_list-lives (Err fault) s = fail-lives _ s
   expect_list-lives (Ok words) s =
-      gather-lives nested inside (expect_with nested) (λ made u short. expect_with-lives made u) [] [] [] (substitutions words) s tt (omega arith)
+      words-lives nested inside (expect_with nested) (λ made u short. expect_with-lives made u) words s
 
   expect_args-lives : (text : Option (List ℕ)) (args : List (List ℕ)) (s : State) → Lives s (expect_args nested text args s)
   expect_args-lives None args s = expect_with-lives args s

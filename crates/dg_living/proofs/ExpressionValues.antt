@@ -14,11 +14,12 @@ use Rattle.dg_language.specs.Play.{Play}
 use Rattle.dg_language.specs.State.{State}
 use Rattle.dg_language.specs.Evaluation.{Ending, Then, Nested}
 use Rattle.dg_language.specs.Control.{head_or_empty}
-use Rattle.dg_language.specs.Expressions.{operand_steps, load, host, value_of_tree, calculate, judged, condition, in_decimal, behind_spaces, do_expr}
+use Rattle.dg_language.specs.Expressions.{host, value_of_tree, calculate, judged, condition, in_decimal, behind_spaces, do_expr}
 use Rattle.dg_living.proofs.Steps.{Lives}
 use Rattle.dg_living.proofs.Steps.{LivesInside, completes, either_if, within-lives, fail-lives, if_done-lives}
 use Rattle.dg_living.proofs.ElementLengths.{AreShort}
-use Rattle.dg_living.proofs.WordMaking.{gather-lives}
+use Rattle.dg_language.specs.Words.{nested_in}
+use Rattle.dg_living.proofs.WordMaking.{joined-lives}
 
 module _ (nested : Nested) (inside : LivesInside nested) where
   settle-lives : (r : Value) (x y : List ℕ) (s : State) {f : List ℕ → State → Then → Play Ending}
@@ -58,13 +59,9 @@ module _ (nested : Nested) (inside : LivesInside nested) where
   value_behind-lives WhereFalse op x right is s more =
       judge-lives (truth_of x) x s (λ t. either_if t (more (truth_text true) s) (truth_behind-lives right is s more))
 
-  operand-lives : (made : List (List ℕ)) (s : State) → AreShort made → Lives s (load made s)
-  operand-lives made s short = completes Done (head_or_empty made) s
-
   value-lives : (tree : Tree) → LivesValue tree
   unfolding value LivesValue host
-  value-lives (Operand pieces) s f more =
-      if_done-lives (gather-lives nested inside load operand-lives [] [] [] (operand_steps pieces) s tt (omega arith)) more
+  value-lives (Operand pieces) s f more = joined-lives nested inside (nested_in pieces) [] s (omega arith) (λ v t short. more v t)
   value-lives (One op a) s f more =
       value-lives a s (λ x s' k. settle (host nested k) (value_of_one op x) x [] s' (λ v t. f v t k))
       (λ x s'. settle-lives (value_of_one op x) x [] s' more)

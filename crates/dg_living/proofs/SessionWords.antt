@@ -7,7 +7,8 @@ use Rattle.dg_sessions.specs.Phases.{is_open, can_wait}
 use Rattle.dg_sessions.specs.declared.phase.Phase.{Phase}
 use Rattle.dg_sessions.specs.declared.phase.Phase.TheVariants.{Unstarted, Open, Ended, Closed, Waited}
 use Rattle.dg_language.specs.Evaluation.{wrong_count}
-use Rattle.dg_language.specs.Switching.{is, is_flag}
+use Rattle.dg_language.specs.Switching.{is_flag}
+use Rattle.dg_bytes.specs.Same.{same_bytes}
 use Rattle.dg_language.specs.SessionWords.{bad_flag, spawn_words, sent_text, last_of_send, send_words}
 use Rattle.dg_language.specs.Sessions.{if_fit, fit_number, fit_session, is_session_open}
 use Rattle.dg_living.proofs.Admitting.{Place, ended, PhaseAt}
@@ -17,7 +18,7 @@ use Rattle.dg_living.proofs.ElementLengths.{IsShort, AreShort}
 pub spawn-some : (args words : List (List ℕ)) → spawn_words args ≡ Ok words → 0 < length words
 unfolding spawn_words
 spawn-some [] words named_so = absurd cc
-spawn-some (w ∷ ws) words named_so = go (is_flag w) (is w (codes "-noecho")) (spawn-some ws words) named_so
+spawn-some (w ∷ ws) words named_so = go (is_flag w) (same_bytes w (codes "-noecho")) (spawn-some ws words) named_so
   where
     go : (b d : Bool) → (spawn_words ws ≡ Ok words → 0 < length words)
         → (elim b as (λ _. Result (List (List ℕ)) (List ℕ)) [ true ↦ elim d as (λ _. Result (List (List ℕ)) (List ℕ)) [ true ↦ spawn_words ws | false ↦ Err (bad_flag w) ] | false ↦ Ok (w ∷ ws) ]) ≡ Ok words
@@ -32,7 +33,7 @@ sent-short id (text ∷ []) r so short = let same : (id, text) ≡ r = cc in sub
 sent-short id (_ ∷ _ ∷ _) r so short = absurd cc
 
 last-short : (id : Option (List ℕ)) (w : List ℕ) (r : Option (List ℕ) × List ℕ) → last_of_send id w ≡ Ok r → IsShort w → IsShort r.1
-last-short id w r so short = go (is_flag w) (is w (codes "--")) (is w (codes "-i")) so
+last-short id w r so short = go (is_flag w) (same_bytes w (codes "--")) (same_bytes w (codes "-i")) so
   where
     go : (a b d : Bool)
         → (elim a as (λ _. Result (Option (List ℕ) × List ℕ) (List ℕ)) [
@@ -54,7 +55,7 @@ unfolding send_words
 send-short id [] r so short = absurd cc
 send-short id (w ∷ []) r so short = last-short id w r so short.0
 send-short id (w ∷ v ∷ ws) r so short =
-    go (is_flag w) (is w (codes "--")) (is w (codes "-i")) (λ more. send-short (Some v) ws r more short.1.1) so
+    go (is_flag w) (same_bytes w (codes "--")) (same_bytes w (codes "-i")) (λ more. send-short (Some v) ws r more short.1.1) so
   where
     go : (a b d : Bool) → (send_words (Some v) ws ≡ Ok r → IsShort r.1)
         → (elim a as (λ _. Result (Option (List ℕ) × List ℕ) (List ℕ)) [

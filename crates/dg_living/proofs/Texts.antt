@@ -13,7 +13,6 @@ use Rattle.dg_language.specs.declared.command.Command.TheVariants.{Words, Unread
 use Rattle.dg_language.specs.declared.procedure.Procedure.{Procedure}
 use Rattle.dg_language.specs.State.{State}
 use Rattle.dg_language.specs.Evaluation.{Nested}
-use Rattle.dg_language.specs.Words.{substitutions}
 use Rattle.dg_language.specs.Immediate.{immediate}
 use Rattle.dg_language.specs.Builtins.{builtin_of, usable}
 use Rattle.dg_language.specs.Language.{builtin, pure_value, known_command, by_name, command, sequence, commands_at, evaluate}
@@ -22,7 +21,7 @@ use Rattle.dg_living.proofs.Steps.{Lives, LivesInside, completes, cut-lives, tic
 use Rattle.dg_living.proofs.Completing.{completed-lives}
 use Rattle.dg_living.proofs.VariableCommands.{do_variable-lives}
 use Rattle.dg_living.proofs.CourseCommands.{call-lives, do_control-lives}
-use Rattle.dg_living.proofs.WordMaking.{gather-lives}
+use Rattle.dg_living.proofs.WordMaking.{words-lives}
 use Rattle.dg_living.proofs.ChoiceCommands.{do_choice-lives}
 use Rattle.dg_living.proofs.BoardCommands.{do_load_lib-lives, do_target-lives, do_flag-lives}
 use Rattle.dg_living.proofs.SessionCommands.{do_session-lives}
@@ -68,7 +67,7 @@ module _ (nested : Nested) (inside : LivesInside nested) where
   sequence-lives (Unreadable fault ∷ cs) v s = fail-lives _ s
   sequence-lives (Words ws ∷ cs) v s =
       tick-lives s (λ s'.
-      if_done-lives (gather-lives nested inside (command nested) command-lives [] [] [] (substitutions ws) s' tt (omega arith))
+      if_done-lives (words-lives nested inside (command nested) command-lives ws s')
       (λ v' s''. sequence-lives cs v' s''))
 
 pub evaluate-lives : (depth : ℕ) → LivesInside (evaluate depth)

@@ -12,7 +12,7 @@ use Rattle.dg_world.specs.declared.question.Read.{Read}
 use Rattle.dg_world.specs.declared.test_id.TestId.{TestId}
 use Rattle.dg_world.specs.Question.{fits}
 use Rattle.dg_world.specs.Transcripts.{entry_answer}
-use Rattle.dg_language.specs.Play.{Play, Ends, Asks, Source, heard, Gives, Leads}
+use Rattle.dg_language.specs.Play.{Play, Ends, Asks, Source, heard, GivesEach, Leads}
 use Rattle.dg_language.specs.Evaluation.{Ending}
 use Rattle.dg_language.specs.Judge.{judge}
 use Rattle.dg_language.proofs.Sources.{run-leads}
@@ -146,7 +146,7 @@ all-stand t (Asks ask f) rest ss (r ∷ rs) lives leads = (
 
 -- a source of the transcript and of the other answers gives all that was read
 gives-all : (look : Source) (t : TestId) (ss : List (List Entry)) (reads : List Read) → AllStand t ss reads → TellsOf look t ss
-    → Gives look (others reads) → Gives look reads
+    → GivesEach look (others reads) → GivesEach look reads
 gives-all look t ss [] stand tells given = tt
 gives-all look t ss (r ∷ rs) stand tells given =
     by_kind (is_about_entry r.question) refl given (λ g. gives-all look t ss rs stand.1 tells g)
@@ -160,8 +160,8 @@ gives-all look t ss (r ∷ rs) stand tells given =
         ap (heard (question.Entry place)) told ∙ ap (λ x. Some x) (sym stands.1.1)
     entry-told q stands about = absurd cc
 
-    by_kind : (b : Bool) → is_about_entry r.question ≡ b → Gives look (elim b as (λ _. List Read) [ true ↦ others rs | false ↦ r ∷ others rs ])
-        → (Gives look (others rs) → Gives look rs) → Gives look (r ∷ rs)
+    by_kind : (b : Bool) → is_about_entry r.question ≡ b → GivesEach look (elim b as (λ _. List Read) [ true ↦ others rs | false ↦ r ∷ others rs ])
+        → (GivesEach look (others rs) → GivesEach look rs) → GivesEach look (r ∷ rs)
     by_kind true about g more = (entry-told r.question stand.0 about, more g)
     by_kind false about g more = (g.0, more g.1)
 

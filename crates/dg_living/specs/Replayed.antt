@@ -15,7 +15,7 @@ use Rattle.dg_world.specs.declared.test_id.TestId.{TestId}
 use Rattle.dg_world.specs.Question.{fits}
 use Rattle.dg_world.specs.Transcripts.{entry_answer}
 use Rattle.dg_language.specs.declared.close.Close.TheVariants.{Departed}
-use Rattle.dg_language.specs.Play.{Play, Ends, Asks, Source, Over, run, Gives}
+use Rattle.dg_language.specs.Play.{Play, Ends, Asks, Source, Over, run, GivesEach}
 use Rattle.dg_language.specs.Evaluation.{Ending}
 use Rattle.dg_language.specs.Judge.{judge}
 use Rattle.dg_living.specs.Living.{IsOfBytes, is_about_entry, with_entry}
@@ -70,7 +70,7 @@ TellsOf look t ss =
 pub record IsReplayed (t : TestId) (reads : List Read) (e : Ending) : Type 0 where
   pub transcript : IsTranscript (transcript_of reads)
   pub entries : AllStand t (transcript_of reads) reads
-  pub replay : (look : Source) → Gives look (others reads) → TellsOf look t (transcript_of reads) → run look (judge t) ≡ Over e
+  pub replay : (look : Source) → GivesEach look (others reads) → TellsOf look t (transcript_of reads) → run look (judge t) ≡ Over e
   pub stays : e.close ≢ Departed
 
 -- What a judging came to live, it comes to in the replay of its transcript.

@@ -8,7 +8,8 @@ use Rattle.dg_transcript.specs.declared.cursor.Act.{Act}
 use Rattle.dg_transcript.specs.declared.cursor.Act.TheVariants as act
 use Rattle.dg_transcript.specs.declared.cursor.Action.{Action}
 use Rattle.dg_transcript.specs.declared.cursor.Action.TheVariants as action
-use Rattle.dg_transcript.specs.Step.{Step, step, step_at, departs, answers, answers_if, passes, waiting, gone_on, same_bytes, same_words}
+use Rattle.dg_bytes.specs.Same.{same_bytes, same_words}
+use Rattle.dg_transcript.specs.Step.{Step, step, step_at, departs, answers, answers_if, passes, waiting, gone_on}
 use Rattle.dg_sessions.specs.Views.{SessionView, SessionsView, id_of, session_at}
 use Rattle.dg_sessions.specs.Steps.{step_of, acted, acted_by, all_acted, acted_at, used_between}
 use Rattle.dg_world.specs.declared.question.Answer.{Answer}

@@ -11,7 +11,7 @@ use Rattle.dg_world.specs.declared.question.Question.{Question}
 use Rattle.dg_world.specs.declared.question.Question.TheVariants.{File, Triplet}
 use Rattle.dg_world.specs.declared.question.Answer.{Answer}
 use Rattle.dg_cmds.specs.Places.{glob_matches}
-use Rattle.dg_results.specs.Calls.{Call}
+use Rattle.dg_results.specs.declared.call.ResultCall.{ResultCall}
 use Rattle.dg_language.specs.declared.code.Code.TheVariants.{Done}
 use Rattle.dg_language.specs.declared.command.FlagCommand.{FlagCommand}
 use Rattle.dg_language.specs.Play.{Play, Asks, plain, lookup}
@@ -133,11 +133,11 @@ flag-none c args s k e =
 abbrev pub flag_on : FlagCommand → List (List ℕ) → Answer → State → Then → Play Ending
 flag_on c args a s k = k Done [] (flagged c (triplet_of a) args s)
 
-pub known-called : (c : Call) (s : State) → (with_call c s).known ≡ s.known
+pub known-called : (c : ResultCall) (s : State) → (with_call c s).known ≡ s.known
 unfolding with_call
 known-called c s = refl
 
-pub weight-called : (o : Control) (c : Call) (s : State) (fs : List Frame) → weight o (with_call c s) fs ≡ weight o s fs
+pub weight-called : (o : Control) (c : ResultCall) (s : State) (fs : List Frame) → weight o (with_call c s) fs ≡ weight o s fs
 unfolding with_call weight
 weight-called o c s fs = refl
 

@@ -1,7 +1,6 @@
 -- What a command changes that evaluates nothing inside: neither the answers, nor the steps, nor the entries that were used.
 use Rattle.std.proofs.Common.{◌≡◌, ℕ, Bool, true, false, List, [], ◌∷◌, ◌++◌, refl}
 use Rattle.std.specs.Prelude.{is_some}
-use Rattle.dg_language.specs.Calls.{call_of}
 use Rattle.dg_language.specs.declared.completion.Change.{Change}
 use Rattle.dg_language.specs.declared.completion.Change.TheVariants.{Nothing, Calls, Sets, Unsets, Defines}
 use Rattle.dg_language.specs.declared.procedure.Procedure.{Procedure}
@@ -34,7 +33,7 @@ known-defined name p s = refl
 
 pub known-performed : (e : Change) (s : State) → (performed e s).known ≡ s.known
 known-performed Nothing s = refl
-known-performed (Calls c) s = known-called (call_of c) s
+known-performed (Calls c) s = known-called c s
 known-performed (Sets key value) s = known-set key value s
 known-performed (Unsets key) s = known-unset key s
 known-performed (Defines name p) s = known-defined name p s
@@ -59,7 +58,7 @@ module _ (o : Control) (fs : List Frame) where
 
   pub weight-performed : (e : Change) (s : State) → weight o (performed e s) fs ≡ weight o s fs
   weight-performed Nothing s = refl
-  weight-performed (Calls c) s = weight-called o (call_of c) s fs
+  weight-performed (Calls c) s = weight-called o c s fs
   weight-performed (Sets key value) s = weight-set key value s
   weight-performed (Unsets key) s = weight-unset key s
   weight-performed (Defines name p) s = weight-defined name p s

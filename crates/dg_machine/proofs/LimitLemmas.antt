@@ -25,6 +25,7 @@ use Rattle.dg_machine.specs.declared.frame.Control.TheVariants.{Go}
 use Rattle.dg_machine.specs.declared.frame.Limiting.{Limiting}
 use Rattle.dg_compiled.specs.declared.making.Making.{Making}
 use Rattle.dg_compiled.specs.declared.word_lists.WordList.{WordList}
+use Rattle.dg_compiled.proofs.WordParts.{words-made}
 use Rattle.dg_compiled.specs.WordLists.{steps_for, word_list_in, words_on}
 use Rattle.dg_machine.specs.declared.frame.Closing.{Closing}
 use Rattle.dg_machine.specs.declared.frame.Fit.TheVariants.{Open}
@@ -157,7 +158,7 @@ module _ (nested : Nested) (args : List (List ℕ)) (s : State) (k : Then) where
 
 -- the steps that were read of a list come to what its words do
 list-read : (r : Result (List Word) WordFault) (depth : ℕ) (s : State) (k : Then) → words_on (steps_for r) Expect depth s k ≡ expect_list (evaluate depth) r s k
-list-read (Ok words) depth s k = refl
+list-read (Ok words) depth s k = words-made (evaluate depth) (expect_with (evaluate depth)) k words s
 list-read (Err fault) depth s k = refl
 
 pub expect-listed : (depth : ℕ) (args : List (List ℕ)) (s : State) (k : Then) (text : List ℕ) (list : WordList) → Some text ≡ listed args → list ≡ word_list_in text

@@ -18,7 +18,10 @@ use Rattle.dg_language.specs.declared.command.Command.TheVariants.{Words, Unread
 use Rattle.dg_lists.specs.Faults.{fault_text}
 use Rattle.dg_language.specs.Evaluation.{Ending, Then, cut, aborted, out_of_steps, fail, tick, if_done}
 use Rattle.dg_language.specs.Language.{command, sequence, evaluate, commands_at}
-use Rattle.dg_language.specs.Words.{gather, substitutions}
+use Rattle.dg_language.specs.Words.{words_made}
+use Rattle.dg_language.specs.WordSteps.{substitutions}
+use Rattle.dg_compiled.proofs.WordParts.{words-made}
+use Rattle.dg_compiled.specs.Gathering.{gather}
 use Rattle.dg_machine.specs.declared.frame.Frame.{Frame}
 use Rattle.dg_machine.specs.declared.frame.Frame.TheVariants.{Sequence}
 use Rattle.dg_machine.specs.declared.frame.Control.TheVariants.{Go}
@@ -96,14 +99,16 @@ pub sequence-next : (d : ℕ) (ws : List Word) (cs more : List Command) (v : Lis
     → sequence (evaluate d) cs v s (all_back fs) ≡ gather (evaluate d) (command (evaluate d)) [] [] [] (substitutions ws) (stepped s) (all_back (Sequence more d ∷ fs))
 unfolding sequence all_back back
 sequence-next d ws cs more v s fs e h =
-    rw e (tick-step s (λ s'. gather (evaluate d) (command (evaluate d)) [] [] [] (substitutions ws) s' (if_done (λ v' s''. sequence (evaluate d) more v' s'' (all_back fs)) (all_back fs))) h)
+    rw e
+    (tick-step s (λ s'. words_made (evaluate d) (command (evaluate d)) ws s' (if_done (λ v' s''. sequence (evaluate d) more v' s'' (all_back fs)) (all_back fs))) h
+    ∙ sym (words-made (evaluate d) (command (evaluate d)) (if_done (λ v' s''. sequence (evaluate d) more v' s'' (all_back fs)) (all_back fs)) ws (stepped s)))
 
 -- no step is left for the next command
 pub sequence-cut : (d : ℕ) (ws : List Word) (cs more : List Command) (v : List ℕ) (s : State) (k : Then) → cs ≡ Words ws ∷ more → 100000 ≤ s.steps
     → sequence (evaluate d) cs v s k ≡ Ends (out_of_steps s)
 unfolding sequence
 sequence-cut d ws cs more v s k e h =
-    rw e (tick-none s (λ s'. gather (evaluate d) (command (evaluate d)) [] [] [] (substitutions ws) s' (if_done (λ v' s''. sequence (evaluate d) more v' s'' k) k)) h)
+    rw e (tick-none s (λ s'. words_made (evaluate d) (command (evaluate d)) ws s' (if_done (λ v' s''. sequence (evaluate d) more v' s'' k) k)) h)
 
 -- a step that is taken pays for a command, whose words are made in so many steps
 pub weight-stepped : (s : State) (more : List Command) (d n : ℕ) (fs : List Frame) → s.steps < 100000 → n < 2 ^ 64

@@ -25,7 +25,9 @@ use Rattle.dg_expr.specs.Reading.{tree_in}
 use Rattle.dg_expr.specs.declared.code.Instruction.{Instruction}
 use Rattle.dg_language.specs.Builtins.{builtin_of, usable}
 use Rattle.dg_language.specs.Language.{command, commands_at, evaluate, known_command, sequence}
-use Rattle.dg_language.specs.Words.{Act, gather, longer, substitutions}
+use Rattle.dg_language.specs.Words.{Act, longer, words_made}
+use Rattle.dg_language.specs.WordSteps.{substitutions}
+use Rattle.dg_compiled.specs.Gathering.{gather}
 use Rattle.dg_language.proofs.TouchLemmas.{in-use, touch-free, within-short}
 use Rattle.dg_machine.specs.Settling.{AsksNothing, ComesBy, GoesOnAs, HasText, IsOnly, Returns, Sets, Settles, Yields}
 use Rattle.dg_compiled.specs.Script.{HasSteps, begins}
@@ -42,6 +44,7 @@ use Rattle.dg_compiled.specs.Calculating.{calculating}
 use Rattle.dg_compiled.specs.declared.calculation.Calculation.{Calculation}
 use Rattle.dg_machine.specs.Meaning.{all_back, back, weight}
 use Rattle.dg_compiled.proofs.GatherLemmas.{gather-none, gather-script, gather-word}
+use Rattle.dg_compiled.proofs.WordParts.{words-made}
 use Rattle.dg_compiled.proofs.ExpressionLemmas.{begun-calculates, expr-short}
 use Rattle.dg_machine.proofs.MachineLemmas.{evaluate-inside, sequence-done, tick-step}
 use Rattle.dg_machine.proofs.StepLemmas.{command-known}
@@ -226,7 +229,8 @@ settles-next d cs at steps s t v w h left settles = λ k.
     let then : Then = if_done (λ u t'. sequence (evaluate d) (drop (at + 1) cs) u t' k) k in
     sym
     (ap (λ xs. sequence (evaluate d) xs v s k) h.1.0
-    ∙ tick-step s (λ u. gather (evaluate d) (command (evaluate d)) [] [] [] (substitutions h.0) u then) left
+    ∙ tick-step s (λ u. words_made (evaluate d) (command (evaluate d)) h.0 u then) left
+    ∙ sym (words-made (evaluate d) (command (evaluate d)) then h.0 (stepped s))
     ∙ ap (λ xs. gather (evaluate d) (command (evaluate d)) [] [] [] xs (stepped s) then) (sym h.1.1)
     ∙ settles then)
 
@@ -370,6 +374,7 @@ unfolding sequence
 returns-next d cs at steps s t w h left returns = λ v k.
     let then : Then = if_done (λ u t'. sequence (evaluate d) (drop (at + 1) cs) u t' k) k in
     ap (λ xs. sequence (evaluate d) xs v s k) h.1.0
-    ∙ tick-step s (λ u. gather (evaluate d) (command (evaluate d)) [] [] [] (substitutions h.0) u then) left
+    ∙ tick-step s (λ u. words_made (evaluate d) (command (evaluate d)) h.0 u then) left
+    ∙ sym (words-made (evaluate d) (command (evaluate d)) then h.0 (stepped s))
     ∙ ap (λ xs. gather (evaluate d) (command (evaluate d)) [] [] [] xs (stepped s) then) (sym h.1.1)
     ∙ returns then

@@ -4,7 +4,7 @@ use Rattle.dg_world.specs.declared.question.Answer.{Answer}
 use Rattle.dg_world.specs.declared.question.Read.{Read}
 use Rattle.dg_world.specs.declared.test_id.TestId.{TestId}
 use Rattle.dg_language.specs.declared.ask.Ask.{Ask}
-use Rattle.dg_language.specs.Play.{Play, Ends, Asks, run, Over, Needs, lookup, source_of, Gives, Leads}
+use Rattle.dg_language.specs.Play.{Play, Ends, Asks, run, Over, Needs, lookup, source_of, GivesEach, Leads}
 use Rattle.dg_language.specs.Evaluation.{Ending}
 use Rattle.dg_language.specs.Judge.{judge}
 use Rattle.dg_machine.specs.declared.machine.Machine.{Machine}
@@ -46,7 +46,7 @@ pub record HasEnded (test : TestId) (reads : List Read) (e : Ending) : Type 0 wh
 
 -- the source of these reads gives each of them: no question was answered twice, and none with another kind
 abbrev pub IsOnce : List Read → Type 0
-IsOnce reads = Gives (source_of reads) reads
+IsOnce reads = GivesEach (source_of reads) reads
 
 -- Down the tree of the test's judging, along the reads so far, stands what is left.
 pub record IsLeft (test : TestId) (m : Machine) : Type 0 where

@@ -14,7 +14,8 @@ use Rattle.dg_language.specs.Variables.{touch, given, unset_all}
 use Rattle.dg_scope.specs.Scopes.{value_of}
 use Rattle.dg_language.specs.Control.{caught, each, give_each}
 use Rattle.dg_language.specs.Language.{command, used, sequence, evaluate}
-use Rattle.dg_language.specs.Words.{longer, gather}
+use Rattle.dg_language.specs.Words.{longer}
+use Rattle.dg_compiled.specs.Gathering.{gather}
 use Rattle.dg_language.specs.declared.substitution.Purpose.{Purpose}
 use Rattle.dg_language.specs.declared.substitution.Purpose.TheVariants.{Run, Load, Expect}
 use Rattle.dg_language.specs.Boards.{after_library}

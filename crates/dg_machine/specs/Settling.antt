@@ -9,7 +9,7 @@ use Rattle.dg_language.specs.declared.substitution.Substitution.{Substitution}
 use Rattle.dg_language.specs.State.{State, assigned, stepped}
 use Rattle.dg_language.specs.Evaluation.{Then}
 use Rattle.dg_language.specs.Language.{evaluate, sequence}
-use Rattle.dg_language.specs.Words.{substitutions}
+use Rattle.dg_language.specs.WordSteps.{substitutions}
 use Rattle.dg_compiled.specs.Script.{begins}
 use Rattle.dg_compiled.specs.Texts.{IsText}
 use Rattle.dg_compiled.specs.Ways.{HasCode, HasWord}

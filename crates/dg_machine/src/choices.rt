@@ -34,7 +34,7 @@ impl Machine {
                 self.end(Code::Done, Bytes::new(alloc));
                 Ok(Pace::Moved)
             }
-            Some(body) => Ok(self.enter(alloc, body, depth)?),
+            Some(body) => self.enter(alloc, body, depth),
         }
     }
 
@@ -159,8 +159,8 @@ impl Machine {
         ensures { IfOk result (GoesAs (do_switch (evaluate depth) args.now) 4 self.old self.new) }
     {
         match switched(alloc, &mut self.shelves.pairs, args)? {
-            Ok(body) => Ok(self.otherwise(alloc, body, depth)?),
-            Err(message) => Ok(self.fail(alloc, message)?),
+            Ok(body) => self.otherwise(alloc, body, depth),
+            Err(message) => self.fail(alloc, message),
         }
     }
 
@@ -178,7 +178,7 @@ impl Machine {
             let closing = self.cut(alloc, b"value too long")?;
             return Ok(Pace::Over(closing));
         };
-        Ok(self.enter(alloc, text, depth)?)
+        self.enter(alloc, text, depth)
     }
 
     /// `eval`: what `concat` makes of the words runs.
@@ -188,10 +188,10 @@ impl Machine {
         ensures { IfOk result (GoesAs (do_eval (evaluate depth) args.now) 4 self.old self.new) }
     {
         let Some((_, _)) = split(args) else {
-            return Ok(self.wrong_count(alloc, b"eval")?);
+            return self.wrong_count(alloc, b"eval");
         };
         let text = concatenated(alloc, args)?;
-        Ok(self.evaluate(alloc, text, depth)?)
+        self.evaluate(alloc, text, depth)
     }
 
     /// A command that computes, chooses or repeats.

@@ -40,7 +40,7 @@ impl Machine {
         let (script, name) = match args {
             [script] => (script, None),
             [script, name] => (script, Some(name.copy(alloc)?)),
-            _ => return Ok(self.wrong_count(alloc, b"catch")?),
+            _ => return self.wrong_count(alloc, b"catch"),
         };
         self.stack.push(Frame::Catching { name })?;
         let script = script.copy(alloc)?;
@@ -152,8 +152,8 @@ impl Machine {
         ensures { IfOk result (GoesAs (do_control (evaluate depth) which args.now) 9 self.old self.new) }
     {
         match which {
-            ControlCommand::Foreach => Ok(self.for_each(alloc, args, depth)?),
-            ControlCommand::Catch => Ok(self.catch(alloc, args, depth)?),
+            ControlCommand::Foreach => self.for_each(alloc, args, depth),
+            ControlCommand::Catch => self.catch(alloc, args, depth),
         }
     }
 }

@@ -404,8 +404,8 @@ fn or_ten(alloc: Global, value: Option<&Bytes>) -> Result<Bytes, AllocError>
     ensures { IfOk result (λ b. b ≡ or_ten (option_copied value.entry)) }
 {
     match value {
-        Some(value) => Ok(value.copy(alloc)?),
-        None => Ok(Bytes::from_slice(alloc, b"10")?),
+        Some(value) => value.copy(alloc),
+        None => Bytes::from_slice(alloc, b"10"),
     }
 }
 

@@ -32,7 +32,7 @@ impl Machine {
             self.old.state.known (weight_of self.old + 8 + 2 ^ 67 * length calculation.left) self.new p) }
     {
         let computed = compute_on(alloc, &self.state, &mut calculation)?;
-        Ok(self.come_to(alloc, calculation, computed)?)
+        self.come_to(alloc, calculation, computed)
     }
 
     /// An expression has come to its end, to an error, or to an operand that needs an evaluation.
@@ -95,7 +95,7 @@ impl Machine {
         match code {
             Code::Done => {
                 calculation.values.push(value)?;
-                Ok(self.compute(alloc, calculation)?)
+                self.compute(alloc, calculation)
             }
             Code::Failed | Code::Returned | Code::Broken | Code::Continued | Code::ExpContinued => {
                 Ok(self.go_up(code, value))

@@ -3,7 +3,8 @@ ghost use Rattle.std.specs.Prelude.{◌≡◌, ◌+◌, ◌*◌, ◌<◌, ◌∷
 ghost use Rattle.dg_language.specs.Evaluation.{if_done, list_in};
 ghost use Rattle.dg_language.specs.Variables.{touch};
 ghost use Rattle.dg_language.specs.Language.{used, evaluate};
-ghost use Rattle.dg_language.specs.Words.{gather, element, with_elements};
+ghost use Rattle.dg_language.specs.Words.{element, with_elements};
+ghost use Rattle.dg_compiled.specs.Gathering.{gather};
 ghost use Rattle.dg_machine.specs.declared.frame.Control.{Control};
 ghost use Rattle.dg_machine.specs.Meaning.{all_back, weight_of, making_with, budget, reading, outside_index, Comes, Goes};
 ghost use Rattle.dg_compiled.specs.Making.{making_on};

@@ -22,7 +22,7 @@ impl Machine {
         ensures { IfOk result (GoesAs (fail (no_library library.now)) 2 self.old self.new) }
     {
         let message = no_library(alloc, library)?;
-        Ok(self.fail(alloc, message)?)
+        self.fail(alloc, message)
     }
 
     /// A library is evaluated, if it has not begun before. One that is not there has begun too, by its error.

@@ -38,9 +38,9 @@ pub(crate) fn find_match(
 {
     if state.session(session).is_none() {
         let mut nothing = Buffer::new(alloc, 1);
-        return Ok(nothing.try_patterns(alloc, patterns)?);
+        return nothing.try_patterns(alloc, patterns);
     }
-    Ok(state.try_patterns(alloc, session, patterns)?)
+    state.try_patterns(alloc, session, patterns)
 }
 
 /// Takes what a session has read up to the end of a match.
@@ -58,7 +58,7 @@ fn take_match(
     if state.session(session).is_none() {
         return Ok(Bytes::new(alloc));
     }
-    Ok(state.take_match(alloc, session, hit)?)
+    state.take_match(alloc, session, hit)
 }
 
 /// Takes all that a session has read.

@@ -129,7 +129,7 @@ impl Machine {
             Some(Pace::Over(closing)) => Ok(Pace::Over(closing)),
             Some(Pace::Moved) => Ok(Pace::Moved),
             Some(Pace::Lost) => Ok(Pace::Lost),
-            None => Ok(self.give_part(alloc, name.as_slice(), names, values)?),
+            None => self.give_part(alloc, name.as_slice(), names, values),
         }
     }
 }

@@ -318,7 +318,7 @@ impl Machine {
         ensures { IfOk result (GoesAs (do_while (evaluate depth) args.now) 16 self.old self.new) }
     {
         let Some((test, body)) = two(args) else {
-            return Ok(self.wrong_count(alloc, b"while")?);
+            return self.wrong_count(alloc, b"while");
         };
         let repetition = Repetition {
             stage: LoopPart::Start,

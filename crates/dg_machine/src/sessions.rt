@@ -36,7 +36,7 @@ pub(crate) fn sought(alloc: Global, state: &State, name: &[u8]) -> Result<Bytes,
     ensures { IfOk result (λ n. n ≡ sought name.now state.now) }
 {
     if state.is_set(name) {
-        return Ok(Bytes::from_slice(alloc, name)?);
+        return Bytes::from_slice(alloc, name);
     }
     let mut global = Bytes::from_slice(alloc, b"::")?;
     global.extend(name)?;
@@ -47,7 +47,7 @@ pub(crate) fn sought(alloc: Global, state: &State, name: &[u8]) -> Result<Bytes,
 fn decimal(alloc: Global, number: usize) -> Result<Bytes, AllocError>
     ensures { IfOk result (λ b. b ≡ decimal number) }
 {
-    Ok(Bytes::from_slice(alloc, number.to_string(alloc)?.as_bytes())?)
+    Bytes::from_slice(alloc, number.to_string(alloc)?.as_bytes())
 }
 
 impl Machine {
@@ -143,8 +143,8 @@ impl Machine {
         ensures { IfOk result (GoesAs (do_spawn args.now) 30 self.old self.new) }
     {
         match spawn_words(alloc, args)? {
-            Ok(words) => Ok(self.start(alloc, words)?),
-            Err(message) => Ok(self.fail(alloc, message)?),
+            Ok(words) => self.start(alloc, words),
+            Err(message) => self.fail(alloc, message),
         }
     }
 
@@ -220,9 +220,9 @@ impl Machine {
         ensures { IfOk result (GoesAs (close_and_wait session) 30 self.old self.new) }
     {
         if self.has_session(Fit::Open, session) {
-            return Ok(self.begin_action(session, Action::Close, After::ToWait)?);
+            return self.begin_action(session, Action::Close, After::ToWait);
         }
-        Ok(self.begin_action(session, Action::Wait, After::Waited)?)
+        self.begin_action(session, Action::Wait, After::Waited)
     }
 
     /// `wait`.
@@ -252,7 +252,7 @@ impl Machine {
         };
         let Some(max) = kept_limit(text.as_slice()) else {
             let message = Bytes::from_slice(alloc, b"bad match_max")?;
-            return Ok(self.fail(alloc, message)?);
+            return self.fail(alloc, message);
         };
         self.state.set_later_limit(max);
         self.end(Code::Done, Bytes::new(alloc));
@@ -281,7 +281,7 @@ impl Machine {
         };
         let Some(max) = kept_limit(text.as_slice()) else {
             let message = Bytes::from_slice(alloc, b"bad match_max")?;
-            return Ok(self.fail(alloc, message)?);
+            return self.fail(alloc, message);
         };
         if self.state.session(number).is_some() {
             self.state.set_session_limit(number, max);

@@ -338,10 +338,10 @@ impl Machine {
         ensures same { OnOk result (self.new ≡ record self.old { state = self.new.state }) }
     {
         match way {
-            Way::Setting => Ok(self.set_in_place(alloc, steps)?),
-            Way::Counting => Ok(self.count_in_place(alloc, steps)?),
-            Way::Computing(formula) => Ok(value_computed(alloc, &self.state, formula, depth)?),
-            Way::SettingComputed(formula) => Ok(self.set_computed(alloc, steps, formula, depth)?),
+            Way::Setting => self.set_in_place(alloc, steps),
+            Way::Counting => self.count_in_place(alloc, steps),
+            Way::Computing(formula) => value_computed(alloc, &self.state, formula, depth),
+            Way::SettingComputed(formula) => self.set_computed(alloc, steps, formula, depth),
             Way::Returning(_) | Way::Other => Ok(None),
         }
     }

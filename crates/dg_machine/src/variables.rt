@@ -23,7 +23,7 @@ fn or_empty(alloc: Global, value: Option<&Bytes>) -> Result<Bytes, AllocError>
     ensures { IfOk result (λ b. b ≡ or_empty (option_copied value.entry)) }
 {
     match value {
-        Some(value) => Ok(value.copy(alloc)?),
+        Some(value) => value.copy(alloc),
         None => Ok(Bytes::new(alloc)),
     }
 }
@@ -33,8 +33,8 @@ fn or_zero(alloc: Global, value: Option<&Bytes>) -> Result<Bytes, AllocError>
     ensures { IfOk result (λ b. b ≡ or_zero (option_copied value.entry)) }
 {
     match value {
-        Some(value) => Ok(value.copy(alloc)?),
-        None => Ok(Bytes::from_slice(alloc, b"0")?),
+        Some(value) => value.copy(alloc),
+        None => Bytes::from_slice(alloc, b"0"),
     }
 }
 
@@ -116,7 +116,7 @@ impl Machine {
         ensures { IfOk result (GoesAs (add_number name.now by.now) 2 self.old self.new) }
     {
         let old = or_zero(alloc, self.state.value_of(name))?;
-        Ok(self.add_to(alloc, name, old, by)?)
+        self.add_to(alloc, name, old, by)
     }
 
     /// A number more than this text, as the value of a variable that can be used.

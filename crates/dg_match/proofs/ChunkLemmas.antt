@@ -5,7 +5,7 @@ use Rattle.std.proofs.lemmas.List.Elements.{filter-append}
 use Rattle.std.specs.List.{concat}
 use Rattle.dg_match.specs.Held.{Held, Output, heard, heard_all, last_bytes, later, with_last, without_first, without_nulls}
 use Rattle.dg_match.specs.Starts.{AllKept}
-use Rattle.dg_match.specs.declared.starts.Start.{Start}
+use Rattle.dg_match.specs.declared.starts.Progress.{Progress}
 use Rattle.dg_match.proofs.StartLemmas.{all_more}
 
 -- the last bytes of few are all of them
@@ -40,7 +40,7 @@ heard_together (chunk ∷ chunks) o low =
     (last_of_last o.max (o.bytes ++ without_nulls chunk) rest
     ∙ ap (last_bytes o.max) (append_assoc o.bytes (without_nulls chunk) rest ∙ ap (λ t. o.bytes ++ t) (sym (filter-append (λ b. not (b == 0)) chunk (concat chunks)))))
 
-abbrev held : List ℕ → ℕ → ℕ → List Start → Held
+abbrev held : List ℕ → ℕ → ℕ → List Progress → Held
 held bytes max compared starts = record { bytes = bytes; max = max; compared = compared; starts = starts }
 
 -- a vector of bytes, of which a front is cut off, once a chunk was added behind it and more of its front was cut off
@@ -63,16 +63,16 @@ module _ (front cut max : ℕ) (items kept new : List ℕ) (is : new ≡ items +
   pub chunk_fits : length (drop (front + cut) new) ≤ max
   chunk_fits = let size = length-drop (front + cut) new in omega arith
 
-  pub chunk_passed : (starts now : List Start) → AllKept (drop front items) starts →
+  pub chunk_passed : (starts now : List Progress) → AllKept (drop front items) starts →
       ((bytes : List ℕ) → cut ≤ length bytes → AllKept bytes starts → AllKept (drop cut bytes) now) → AllKept (drop (front + cut) new) now
   chunk_passed starts now before later =
       subst (λ (bytes : List ℕ). AllKept bytes now) (sym chunk_cut)
       (later (drop front items ++ kept) (let size = chunk_excess in omega arith) (all_more (drop front items) kept starts before))
 
-  pub chunk_added : (compared : ℕ) (starts now : List Start) (old : Held) → now ≡ map (later cut) starts →
+  pub chunk_added : (compared : ℕ) (starts now : List Progress) (old : Held) → now ≡ map (later cut) starts →
       record { bytes = drop front items; max = max; compared = compared; starts = starts } ≡ old →
       record { bytes = drop (front + cut) new; max = max; compared = compared; starts = now } ≡ with_last old.max (record old { bytes = old.bytes ++ kept })
   chunk_added compared starts now old counted is_old =
-      ap₂ (λ (bytes : List ℕ) (s : List Start). held bytes max compared s) chunk_cut counted
+      ap₂ (λ (bytes : List ℕ) (s : List Progress). held bytes max compared s) chunk_cut counted
       ∙ (ap (λ (n : ℕ). without_first n (held (drop front items ++ kept) max compared starts)) chunk_excess
       ∙ ap (λ (h : Held). with_last h.max (record h { bytes = h.bytes ++ kept })) is_old)

@@ -8,7 +8,7 @@ use Rattle.dg_match.specs.declared.starts.Sought.{Sought}
 use Rattle.dg_match.specs.declared.starts.Sought.TheVariants.{Text}
 use Rattle.dg_match.specs.declared.pattern.Pattern.TheVariants.{Regex}
 use Rattle.dg_match.specs.Tries.{AreTried, all_tried, counted, known, once_sought, once_tried, remembered}
-use Rattle.dg_match.specs.declared.starts.Start.{Start}
+use Rattle.dg_match.specs.declared.starts.Progress.{Progress}
 use Rattle.dg_match.specs.declared.pattern.Pattern.{Pattern}
 use Rattle.dg_match.proofs.StartLemmas.{remembered_length}
 
@@ -36,7 +36,7 @@ tried_step i patterns p h so_far new low at so e =
 pub tried_length : (i : ℕ) (p : Pattern) (so_far new : Held) → i ≤ length so_far.starts → new ≡ once_tried i p so_far → i + 1 ≤ length new.starts
 unfolding once_tried
 tried_length i p so_far new low e =
-    let s : Start = searched so_far.bytes (known i (sought p) so_far.starts) in
+    let s : Progress = searched so_far.bytes (known i (sought p) so_far.starts) in
     let same : length new.starts ≡ length (remembered i s so_far.starts) = ap (λ (h : Held). length h.starts) e in
     let more : i + 1 ≤ length (remembered i s so_far.starts) = remembered_length i s so_far.starts low in
     omega arith

@@ -6,7 +6,7 @@ use Rattle.std.proofs.Common.{inl, inr}
 use Rattle.std.specs.Coded.{coded⊎}
 use Rattle.dg_match.specs.declared.starts.Sought.{Sought}
 use Rattle.dg_match.specs.declared.starts.Sought.TheVariants.{Text, Glob}
-use Rattle.dg_match.specs.declared.starts.Start.{Start}
+use Rattle.dg_match.specs.declared.starts.Progress.{Progress}
 
 -- What those above see of a buffer: the bytes, and how many are kept at most.
 pub record Output : Type 0 where
@@ -20,11 +20,11 @@ pub record Held : Type 0 where
   pub bytes : List ℕ
   pub max : ℕ
   pub compared : ℕ
-  pub starts : List Start
+  pub starts : List Progress
 
 -- what those above see of it
-abbrev pub output_of : Held → Output
-output_of h = record { bytes = h.bytes; max = h.max }
+abbrev pub held_output : Held → Output
+held_output h = record { bytes = h.bytes; max = h.max }
 
 abbrev pub sides : Sought → List ℕ ⊎ List ℕ
 sides (Text t) = inl t
@@ -41,18 +41,18 @@ sides_back (Glob p) = refl
 abbrev pub sought_code : Coded Sought
 sought_code = code_by (List ℕ ⊎ List ℕ) (coded⊎ (coded_list coded_ℕ) (coded_list coded_ℕ)) sides of_side sides_back
 
-abbrev pub start_code : Coded Start
+abbrev pub start_code : Coded Progress
 start_code =
     code_by ((Sought × ℕ) × ℕ) (coded× (coded× sought_code coded_ℕ) coded_ℕ) (λ s. ((s.sought, s.found), s.passed))
     (λ p. record { sought = p.0.0; found = p.0.1; passed = p.1 }) (λ _. refl)
 
 abbrev pub held_code : Coded Held
 held_code =
-    code_by (((List ℕ × ℕ) × ℕ) × List Start) (coded× (coded× (coded× (coded_list coded_ℕ) coded_ℕ) coded_ℕ) (coded_list start_code))
+    code_by (((List ℕ × ℕ) × ℕ) × List Progress) (coded× (coded× (coded× (coded_list coded_ℕ) coded_ℕ) coded_ℕ) (coded_list start_code))
     (λ h. (((h.bytes, h.max), h.compared), h.starts)) (λ p. record { bytes = p.0.0.0; max = p.0.0.1; compared = p.0.1; starts = p.1 }) (λ _. refl)
 
 -- what has passed n places fewer
-abbrev pub later : ℕ → Start → Start
+abbrev pub later : ℕ → Progress → Progress
 later n s = record { sought = s.sought; found = s.found; passed = s.passed - n }
 
 -- the buffer without its first n bytes

@@ -11,7 +11,7 @@ use Rattle.dg_match.specs.declared.starts.Kind.{Kind}
 use Rattle.dg_match.specs.declared.starts.Kind.TheVariants as kind
 use Rattle.dg_match.specs.declared.starts.Sought.{Sought}
 use Rattle.dg_match.specs.declared.starts.Sought.TheVariants.{Text, Glob}
-use Rattle.dg_match.specs.declared.starts.Start.{Start}
+use Rattle.dg_match.specs.declared.starts.Progress.{Progress}
 
 -- what a pattern looks for: a literal itself, a glob its parts, and a `-re` pattern no text
 abbrev pub sought : Pattern → Sought
@@ -30,7 +30,7 @@ is_same_sought (Glob a) (Text b) = false
 is_same_sought (Glob a) (Glob b) = pointwise nat_eq a b
 
 -- nothing is known of what is looked for
-abbrev pub nothing_known : Sought → Start
+abbrev pub nothing_known : Sought → Progress
 nothing_known k = record { sought = k; found = 0; passed = 0 }
 
 -- how many places a text has passed, by its least place: those before it, or where there is none all at which it fits
@@ -62,14 +62,14 @@ abbrev pub compared_for : List ℕ → Sought → ℕ → ℕ → ℕ
 compared_for bytes (Text t) found n = bytes_compared n t bytes (least_place t bytes)
 compared_for bytes (Glob p) found n = glob_compared p found n bytes
 
-abbrev pub known_of : List ℕ → Sought → ℕ → ℕ → Start
+abbrev pub known_of : List ℕ → Sought → ℕ → ℕ → Progress
 known_of bytes (Text t) found n = record { sought = Text t; found = found; passed = places_passed t bytes (least_place t bytes) }
 known_of bytes (Glob p) found n = record { sought = Glob p; found = (left_by p (followed p found bytes n)).0; passed = (left_by p (followed p found bytes n)).1 }
 
-abbrev pub compared_by : List ℕ → Start → ℕ
+abbrev pub compared_by : List ℕ → Progress → ℕ
 compared_by bytes s = compared_for bytes s.sought s.found s.passed
 
-abbrev pub searched : List ℕ → Start → Start
+abbrev pub searched : List ℕ → Progress → Progress
 searched bytes s = known_of bytes s.sought s.found s.passed
 
 -- the match of what is looked for, if there is one

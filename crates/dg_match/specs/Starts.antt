@@ -5,7 +5,7 @@ use Rattle.memchr.specs.Find.{OccursAt}
 use Rattle.dg_glob.specs.Parts.{IsTrail}
 use Rattle.dg_match.specs.declared.starts.Sought.{Sought}
 use Rattle.dg_match.specs.declared.starts.Sought.TheVariants.{Text, Glob}
-use Rattle.dg_match.specs.declared.starts.Start.{Start}
+use Rattle.dg_match.specs.declared.starts.Progress.{Progress}
 
 -- whatever comes behind the bytes, the text stands at none of the first n places
 abbrev pub IsPassed : List ℕ → List ℕ → ℕ → Type 0
@@ -17,9 +17,9 @@ abbrev pub IsOut : List ℕ → Sought → ℕ → ℕ → Type 0
 IsOut bytes (Text text) found n = IsPassed text bytes n
 IsOut bytes (Glob glob) found n = IsTrail glob found bytes n
 
-abbrev pub IsKept : List ℕ → Start → Type 0
+abbrev pub IsKept : List ℕ → Progress → Type 0
 IsKept bytes s = IsOut bytes s.sought s.found s.passed
 
 -- this is so of all that is remembered
-abbrev pub AllKept : List ℕ → List Start → Type 0
+abbrev pub AllKept : List ℕ → List Progress → Type 0
 AllKept bytes starts = All (IsKept bytes) starts

@@ -3,18 +3,18 @@ use Rattle.std.specs.Prelude.{◌≡◌, ℕ, zero, suc, ◌+◌, ◌≤◌, min
 use Rattle.dg_match.specs.Held.{Held}
 use Rattle.dg_match.specs.Searches.{compared_by, is_same_sought, nothing_known, searched, sought}
 use Rattle.dg_match.specs.declared.starts.Sought.{Sought}
-use Rattle.dg_match.specs.declared.starts.Start.{Start}
+use Rattle.dg_match.specs.declared.starts.Progress.{Progress}
 use Rattle.dg_match.specs.declared.hit.Hit.{Hit}
 use Rattle.dg_match.specs.declared.pattern.Pattern.{Pattern}
 
 -- what is known of what the pattern of an index looks for: what is remembered of the last try, if that was for the same
-abbrev pub known : ℕ → Sought → List Start → Start
+abbrev pub known : ℕ → Sought → List Progress → Progress
 known i k [] = nothing_known k
 known zero k (s ∷ starts) = if is_same_sought s.sought k then s else nothing_known k
 known (suc i) k (s ∷ starts) = known i k starts
 
 -- what is remembered, with this for the pattern of an index
-abbrev pub remembered : ℕ → Start → List Start → List Start
+abbrev pub remembered : ℕ → Progress → List Progress → List Progress
 remembered i s [] = s ∷ []
 remembered zero s (old ∷ starts) = s ∷ starts
 remembered (suc i) s (old ∷ starts) = old ∷ remembered i s starts

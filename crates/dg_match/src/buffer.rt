@@ -1,7 +1,7 @@
 //! The buffer that a session's output goes into.
 ghost use Rattle.std.specs.Prelude.{◌≡◌, ◌≤◌, ◌+◌, ◌*◌, ◌++◌, ℕ, List, [], drop, length, take, OnOk, OnErr, IfOk, IfSome, IsTrue, None, option_map, MatchOption};
 ghost use Rattle.dg_match.specs.Groups.{regex_match};
-ghost use Rattle.dg_match.specs.Held.{emptied, heard, output_of, with_last, without_first, without_nulls};
+ghost use Rattle.dg_match.specs.Held.{emptied, heard, held_output, with_last, without_first, without_nulls};
 ghost use Rattle.dg_match.specs.Hits.{IsTried, IsAnswer, HasNoMatch, LiesIn, hit_of};
 ghost use Rattle.dg_match.specs.Searches.{IsFound, compared_by, searched, sought_of};
 ghost use Rattle.dg_match.specs.Tries.{AreTried, HasCompared, all_tried, counted, known, once_sought, once_tried, remembered, up_to};
@@ -146,7 +146,7 @@ impl Buffer {
     /// Adds a chunk behind the bytes, without its nulls, and keeps the last bytes, as many as are
     /// kept at most. Where a growth is refused nothing is changed.
     pub fn add(&mut self, alloc: Global, chunk: &[u8]) -> Result<(), AllocError>
-        ensures output { OnOk result (output_of self.new ≡ heard chunk.now (output_of self.old)) }
+        ensures output { OnOk result (held_output self.new ≡ heard chunk.now (held_output self.old)) }
         ensures ok { OnOk result (self.new ≡
             with_last self.old.max (record self.old { bytes = self.old.bytes ++ without_nulls chunk.now })) }
         ensures err { OnErr result (self.new ≡ self.old) }
@@ -317,7 +317,7 @@ impl Buffer {
     }
 
     /// Has an entry for a `-re` pattern, of which nothing is remembered.
-    fn skip(&mut self, alloc: Global, index: usize) -> Result<(), AllocError>
+    fn hold_regex(&mut self, alloc: Global, index: usize) -> Result<(), AllocError>
         requires { index ≤ length self.old.starts }
         ensures ok { OnOk result ((text : List ℕ) → self.new ≡ once_tried index (Pattern.Regex text) self.old) }
         ensures err { OnErr result (self.new ≡ self.old) }
@@ -345,7 +345,7 @@ impl Buffer {
         } else {
             self.search(alloc, built)?
         };
-        self.skip(alloc, index)?;
+        self.hold_regex(alloc, index)?;
         Ok(found)
     }
 
@@ -395,7 +395,7 @@ impl Buffer {
 
     /// Lets all bytes go. It takes no memory.
     pub fn clear(&mut self)
-        ensures output { output_of self.new ≡ emptied (output_of self.old) }
+        ensures output { held_output self.new ≡ emptied (held_output self.old) }
         ensures value { self.new ≡ without_first (length self.old.bytes) self.old }
     {
         self.cut(self.as_slice().len());
@@ -404,7 +404,7 @@ impl Buffer {
     /// Takes all bytes out of the buffer and gives them. It takes no memory.
     pub fn take_all(&mut self, alloc: Global) -> Bytes
         ensures taken { result ≡ self.old.bytes }
-        ensures output { output_of self.new ≡ emptied (output_of self.old) }
+        ensures output { held_output self.new ≡ emptied (held_output self.old) }
         ensures value { self.new ≡ without_first (length self.old.bytes) self.old }
     {
         let len = self.as_slice().len();

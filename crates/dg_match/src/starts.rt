@@ -1,6 +1,6 @@
 //! What is remembered of the last patterns: where they can't match any more.
 ghost use Rattle.std.specs.Prelude.{◌≡◌, ◌≤◌, ◌<◌, ◌*◌, IfOk, IsTrue, List, ℕ, OnErr, OnOk, [], drop, false, get_or, length, map};
-ghost use Rattle.dg_match.specs.declared.starts.Start.{Start};
+ghost use Rattle.dg_match.specs.declared.starts.Progress.{Progress};
 ghost use Rattle.dg_match.specs.Held.{later};
 ghost use Rattle.dg_match.specs.Searches.{IsFound, compared_by, is_same_sought, nothing_known, searched, sought_of};
 ghost use Rattle.dg_match.specs.Starts.{AllKept, IsKept};
@@ -29,15 +29,15 @@ enum Sought {
 
 /// What is looked for, how many parts of it are found if it is a glob, and how many of the buffer's
 /// first places it can't stand at, or its next part can't, whatever comes behind.
-struct Start {
+struct Progress {
     sought: Sought,
     found: usize,
     passed: usize,
 }
 
-impl Drop for Start {
+impl Drop for Progress {
     fn drop(self) {
-        let Start {
+        let Progress {
             sought: _,
             found: _,
             passed: _,
@@ -86,13 +86,13 @@ impl Sought {
     }
 }
 
-impl Start {
+impl Progress {
     /// Nothing is known of it yet.
-    fn of(alloc: Global, kind: Kind, text: &[u8]) -> Result<Start, AllocError>
+    fn of(alloc: Global, kind: Kind, text: &[u8]) -> Result<Progress, AllocError>
         ensures { IfOk result (λ s. s ≡ nothing_known (sought_of kind text.now)) }
     {
         let sought = Sought::of(alloc, kind, text)?;
-        Ok(Start {
+        Ok(Progress {
             sought,
             found: 0,
             passed: 0,
@@ -151,14 +151,14 @@ impl Start {
 /// What is remembered of the patterns tried last, in their order.
 #[derive(Drop)]
 pub(crate) struct Starts {
-    entries: Vec<Start>,
+    entries: Vec<Progress>,
 }
 
 impl Model for Starts {
     ghost use Rattle.std.specs.Prelude.{List};
-    ghost use Rattle.dg_match.specs.declared.starts.Start.{Start};
+    ghost use Rattle.dg_match.specs.declared.starts.Progress.{Progress};
 
-    ghost Value = { List Start };
+    ghost Value = { List Progress };
 
     ghost view = { λ s. s.entries.items };
 }
@@ -187,7 +187,7 @@ impl Starts {
 
     /// Remembers this of the pattern of an index, in place of what was remembered of it, or changes
     /// nothing.
-    fn put(&mut self, index: usize, start: Start) -> Result<(), AllocError>
+    fn put(&mut self, index: usize, start: Progress) -> Result<(), AllocError>
         requires { index ≤ length self.old }
         ensures ok { OnOk result (self.new ≡ remembered index start self.old) }
         ensures err { OnErr result (self.new ≡ self.old) }
@@ -217,7 +217,7 @@ impl Starts {
         if self.holds(index, kind, text) {
             return Ok(());
         }
-        let start = Start::of(alloc, kind, text)?;
+        let start = Progress::of(alloc, kind, text)?;
         self.put(index, start)
     }
 
@@ -225,9 +225,9 @@ impl Starts {
     fn search(&mut self, index: usize, bytes: &[u8]) -> Looked
         requires within { index < length self.old }
         requires kept { AllKept bytes.now self.old }
-        ensures state { (s : Start) → s ≡ get_or self.old index s → self.new ≡ remembered index (searched bytes.now s) self.old }
-        ensures compared { (s : Start) → s ≡ get_or self.old index s → result.compared ≡ compared_by bytes.now s }
-        ensures found { (s : Start) → s ≡ get_or self.old index s → IsFound bytes.now s.sought result.found }
+        ensures state { (s : Progress) → s ≡ get_or self.old index s → self.new ≡ remembered index (searched bytes.now s) self.old }
+        ensures compared { (s : Progress) → s ≡ get_or self.old index s → result.compared ≡ compared_by bytes.now s }
+        ensures found { (s : Progress) → s ≡ get_or self.old index s → IsFound bytes.now s.sought result.found }
         ensures at_most { result.compared ≤ 2 * length bytes.now }
         ensures kept { AllKept bytes.now self.new }
     {

@@ -24,9 +24,9 @@ pub(crate) struct Watch {
 
 impl Model for Watch {
     ghost use Rattle.std.specs.Prelude.{◌≤◌, List, length};
-    ghost use Rattle.dg_match.specs.declared.starts.Start.{Start};
+    ghost use Rattle.dg_match.specs.declared.starts.Progress.{Progress};
 
-    ghost Value = { List Start };
+    ghost Value = { List Progress };
 
     ghost view = { λ w. w.starts };
 

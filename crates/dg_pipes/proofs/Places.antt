@@ -2,7 +2,7 @@
 use Rattle.std.proofs.Common.{ℕ, zero, suc, ◌≡◌, ◌≢◌, ◌-◌, ◌<◌, List, [], ◌∷◌, ◌++◌, length, refl, sym, ap, ◌∙◌, subst, inr, arith, slice_set, slice_index_or, append_assoc}
 use Rattle.std.specs.Prelude.{Option, Some, None, Result, Ok, Err, IfOk, IfErr, reverse}
 use Rattle.std.proofs.lemmas.List.{append-nil, reverse-append}
-use Rattle.dg_transcript.specs.declared.code.Code.{Code}
+use Rattle.dg_transcript.specs.declared.code.ErrorCode.{ErrorCode}
 use Rattle.dg_transcript.specs.declared.cursor.Action.{Action}
 use Rattle.dg_transcript.specs.declared.cursor.Action.TheVariants as action
 use Rattle.dg_gate.specs.declared.fault.GateFault.{GateFault}
@@ -67,7 +67,7 @@ pub kept_at : (before : List Slot) (session place : ℕ) (call : Action) (told :
 kept_at before session place call told s t at room is same joins =
     joined_at before session place call told s t at room is (subst (λ o. Joins call told (taken_of s.output) (taken_of o)) (sym same) joins)
 
-pub failed_joins : (call : Action) (code : Code) (items : List Item) → Joins call (reply.Failed code) items items
+pub failed_joins : (call : Action) (code : ErrorCode) (items : List Item) → Joins call (reply.Failed code) items items
 failed_joins (action.Spawn words) code items = refl
 failed_joins (action.Send bytes) code items = refl
 failed_joins (action.Read limit) code items = inr refl
@@ -75,7 +75,7 @@ failed_joins action.Close code items = refl
 failed_joins action.Wait code items = refl
 
 -- no session was called
-pub stayed : (before : List Slot) (session : ℕ) (call : Action) (code : Code) → PipeStep before session call (reply.Failed code) before
+pub stayed : (before : List Slot) (session : ℕ) (call : Action) (code : ErrorCode) → PipeStep before session call (reply.Failed code) before
 stayed before session call code = (failed_joins call code (taken before (session - 1)), λ i other. refl)
 
 -- a session came behind the others
@@ -91,7 +91,7 @@ pushed before middle after session call told s new same is none joins =
     )
 
 -- a failure of any kind
-pub fails_by : (Step : Reply → Type 0) (f : GateFault) → ((code : Code) → Step (reply.Failed code)) → FailsBy Step f
+pub fails_by : (Step : Reply → Type 0) (f : GateFault) → ((code : ErrorCode) → Step (reply.Failed code)) → FailsBy Step f
 fails_by Step (fault.Device code) steps = steps code
 fails_by Step fault.Memory steps = tt
 

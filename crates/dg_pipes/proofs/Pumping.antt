@@ -7,7 +7,7 @@ use Rattle.std.specs.Io.KnownBytes.{Consumes, Keeps, IsAtEnd}
 use Rattle.dg_pipes.specs.declared.item.Item.{Item}
 use Rattle.dg_pipes.specs.declared.item.Item.TheVariants.{Chunk, End, Fault}
 use Rattle.dg_pipes.specs.Items.{bytes_of, AllChunks, is_chunk, PumpedSome, PumpedAll, Pumping}
-use Rattle.dg_transcript.specs.declared.code.Code.{Code}
+use Rattle.dg_transcript.specs.declared.code.ErrorCode.{ErrorCode}
 
 pub consumes_again : (a b c : Option (List ℕ)) (xs ys : List ℕ) → Consumes a b xs → Consumes b c ys → Consumes a c (xs ++ ys)
 consumes_again None b c xs ys p q = tt
@@ -57,5 +57,5 @@ Faulty (Chunk v) = ⊥
 Faulty End = ⊥
 Faulty (Fault c) = Unit {0}
 
-pub fault_not_end : (c : Code) → Fault c ≡ End → ⊥
+pub fault_not_end : (c : ErrorCode) → Fault c ≡ End → ⊥
 fault_not_end c is = subst Faulty is tt

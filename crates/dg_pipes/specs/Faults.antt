@@ -1,7 +1,7 @@
 -- What an error of the system is as a fault of a gate.
 use Rattle.std.specs.declared.io.ErrorKind.{ErrorKind}
 use Rattle.std.specs.declared.io.ErrorKind.TheVariants as kind
-use Rattle.dg_transcript.specs.declared.code.Code.TheVariants.{NotFound, NotPermitted, BrokenPipe, Other}
+use Rattle.dg_transcript.specs.declared.code.ErrorCode.TheVariants.{NotFound, NotPermitted, BrokenPipe, Other}
 use Rattle.dg_gate.specs.declared.fault.GateFault.{GateFault}
 use Rattle.dg_gate.specs.declared.fault.GateFault.TheVariants.{Device, Memory}
 

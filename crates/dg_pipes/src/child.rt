@@ -7,7 +7,7 @@ ghost use Rattle.dg_gate.specs.Reply.{fits};
 use crate::fault::fault_of;
 use dg_bytes::Bytes;
 use dg_gate::{Ended, GateFault};
-use dg_transcript::Code;
+use dg_transcript::ErrorCode;
 use std::alloc::Global;
 use std::os::unix::process::ExitStatusExt;
 use std::process::{Child, Command, ExitStatus, Processes, Stdio, SystemProcess};
@@ -19,7 +19,7 @@ pub(crate) type Process = Child<SystemProcess>;
 fn text_of(word: &Bytes) -> Result<&str, GateFault> {
     match str::from_utf8(word.as_slice()) {
         Ok(text) => Ok(text),
-        Err(_) => Err(GateFault::Device(Code::Other)),
+        Err(_) => Err(GateFault::Device(ErrorCode::Other)),
     }
 }
 
@@ -63,7 +63,7 @@ fn command_for(
 fn command_of(alloc: Global, words: &[Bytes]) -> Result<Command<Global>, GateFault> {
     match words.split_first() {
         Some((program, arguments)) => command_for(alloc, program, arguments),
-        None => Err(GateFault::Device(Code::Other)),
+        None => Err(GateFault::Device(ErrorCode::Other)),
     }
 }
 

@@ -4,7 +4,7 @@ ghost use Rattle.std.specs.IoError.{error_kind};
 ghost use Rattle.dg_pipes.specs.Faults.{fault_of_kind};
 
 use dg_gate::GateFault;
-use dg_transcript::Code;
+use dg_transcript::ErrorCode;
 use std::io;
 
 /// The fault that an error of the system is: ENOENT is 1, EACCES and EPERM are 2, EPIPE is 3,
@@ -13,10 +13,10 @@ pub(crate) fn fault_of(error: io::Error) -> GateFault
     ensures { result ≡ fault_of_kind (error_kind error) }
 {
     match error.kind() {
-        io::ErrorKind::NotFound => GateFault::Device(Code::NotFound),
-        io::ErrorKind::PermissionDenied => GateFault::Device(Code::NotPermitted),
-        io::ErrorKind::BrokenPipe => GateFault::Device(Code::BrokenPipe),
+        io::ErrorKind::NotFound => GateFault::Device(ErrorCode::NotFound),
+        io::ErrorKind::PermissionDenied => GateFault::Device(ErrorCode::NotPermitted),
+        io::ErrorKind::BrokenPipe => GateFault::Device(ErrorCode::BrokenPipe),
         io::ErrorKind::OutOfMemory => GateFault::Memory,
-        _ => GateFault::Device(Code::Other),
+        _ => GateFault::Device(ErrorCode::Other),
     }
 }

@@ -8,7 +8,7 @@ use crate::session::Fresh;
 use crate::sessions::Sessions;
 use dg_bytes::{Bytes, Seq};
 use dg_gate::{Ended, Gate, GateFault, Piece};
-use dg_transcript::Code;
+use dg_transcript::ErrorCode;
 use std::alloc::Global;
 use std::process::{ChildStdout, Processes, SystemProcess};
 use std::sync::Wait;
@@ -49,7 +49,7 @@ impl<R, F: Fn(ChildStdout) -> Result<Fresh, GateFault>> PipeGate<R, F> {
 }
 
 // Counts a failure.
-fn refused(failures: &mut u64, code: Code) -> GateFault
+fn refused(failures: &mut u64, code: ErrorCode) -> GateFault
     requires { failures.old < 2 ^ 64 - 1 }
     ensures fault { result ≡ fault.Device code }
     ensures count { failures.new ≡ failures.old + 1 }

@@ -3,7 +3,7 @@ ghost use Rattle.std.specs.Prelude.{◌≡◌, not};
 ghost use Rattle.dg_pipes.specs.Items.{is_chunk};
 
 use dg_bytes::Bytes;
-use dg_transcript::Code;
+use dg_transcript::ErrorCode;
 use rtrb::Protocol;
 
 /// What a reader thread tells.
@@ -14,7 +14,7 @@ pub enum Item {
     /// The output ended.
     End,
     /// The output can't be read.
-    Fault(Code),
+    Fault(ErrorCode),
 }
 
 impl Item {

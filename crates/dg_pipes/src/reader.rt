@@ -7,7 +7,7 @@ ghost use Rattle.dg_pipes.specs.Items.{IsAllowed, PumpedSome, PumpedAll};
 use crate::bells::Bells;
 use crate::item::{Item, Rule};
 use dg_bytes::Bytes;
-use dg_transcript::Code;
+use dg_transcript::ErrorCode;
 use rtrb::{Producer, PushError};
 use std::alloc::Global;
 use std::io::Read;
@@ -84,7 +84,7 @@ pub fn pump<R: Read>(
 {
     for _ in rt.forever() {
         let Ok(mut chunk) = Vec::from_elem(alloc, 0u8, MOST) else {
-            return put(rt, ring, bells, Item::Fault(Code::Other));
+            return put(rt, ring, bells, Item::Fault(ErrorCode::Other));
         };
         match reader.read(chunk.as_mut_slice()) {
             Ok(0) => return put(rt, ring, bells, Item::End),
@@ -94,7 +94,7 @@ pub fn pump<R: Read>(
                     return false;
                 }
             }
-            Err(_) => return put(rt, ring, bells, Item::Fault(Code::Other)),
+            Err(_) => return put(rt, ring, bells, Item::Fault(ErrorCode::Other)),
         }
     }
     unreachable!()

@@ -10,7 +10,7 @@ use crate::item::{Item, Rule};
 use crate::reader::pump;
 use crate::taker::{Rest, take};
 use dg_gate::GateFault;
-use dg_transcript::Code;
+use dg_transcript::ErrorCode;
 use rtrb::{Consumer, Finished, Producer, RingBuffer};
 use std::alloc::Global;
 use std::io::Read;
@@ -111,7 +111,7 @@ impl Session {
                 reader,
                 is_done: false,
             }),
-            Err(_) => Err(GateFault::Device(Code::Other)),
+            Err(_) => Err(GateFault::Device(ErrorCode::Other)),
         }
     }
 

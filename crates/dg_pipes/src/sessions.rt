@@ -11,7 +11,7 @@ use crate::session::Fresh;
 use crate::slot::Slot;
 use dg_bytes::{Bytes, Seq};
 use dg_gate::{Ended, GateFault, Piece};
-use dg_transcript::Code;
+use dg_transcript::ErrorCode;
 use std::alloc::Global;
 use std::process::{ChildStdout, Processes, SystemProcess};
 use std::sync::Wait;
@@ -98,7 +98,7 @@ impl Sessions {
             (FailsBy (λ r. PipeStep self.old.slots.items session (action.Spawn words.now) r self.new.slots.items)) }
     {
         if session == 0 || session as usize - 1 != self.slots.len() {
-            return Err(GateFault::Device(Code::Other));
+            return Err(GateFault::Device(ErrorCode::Other));
         }
         self.reserve()?;
         match Slot::start(rt, alloc, opener, session, words.as_slice()) {
@@ -121,7 +121,7 @@ impl Sessions {
             (FailsBy (λ r. PipeStep self.old.slots.items session (action.Send bytes.now) r self.new.slots.items)) }
     {
         let Some(place) = self.place(session) else {
-            return Err(GateFault::Device(Code::Other));
+            return Err(GateFault::Device(ErrorCode::Other));
         };
         let slot = &mut self.slots[place];
         slot.send(bytes.as_slice())
@@ -133,7 +133,7 @@ impl Sessions {
         rt: &(impl Wait + Clock),
         session: u32,
         limit: u32,
-    ) -> Result<Piece, Code>
+    ) -> Result<Piece, ErrorCode>
         ensures fits { IfOk result (λ p. fits (action.Read limit) (reply.Piece p) ≡ true) }
         ensures ok { IfOk result
             (λ p. PipeStep self.old.slots.items session (action.Read limit) (reply.Piece p) self.new.slots.items) }
@@ -141,34 +141,34 @@ impl Sessions {
             (λ code. PipeStep self.old.slots.items session (action.Read limit) (reply.Failed code) self.new.slots.items) }
     {
         let Some(place) = self.place(session) else {
-            return Err(Code::Other);
+            return Err(ErrorCode::Other);
         };
         let slot = &mut self.slots[place];
         slot.read(rt, limit)
     }
 
     /// Closes a session.
-    pub(crate) fn close(&mut self, session: u32) -> Result<(), Code>
+    pub(crate) fn close(&mut self, session: u32) -> Result<(), ErrorCode>
         ensures ok { OnOk result (PipeStep self.old.slots.items session action.Close reply.Closed self.new.slots.items) }
         ensures err { IfErr result
             (λ code. PipeStep self.old.slots.items session action.Close (reply.Failed code) self.new.slots.items) }
     {
         let Some(place) = self.place(session) else {
-            return Err(Code::Other);
+            return Err(ErrorCode::Other);
         };
         let slot = &mut self.slots[place];
         slot.close()
     }
 
     /// Waits for a session's child.
-    pub(crate) fn wait(&mut self, session: u32) -> Result<Ended, Code>
+    pub(crate) fn wait(&mut self, session: u32) -> Result<Ended, ErrorCode>
         ensures fits { IfOk result (λ e. fits action.Wait (reply.Ended e) ≡ true) }
         ensures ok { IfOk result (λ e. PipeStep self.old.slots.items session action.Wait (reply.Ended e) self.new.slots.items) }
         ensures err { IfErr result
             (λ code. PipeStep self.old.slots.items session action.Wait (reply.Failed code) self.new.slots.items) }
     {
         let Some(place) = self.place(session) else {
-            return Err(Code::Other);
+            return Err(ErrorCode::Other);
         };
         let slot = &mut self.slots[place];
         slot.wait()

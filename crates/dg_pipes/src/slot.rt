@@ -12,7 +12,7 @@ use crate::item::Item;
 use crate::session::{Fresh, Session};
 use dg_bytes::Bytes;
 use dg_gate::{Ended, GateFault, Piece};
-use dg_transcript::Code;
+use dg_transcript::ErrorCode;
 use std::alloc::Global;
 use std::io::Write;
 use std::process::{ChildStdout, Processes, SystemProcess};
@@ -59,7 +59,7 @@ impl Slot {
         let mut child = start(rt, alloc, words)?;
         let opened = match child.stdout.take() {
             Some(output) => opener(output),
-            None => Err(GateFault::Device(Code::Other)),
+            None => Err(GateFault::Device(ErrorCode::Other)),
         };
         match opened {
             Ok(fresh) => Ok(Slot {
@@ -80,16 +80,16 @@ impl Slot {
         ensures output { self.new.output ≡ self.old.output }
     {
         let Some(child) = &mut self.child else {
-            return Err(GateFault::Device(Code::Other));
+            return Err(GateFault::Device(ErrorCode::Other));
         };
         match &mut child.stdin {
             Some(input) => input.write_all(bytes).map_err(fault_of),
-            None => Err(GateFault::Device(Code::Other)),
+            None => Err(GateFault::Device(ErrorCode::Other)),
         }
     }
 
     /// The next piece of its output within a limit.
-    pub(crate) fn read(&mut self, rt: &(impl Wait + Clock), limit: u32) -> Result<Piece, Code>
+    pub(crate) fn read(&mut self, rt: &(impl Wait + Clock), limit: u32) -> Result<Piece, ErrorCode>
         ensures session { self.new.session ≡ self.old.session }
         ensures ok { IfOk result (λ p. (fits (action.Read limit) (reply.Piece p) ≡ true) × Joins (action.Read limit)
             (reply.Piece p) (taken_of self.old.output) (taken_of self.new.output)) }
@@ -97,7 +97,7 @@ impl Slot {
             (λ code. Joins (action.Read limit) (reply.Failed code) (taken_of self.old.output) (taken_of self.new.output)) }
     {
         let Some(output) = &mut self.output else {
-            return Err(Code::Other);
+            return Err(ErrorCode::Other);
         };
         match output.read(rt, limit) {
             (waited, Some(Item::Chunk(bytes))) => Ok(Piece::Chunk(waited, bytes)),
@@ -108,13 +108,13 @@ impl Slot {
     }
 
     /// Closes the child's input and lets its output go.
-    pub(crate) fn close(&mut self) -> Result<(), Code>
+    pub(crate) fn close(&mut self) -> Result<(), ErrorCode>
         ensures session { self.new.session ≡ self.old.session }
         ensures ok { OnOk result (self.new.output ≡ None) }
         ensures err { OnErr result (self.new.output ≡ self.old.output) }
     {
         let Some(output) = self.output.take() else {
-            return Err(Code::Other);
+            return Err(ErrorCode::Other);
         };
         if let Some(child) = &mut self.child {
             child.stdin = None;
@@ -124,17 +124,17 @@ impl Slot {
     }
 
     /// Waits for the child to end. Its input is closed first.
-    pub(crate) fn wait(&mut self) -> Result<Ended, Code>
+    pub(crate) fn wait(&mut self) -> Result<Ended, ErrorCode>
         ensures session { self.new.session ≡ self.old.session }
         ensures output { self.new.output ≡ self.old.output }
         ensures ok { IfOk result (λ e. fits action.Wait (reply.Ended e) ≡ true) }
     {
         let Some(child) = &mut self.child else {
-            return Err(Code::Other);
+            return Err(ErrorCode::Other);
         };
         match child.wait() {
-            Ok(status) => ended_of(status).ok_or(Code::Other),
-            Err(_) => Err(Code::Other),
+            Ok(status) => ended_of(status).ok_or(ErrorCode::Other),
+            Err(_) => Err(ErrorCode::Other),
         }
     }
 

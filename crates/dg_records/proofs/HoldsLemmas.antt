@@ -17,7 +17,7 @@ use Rattle.dg_world.specs.declared.question.Answer.{Answer}
 use Rattle.dg_world.specs.declared.question.Answer.TheVariants as answer
 use Rattle.dg_world.specs.declared.question.Read.{Read}
 use Rattle.dg_world.proofs.AnswerLemmas.{same_answer-refl, same_answer-true}
-use Rattle.dg_language.specs.Play.{Gives, heard}
+use Rattle.dg_language.specs.Play.{GivesEach, heard}
 use Rattle.dg_language.specs.Judge.{verdict_in}
 use Rattle.dg_records.specs.Truth.{RecordView, IsTrueRecord, Agree, is_given, holds}
 
@@ -77,7 +77,7 @@ pub told-holds : (b : Bool) (w : WorldView) (r : RecordView) → IsTrue b ↔ Ag
 told-holds b w r h = same_from_decides b (holds w r) h (true-agree w r.reads, agree-true w r.reads)
 
 -- a world gives the answers that agree with it
-pub gives-agree : (w : WorldView) (rs : List Read) → Agree rs w → Gives (look w) rs
+pub gives-agree : (w : WorldView) (rs : List Read) → Agree rs w → GivesEach (look w) rs
 gives-agree w [] h = tt
 gives-agree w (r ∷ rs) h =
     (heard-look w r.question ∙ All-head (Given w) r rs h, gives-agree w rs (All-tail (Given w) r rs h))

@@ -8,7 +8,7 @@ use Rattle.dg_world.specs.declared.question.Read.{Read}
 use Rattle.dg_world.specs.declared.test_id.TestId.{TestId}
 use Rattle.dg_world.specs.World.{WorldView, look}
 use Rattle.dg_results.specs.declared.verdict.Line.{Line}
-use Rattle.dg_language.specs.Play.{Source, Gives, run, Over}
+use Rattle.dg_language.specs.Play.{Source, GivesEach, run, Over}
 use Rattle.dg_language.specs.Evaluation.{Ending}
 use Rattle.dg_language.specs.Judge.{judge, verdict_in}
 
@@ -20,7 +20,7 @@ pub record RecordView : Type 0 where
 
 -- in every source that gives these answers, the test has this verdict
 pub record IsTrueRecord (test : TestId) (reads : List Read) (verdict : List Line) : Type 0 where
-  pub holds : (source : Source) → Gives source reads → verdict_in source test ≡ Some verdict
+  pub holds : (source : Source) → GivesEach source reads → verdict_in source test ≡ Some verdict
 
 -- the answers of a world
 abbrev pub answers_of : WorldView → Source

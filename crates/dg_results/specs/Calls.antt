@@ -1,49 +1,35 @@
--- What a test's result commands tell, in the order of their calls.
-use Rattle.std.specs.Prelude.{ℕ, Bool, true, false, List, Option, None, Some}
-
--- A call of a result command with its message, of a message command with its message and count, or of a setup or
--- clear of a flag whose pattern matched.
-pub data Call : Type 0 where
-  CallPass : List ℕ → Call
-  CallFail : List ℕ → Call
-  CallUnresolved : List ℕ → Call
-  CallUntested : List ℕ → Call
-  CallUnsupported : List ℕ → Call
-  CallPerror : List ℕ → Option ℕ → Call
-  CallWarning : List ℕ → Option ℕ → Call
-  CallNote : List ℕ → Call
-  CallSetupXfail : Call
-  CallClearXfail : Call
-  CallSetupKfail : Call
-  CallClearKfail : Call
+-- What the calls of a test's result commands tell.
+use Rattle.std.specs.Prelude.{ℕ, Bool, true, false, Option, None, Some}
+use Rattle.dg_results.specs.declared.call.ResultCall.{ResultCall}
+use Rattle.dg_results.specs.declared.call.ResultCall.TheVariants.{Pass, Fail, Unresolved, Untested, Unsupported, Perror, Warning, SetupXfail, ClearXfail, SetupKfail, ClearKfail}
 
 -- the calls that record a result
-abbrev pub is_result : Call → Bool
-is_result (CallPass _) = true
-is_result (CallFail _) = true
-is_result (CallUnresolved _) = true
-is_result (CallUntested _) = true
-is_result (CallUnsupported _) = true
+abbrev pub is_result : ResultCall → Bool
+is_result (Pass _) = true
+is_result (Fail _) = true
+is_result (Unresolved _) = true
+is_result (Untested _) = true
+is_result (Unsupported _) = true
 is_result _ = false
 
 -- whether a call sets the xfail flag or clears it
-abbrev pub xfail_choice : Call → Option Bool
-xfail_choice CallSetupXfail = Some true
-xfail_choice CallClearXfail = Some false
+abbrev pub xfail_choice : ResultCall → Option Bool
+xfail_choice SetupXfail = Some true
+xfail_choice ClearXfail = Some false
 xfail_choice _ = None
 
 -- whether a call sets the kfail flag or clears it
-abbrev pub kfail_choice : Call → Option Bool
-kfail_choice CallSetupKfail = Some true
-kfail_choice CallClearKfail = Some false
+abbrev pub kfail_choice : ResultCall → Option Bool
+kfail_choice SetupKfail = Some true
+kfail_choice ClearKfail = Some false
 kfail_choice _ = None
 
 -- the count that an error call gives, or none
-abbrev pub error_given : Call → Option (Option ℕ)
-error_given (CallPerror _ n) = Some n
+abbrev pub error_given : ResultCall → Option (Option ℕ)
+error_given (Perror _ n) = Some n
 error_given _ = None
 
 -- the count that a warning call gives, or none
-abbrev pub warning_given : Call → Option (Option ℕ)
-warning_given (CallWarning _ n) = Some n
+abbrev pub warning_given : ResultCall → Option (Option ℕ)
+warning_given (Warning _ n) = Some n
 warning_given _ = None

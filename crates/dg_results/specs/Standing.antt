@@ -1,7 +1,8 @@
 -- What a judging holds: the lines so far, and the flags and counts that stand.
 use Rattle.std.specs.Prelude.{◌≡◌, ℕ, Bool, List, [], ◌∷◌, ◌++◌, min}
 use Rattle.dg_results.specs.declared.verdict.Line.{Line}
-use Rattle.dg_results.specs.Calls.{Call, xfail_choice, kfail_choice, error_given, warning_given}
+use Rattle.dg_results.specs.declared.call.ResultCall.{ResultCall}
+use Rattle.dg_results.specs.Calls.{xfail_choice, kfail_choice, error_given, warning_given}
 use Rattle.dg_results.specs.Lines.{lines_of, stands, count_since}
 
 -- counts are kept up to 4,294,967,295
@@ -13,7 +14,7 @@ pub record Standing : Type 0 where
   pub warnings : ℕ
 
 -- what stands after these calls
-unfoldable pub after_calls : List Call → Standing
+unfoldable pub after_calls : List ResultCall → Standing
 after_calls calls = record {
   lines = lines_of calls;
   xfail = stands xfail_choice calls;
@@ -23,5 +24,5 @@ after_calls calls = record {
 }
 
 -- what stands has one call more
-abbrev pub Adds : Standing → Standing → Call → Type 0
-Adds old new c = (calls : List Call) → old ≡ after_calls calls → new ≡ after_calls (calls ++ c ∷ [])
+abbrev pub Adds : Standing → Standing → ResultCall → Type 0
+Adds old new c = (calls : List ResultCall) → old ≡ after_calls calls → new ≡ after_calls (calls ++ c ∷ [])

@@ -1,10 +1,12 @@
 //! The result calls of a test, judged as they come.
 ghost use Rattle.std.specs.Prelude.{◌≡◌, [], ◌∷◌, ◌++◌, List, OnOk, OnErr, IfOk};
-ghost use Rattle.dg_results.specs.Calls.{Call, CallPass, CallFail, CallUnresolved, CallUntested, CallUnsupported, CallPerror, CallWarning, CallNote, CallSetupXfail, CallClearXfail, CallSetupKfail, CallClearKfail};
+ghost use Rattle.dg_results.specs.declared.call.ResultCall.{ResultCall};
+ghost use Rattle.dg_results.specs.declared.call.ResultCall.TheVariants.{Pass, Fail, Unresolved, Untested, Unsupported, Perror, Warning, Note, SetupXfail, ClearXfail, SetupKfail, ClearKfail};
 ghost use Rattle.dg_results.specs.Lines.{line, lines_of, abort_lines, depart_lines};
 ghost use Rattle.dg_results.specs.Standing.{after_calls, Adds};
 ghost use Rattle.dg_results.specs.Steps.{class_at, with_result, with_line, count_after};
 
+use crate::call::ResultCall;
 use crate::class::Class;
 use crate::verdict::{Line, Verdict};
 use dg_bytes::{Bytes, Seq};
@@ -67,10 +69,43 @@ impl Judging {
         }
     }
 
+    /// Takes one call more, or changes nothing.
+    pub fn take(&mut self, alloc: Global, call: &ResultCall) -> Result<(), AllocError>
+        ensures ok { OnOk result (Adds self.old self.new call.now) }
+        ensures err { OnErr result (self.new ≡ self.old) }
+    {
+        match call {
+            ResultCall::Pass(message) => self.pass(alloc, message.as_slice()),
+            ResultCall::Fail(message) => self.fail(alloc, message.as_slice()),
+            ResultCall::Unresolved(message) => self.unresolved(alloc, message.as_slice()),
+            ResultCall::Untested(message) => self.untested(alloc, message.as_slice()),
+            ResultCall::Unsupported(message) => self.unsupported(alloc, message.as_slice()),
+            ResultCall::Note(message) => self.note(alloc, message.as_slice()),
+            ResultCall::Perror(message, count) => self.perror(alloc, message.as_slice(), *count),
+            ResultCall::Warning(message, count) => self.warning(alloc, message.as_slice(), *count),
+            ResultCall::SetupXfail => {
+                self.setup_xfail();
+                Ok(())
+            }
+            ResultCall::ClearXfail => {
+                self.clear_xfail();
+                Ok(())
+            }
+            ResultCall::SetupKfail => {
+                self.setup_kfail();
+                Ok(())
+            }
+            ResultCall::ClearKfail => {
+                self.clear_kfail();
+                Ok(())
+            }
+        }
+    }
+
     /// A test that passed. The line is UNRESOLVED after an error or three warnings, else KPASS
     /// under the kfail flag, else XPASS under the xfail flag, else PASS.
-    pub fn pass(&mut self, alloc: Global, message: &[u8]) -> Result<(), AllocError>
-        ensures ok { OnOk result (Adds self.old self.new (CallPass message.now)) }
+    fn pass(&mut self, alloc: Global, message: &[u8]) -> Result<(), AllocError>
+        ensures ok { OnOk result (Adds self.old self.new (Pass message.now)) }
         ensures err { OnErr result (self.new ≡ self.old) }
     {
         let class = self.class_now(Class::Pass, Class::XPass, Class::KPass);
@@ -79,8 +114,8 @@ impl Judging {
 
     /// A test that failed. The line is UNRESOLVED after an error or three warnings, else KFAIL
     /// under the kfail flag, else XFAIL under the xfail flag, else FAIL.
-    pub fn fail(&mut self, alloc: Global, message: &[u8]) -> Result<(), AllocError>
-        ensures ok { OnOk result (Adds self.old self.new (CallFail message.now)) }
+    fn fail(&mut self, alloc: Global, message: &[u8]) -> Result<(), AllocError>
+        ensures ok { OnOk result (Adds self.old self.new (Fail message.now)) }
         ensures err { OnErr result (self.new ≡ self.old) }
     {
         let class = self.class_now(Class::Fail, Class::XFail, Class::KFail);
@@ -88,24 +123,24 @@ impl Judging {
     }
 
     /// A test without a clear result.
-    pub fn unresolved(&mut self, alloc: Global, message: &[u8]) -> Result<(), AllocError>
-        ensures ok { OnOk result (Adds self.old self.new (CallUnresolved message.now)) }
+    fn unresolved(&mut self, alloc: Global, message: &[u8]) -> Result<(), AllocError>
+        ensures ok { OnOk result (Adds self.old self.new (Unresolved message.now)) }
         ensures err { OnErr result (self.new ≡ self.old) }
     {
         self.record(alloc, Class::Unresolved, message)
     }
 
     /// A test that was not run.
-    pub fn untested(&mut self, alloc: Global, message: &[u8]) -> Result<(), AllocError>
-        ensures ok { OnOk result (Adds self.old self.new (CallUntested message.now)) }
+    fn untested(&mut self, alloc: Global, message: &[u8]) -> Result<(), AllocError>
+        ensures ok { OnOk result (Adds self.old self.new (Untested message.now)) }
         ensures err { OnErr result (self.new ≡ self.old) }
     {
         self.record(alloc, Class::Untested, message)
     }
 
     /// A test that the target has no support for.
-    pub fn unsupported(&mut self, alloc: Global, message: &[u8]) -> Result<(), AllocError>
-        ensures ok { OnOk result (Adds self.old self.new (CallUnsupported message.now)) }
+    fn unsupported(&mut self, alloc: Global, message: &[u8]) -> Result<(), AllocError>
+        ensures ok { OnOk result (Adds self.old self.new (Unsupported message.now)) }
         ensures err { OnErr result (self.new ≡ self.old) }
     {
         self.record(alloc, Class::Unsupported, message)
@@ -113,13 +148,13 @@ impl Judging {
 
     /// An error of the test itself. It adds one to the count of errors, or sets it to a number.
     /// A count goes up to 4,294,967,295 and stays there.
-    pub fn perror(
+    fn perror(
         &mut self,
         alloc: Global,
         message: &[u8],
         count: Option<u32>,
     ) -> Result<(), AllocError>
-        ensures ok { OnOk result (Adds self.old self.new (CallPerror message.now count)) }
+        ensures ok { OnOk result (Adds self.old self.new (Perror message.now count)) }
         ensures err { OnErr result (self.new ≡ self.old) }
     {
         self.write(alloc, Class::Error, message)?;
@@ -129,13 +164,13 @@ impl Judging {
 
     /// A warning. It adds one to the count of warnings, or sets it to a number.
     /// A count goes up to 4,294,967,295 and stays there.
-    pub fn warning(
+    fn warning(
         &mut self,
         alloc: Global,
         message: &[u8],
         count: Option<u32>,
     ) -> Result<(), AllocError>
-        ensures ok { OnOk result (Adds self.old self.new (CallWarning message.now count)) }
+        ensures ok { OnOk result (Adds self.old self.new (Warning message.now count)) }
         ensures err { OnErr result (self.new ≡ self.old) }
     {
         self.write(alloc, Class::Warning, message)?;
@@ -144,37 +179,37 @@ impl Judging {
     }
 
     /// A message alone.
-    pub fn note(&mut self, alloc: Global, message: &[u8]) -> Result<(), AllocError>
-        ensures ok { OnOk result (Adds self.old self.new (CallNote message.now)) }
+    fn note(&mut self, alloc: Global, message: &[u8]) -> Result<(), AllocError>
+        ensures ok { OnOk result (Adds self.old self.new (Note message.now)) }
         ensures err { OnErr result (self.new ≡ self.old) }
     {
         self.write(alloc, Class::Note, message)
     }
 
     /// The next result is expected to be a failure. The caller has matched the target.
-    pub fn setup_xfail(&mut self)
-        ensures { Adds self.old self.new CallSetupXfail }
+    fn setup_xfail(&mut self)
+        ensures { Adds self.old self.new SetupXfail }
     {
         self.marks.xfail = true;
     }
 
     /// The next result isn't expected to be a failure. The caller has matched the target.
-    pub fn clear_xfail(&mut self)
-        ensures { Adds self.old self.new CallClearXfail }
+    fn clear_xfail(&mut self)
+        ensures { Adds self.old self.new ClearXfail }
     {
         self.marks.xfail = false;
     }
 
     /// The next result is a known failure. The caller has matched the target.
-    pub fn setup_kfail(&mut self)
-        ensures { Adds self.old self.new CallSetupKfail }
+    fn setup_kfail(&mut self)
+        ensures { Adds self.old self.new SetupKfail }
     {
         self.marks.kfail = true;
     }
 
     /// The next result is no known failure. The caller has matched the target.
-    pub fn clear_kfail(&mut self)
-        ensures { Adds self.old self.new CallClearKfail }
+    fn clear_kfail(&mut self)
+        ensures { Adds self.old self.new ClearKfail }
     {
         self.marks.kfail = false;
     }
@@ -182,7 +217,7 @@ impl Judging {
     /// The verdict of a test that came to its end.
     pub fn finish(self) -> Verdict
         ensures held { result ≡ self.lines }
-        ensures judged { (calls : List Call) → self ≡ after_calls calls → result ≡ lines_of calls }
+        ensures judged { (calls : List ResultCall) → self ≡ after_calls calls → result ≡ lines_of calls }
     {
         let Judging { lines, marks: _ } = self;
         Verdict::of(lines)
@@ -196,7 +231,7 @@ impl Judging {
         name: &[u8],
         message: &[u8],
     ) -> Result<Verdict, AllocError>
-        ensures { (calls : List Call) → self ≡ after_calls calls →
+        ensures { (calls : List ResultCall) → self ≡ after_calls calls →
             IfOk result (λ verdict. verdict ≡ lines_of calls ++ abort_lines name.now message.now) }
     {
         self.add_abort(alloc, name, message)?;
@@ -206,7 +241,7 @@ impl Judging {
     /// The verdict of a test that departed from its transcript, with one closing line. It is
     /// written as it is, whatever flags and counts stand. Want of memory lets the calls go.
     pub fn depart(mut self, alloc: Global, name: &[u8]) -> Result<Verdict, AllocError>
-        ensures { (calls : List Call) → self ≡ after_calls calls →
+        ensures { (calls : List ResultCall) → self ≡ after_calls calls →
             IfOk result (λ verdict. verdict ≡ lines_of calls ++ depart_lines name.now) }
     {
         let after = b" departed from its transcript";
@@ -216,7 +251,7 @@ impl Judging {
 
     /// Adds the closing lines of a test that a Tcl error ended.
     fn add_abort(&mut self, alloc: Global, name: &[u8], message: &[u8]) -> Result<(), AllocError>
-        ensures { OnOk result ((calls : List Call) → self.old ≡ after_calls calls → self.new.lines ≡ lines_of calls ++ abort_lines name.now message.now) }
+        ensures { OnOk result ((calls : List ResultCall) → self.old ≡ after_calls calls → self.new.lines ≡ lines_of calls ++ abort_lines name.now message.now) }
     {
         let after = b"' aborted due to Tcl error";
         self.add_around(alloc, Class::Error, b"tcl error sourcing ", name, b".")?;

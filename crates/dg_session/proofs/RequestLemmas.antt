@@ -4,7 +4,8 @@ use Rattle.std.proofs.Math.Seq.{drop-cons}
 use Rattle.std.proofs.lemmas.List.Elements.{All-from_get_or}
 use Rattle.std.proofs.lemmas.List.Splits.{slice_split_at, slice_split_none, length-slice_split}
 use Rattle.memchr.specs.Find.{Nowhere, NoneBefore, Passes, is_byte}
-use Rattle.dg_session.specs.Request.{fields_of, asked_by, asked_in, is, request_of}
+use Rattle.dg_session.specs.Request.{fields_of, asked_by, asked_in, request_of}
+use Rattle.dg_bytes.specs.Same.{same_bytes}
 use Rattle.dg_session.specs.declared.request.Request.TheVariants.{Select, Unknown}
 
 -- no space stands before a place
@@ -56,15 +57,15 @@ asked_by-more line behind_one behind_two behind_three behind_four one two three 
     ap asked_by (first ∙ ap (λ t. one ∷ t) (second ∙ ap (λ t. two ∷ t) (third ∙ ap (λ t. three ∷ t) fourth))) ∙ asked_by-many one two three four behind_four
 
 -- a line that begins with another word
-pub other_line : (line word : List ℕ) (rest : List (List ℕ)) → fields_of line ≡ word ∷ rest → is word (codes "select") ≡ false → asked_by (fields_of line) ≡ request_of line
+pub other_line : (line word : List ℕ) (rest : List (List ℕ)) → fields_of line ≡ word ∷ rest → same_bytes word (codes "select") ≡ false → asked_by (fields_of line) ≡ request_of line
 other_line line word rest e not = ap asked_by e ∙ ap (λ b. if b then Select rest else asked_by (word ∷ rest)) (sym not) ∙ sym (ap asked_in e)
 
 -- a line that selects
-pub selecting_line : (line word : List ℕ) (rest : List (List ℕ)) → fields_of line ≡ word ∷ rest → is word (codes "select") ≡ true → Select rest ≡ request_of line
+pub selecting_line : (line word : List ℕ) (rest : List (List ℕ)) → fields_of line ≡ word ∷ rest → same_bytes word (codes "select") ≡ true → Select rest ≡ request_of line
 selecting_line line word rest e is_so = ap (λ b. if b then Select rest else asked_by (word ∷ rest)) (sym is_so) ∙ sym (ap asked_in e)
 
 -- a line that begins with another word, by where it is cut
-pub other_by_cut : (line word : List ℕ) (rest : Option (Bor (List ℕ))) → MatchOption rest (fields_of line ≡ word ∷ []) (λ r. fields_of line ≡ word ∷ fields_of r.now) → is word (codes "select") ≡ false
+pub other_by_cut : (line word : List ℕ) (rest : Option (Bor (List ℕ))) → MatchOption rest (fields_of line ≡ word ∷ []) (λ r. fields_of line ≡ word ∷ fields_of r.now) → same_bytes word (codes "select") ≡ false
     → asked_by (fields_of line) ≡ request_of line
 other_by_cut line word None cut not = other_line line word [] cut not
 other_by_cut line word (Some r) cut not = other_line line word (fields_of r.now) cut not

@@ -6,18 +6,15 @@ use Rattle.std.specs.Result.{result_ok}
 use Rattle.hex.specs.Hex.{decode_of}
 use Rattle.dg_session.specs.declared.request.Request.{Request}
 use Rattle.dg_session.specs.declared.request.Request.TheVariants.{Put, Remove, PutTranscript, DropTranscript, Select, Report, Unknown}
+use Rattle.dg_bytes.specs.Same.{same_bytes}
 
 -- what stands between the spaces of a line
 abbrev pub fields_of : List ℕ → List (List ℕ)
 fields_of line = slice_split (λ b. b == 32) line
 
--- whether these are the same bytes
-abbrev pub is : List ℕ → List ℕ → Bool
-is word name = pointwise nat_eq word name
-
 -- the bytes that a field stands for: `-` for none, and else one or more pairs of hexadecimal digits
 unfoldable pub content_of : List ℕ → Option (List ℕ)
-content_of field = if length field == 0 then None else if is field (codes "-") then Some [] else result_ok (decode_of field)
+content_of field = if length field == 0 then None else if same_bytes field (codes "-") then Some [] else result_ok (decode_of field)
 
 -- a put of this file, where the content can be read
 abbrev pub put_of : List ℕ → Option (List ℕ) → Request
@@ -31,16 +28,16 @@ transcript_of board script None = Unknown
 
 -- what the fields of a line ask that doesn't select
 unfoldable pub asked_by : List (List ℕ) → Request
-asked_by (word ∷ []) = if is word (codes "report") then Report else Unknown
-asked_by (word ∷ name ∷ []) = if is word (codes "remove") then Remove name else Unknown
-asked_by (word ∷ name ∷ content ∷ []) = if is word (codes "put") then put_of name (content_of content) else (if is word (codes "drop") then DropTranscript name content else Unknown)
-asked_by (word ∷ board ∷ script ∷ content ∷ []) = if is word (codes "transcript") then transcript_of board script (content_of content) else Unknown
+asked_by (word ∷ []) = if same_bytes word (codes "report") then Report else Unknown
+asked_by (word ∷ name ∷ []) = if same_bytes word (codes "remove") then Remove name else Unknown
+asked_by (word ∷ name ∷ content ∷ []) = if same_bytes word (codes "put") then put_of name (content_of content) else (if same_bytes word (codes "drop") then DropTranscript name content else Unknown)
+asked_by (word ∷ board ∷ script ∷ content ∷ []) = if same_bytes word (codes "transcript") then transcript_of board script (content_of content) else Unknown
 asked_by others = Unknown
 
 -- what the fields ask: `select` with its words, or another line
 abbrev pub asked_in : List (List ℕ) → Request
 asked_in [] = Unknown
-asked_in (word ∷ words) = if is word (codes "select") then Select words else asked_by (word ∷ words)
+asked_in (word ∷ words) = if same_bytes word (codes "select") then Select words else asked_by (word ∷ words)
 
 -- what a line without its line feed asks
 abbrev pub request_of : List ℕ → Request

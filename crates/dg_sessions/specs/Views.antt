@@ -1,7 +1,7 @@
 -- The sessions of an evaluation, as a contract sees them.
 use Rattle.std.specs.Prelude.{ℕ, ◌+◌, ◌-◌, ◌≤◌, Bool, List, [], ◌++◌, length, Option, slice_get, position, option_map, codes, decimal, refl}
 use Rattle.std.specs.Coded.{Coded, code_by, coded×, coded_list, coded_ℕ}
-use Rattle.dg_transcript.specs.Step.{same_bytes}
+use Rattle.dg_bytes.specs.Same.{same_bytes}
 use Rattle.dg_transcript.specs.declared.cursor.Cursor.{Cursor}
 use Rattle.dg_transcript.specs.contracts.cursor.Cursor as cursor
 use Rattle.dg_sessions.specs.declared.phase.Phase.{Phase}

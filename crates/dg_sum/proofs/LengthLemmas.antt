@@ -1,7 +1,7 @@
 -- A report has more bytes than lines.
 use Rattle.std.proofs.Common.{◌≤◌, ℕ, true, false, cond, List, [], ◌∷◌, ◌++◌, length, arith, length-append, codes}
 use Rattle.std.specs.List.{flat_map}
-use Rattle.dg_world.specs.Script.{same}
+use Rattle.dg_bytes.specs.Same.{same_bytes}
 use Rattle.dg_world.specs.declared.selection.Selection.{Selection}
 use Rattle.dg_results.specs.Classes.{class_name}
 use Rattle.dg_results.specs.declared.verdict.Line.{Line}
@@ -21,7 +21,7 @@ lines_short (l ∷ lines) =
 
 pub test_short : (board : List ℕ) (j : Judged) → length (lines_on board j) ≤ length (script_text board j)
 test_short board j =
-    elim (same j.test.board board) as (λ b. length (cond b j.verdict []) ≤ length (cond b (codes "Running " ++ j.test.script ++ codes " ...\n" ++ flat_map line_text j.verdict) [])) [
+    elim (same_bytes j.test.board board) as (λ b. length (cond b j.verdict []) ≤ length (cond b (codes "Running " ++ j.test.script ++ codes " ...\n" ++ flat_map line_text j.verdict) [])) [
       | true ↦ omega (arith, lines_short j.verdict, length-append (codes "Running " ++ j.test.script ++ codes " ...\n") (flat_map line_text j.verdict))
       | false ↦ omega arith
     ]

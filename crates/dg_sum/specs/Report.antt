@@ -2,7 +2,7 @@
 use Rattle.std.specs.Prelude.{ℕ, ◌+◌, ◌==◌, nat_lt, nat_le, if◌then◌else◌, List, [], ◌++◌, length, codes}
 use Rattle.std.specs.List.{flat_map, list_any}
 use Rattle.std.specs.Fmt.{decimal}
-use Rattle.dg_world.specs.Script.{same}
+use Rattle.dg_bytes.specs.Same.{same_bytes}
 use Rattle.dg_world.specs.declared.selection.Selection.{Selection}
 use Rattle.dg_results.specs.Classes.{class_name, is_unexpected}
 use Rattle.dg_results.specs.Tally.{tally_of}
@@ -17,11 +17,11 @@ line_text l = class_name l.class ++ codes ": " ++ l.message ++ codes "\n"
 -- a test's script and its lines on a board: nothing, where the test is of another board
 abbrev pub script_text : List ℕ → Judged → List ℕ
 script_text board j =
-    if same j.test.board board then codes "Running " ++ j.test.script ++ codes " ...\n" ++ flat_map line_text j.verdict else []
+    if same_bytes j.test.board board then codes "Running " ++ j.test.script ++ codes " ...\n" ++ flat_map line_text j.verdict else []
 
 -- the lines that count on a board
 abbrev pub lines_on : List ℕ → Judged → List Line
-lines_on board j = if same j.test.board board then j.verdict else []
+lines_on board j = if same_bytes j.test.board board then j.verdict else []
 
 abbrev pub lines_of_board : List Judged → List ℕ → List Line
 lines_of_board judged board = flat_map (lines_on board) judged

@@ -15,12 +15,13 @@ use Rattle.hex.specs.declared.error.FromHexError.{FromHexError}
 use Rattle.hex.proofs.HexLemmas.{decode_of-encode_lower, decode_of-ok}
 use Rattle.dg_transcript.specs.declared.cause.Cause.{Cause}
 use Rattle.dg_transcript.specs.declared.cause.Cause.TheVariants as cause
-use Rattle.dg_transcript.specs.declared.code.Code.{Code}
-use Rattle.dg_transcript.specs.declared.code.Code.TheVariants.{NotFound, NotPermitted, BrokenPipe, Other}
-use Rattle.dg_transcript.specs.Step.{same_bytes}
+use Rattle.dg_transcript.specs.declared.code.ErrorCode.{ErrorCode}
+use Rattle.dg_transcript.specs.declared.code.ErrorCode.TheVariants.{NotFound, NotPermitted, BrokenPipe, Other}
+use Rattle.dg_bytes.specs.Same.{same_bytes}
 use Rattle.dg_transcript.specs.Text.{code_number, word_field}
 use Rattle.dg_transcript.specs.Limits.{BytesFit, WordsFit}
-use Rattle.dg_transcript.specs.Fields.{◌>>=◌, is_numeral, number_of, within, code_of, code_at, spelled_by, hex_of, bytes_of, word_of, each_word, words_of}
+use Rattle.dg_bytes.specs.Chain.{◌>>=◌}
+use Rattle.dg_transcript.specs.Fields.{is_numeral, number_of, within, code_of, code_at, spelled_by, hex_of, bytes_of, word_of, each_word, words_of}
 use Rattle.dg_transcript.proofs.GoodLines.{bind_ok, ok_is, guard_ok}
 
 -- ---- tests of bytes
@@ -94,14 +95,14 @@ code_back (suc (suc (suc zero))) a b = refl
 code_back (suc (suc (suc (suc zero)))) a b = refl
 code_back (suc (suc (suc (suc (suc n))))) a b = absurd (omega arith)
 
-pub code_takes : (f : List ℕ) (c : Code) → code_of f ≡ Ok c → f ≡ decimal (code_number c)
+pub code_takes : (f : List ℕ) (c : ErrorCode) → code_of f ≡ Ok c → f ≡ decimal (code_number c)
 unfolding code_of
 code_takes f c h =
     let a = bind_ok (within 1 4 f) (λ n. Ok (code_at n)) c h in
     let b = within_takes 1 4 f a.0 (omega arith) a.1 in
-    b.0 ∙ ap decimal (sym (code_back a.0 b.1 b.2)) ∙ ap (λ (d : Code). decimal (code_number d)) (ok_is (code_at a.0) c a.2)
+    b.0 ∙ ap decimal (sym (code_back a.0 b.1 b.2)) ∙ ap (λ (d : ErrorCode). decimal (code_number d)) (ok_is (code_at a.0) c a.2)
 
-pub code_again : (c : Code) → code_of (decimal (code_number c)) ≡ Ok c
+pub code_again : (c : ErrorCode) → code_of (decimal (code_number c)) ≡ Ok c
 unfolding code_of
 code_again NotFound = rw (within_again 1 4 1 (omega arith) (omega arith) (omega arith)) refl
 code_again NotPermitted = rw (within_again 1 4 2 (omega arith) (omega arith) (omega arith)) refl

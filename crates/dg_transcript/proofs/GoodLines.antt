@@ -14,8 +14,9 @@ use Rattle.dg_transcript.specs.declared.line.Role.TheVariants as role
 use Rattle.dg_transcript.specs.declared.line.Place.{Place}
 use Rattle.dg_transcript.specs.declared.line.Place.TheVariants as place
 use Rattle.dg_transcript.specs.Order.{role_of, admits, opens_session, after_role, after_line}
-use Rattle.dg_transcript.specs.Fields.{◌>>=◌, Fails, read_line}
-use Rattle.dg_transcript.specs.Step.{same_bytes}
+use Rattle.dg_bytes.specs.Chain.{◌>>=◌}
+use Rattle.dg_transcript.specs.Fields.{Fails, read_line}
+use Rattle.dg_bytes.specs.Same.{same_bytes}
 use Rattle.dg_transcript.specs.Lines.{is_session, is_said, is_over, place_from, place_of, may_come, is_past, placed, ends_line, body, whole_line_at, line_at, line_behind, Say, IsBad, IsFault, Takes}
 use Rattle.dg_transcript.specs.Kept.{Keeps, next_of, other_lines}
 

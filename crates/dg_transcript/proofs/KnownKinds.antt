@@ -9,9 +9,10 @@ use Rattle.dg_transcript.specs.declared.line.Line.{Line}
 use Rattle.dg_transcript.specs.declared.line.Line.TheVariants as line
 use Rattle.dg_transcript.specs.declared.line.Place.{Place}
 use Rattle.dg_transcript.specs.declared.line.Place.TheVariants as place
-use Rattle.dg_transcript.specs.Step.{same_bytes}
-use Rattle.dg_transcript.specs.Fields.{◌>>=◌, kind_of, line_by, line_from, read_line}
-use Rattle.dg_transcript.specs.Lines.{may_come, is_past, placed, body, ends_line, whole_line_at, line_at, kind_from, kind_at, IsBad, IsFirstBad}
+use Rattle.dg_bytes.specs.Same.{same_bytes}
+use Rattle.dg_bytes.specs.Chain.{◌>>=◌}
+use Rattle.dg_transcript.specs.Fields.{kind_of, kind_from, line_by, line_from, read_line}
+use Rattle.dg_transcript.specs.Lines.{may_come, is_past, placed, body, ends_line, whole_line_at, line_at, kind_at, IsBad, IsFirstBad}
 
 header_not : (b : Bool) → (if b then Ok line.Header else Err cause.Header) ≡ Err cause.Field → ⊥
 header_not true h = absurd cc

@@ -8,7 +8,8 @@ use Rattle.dg_transcript.specs.declared.cursor.Cursor.{Cursor}
 use Rattle.dg_transcript.specs.declared.cursor.Act.TheVariants as act
 use Rattle.dg_transcript.specs.declared.cursor.Action.{Action}
 use Rattle.dg_transcript.specs.declared.cursor.Action.TheVariants as action
-use Rattle.dg_transcript.specs.Step.{Step, step_at, gone_on, same_bytes, same_words, answers_if}
+use Rattle.dg_bytes.specs.Same.{same_bytes, same_words}
+use Rattle.dg_transcript.specs.Step.{Step, step_at, gone_on, answers_if}
 use Rattle.dg_transcript.specs.Replay.{Outcome, answered, timed_out, left_with, answered_if, reads, replay, buffer_behind, stepped, steps}
 
 module _ (add : List ℕ → List ℕ → List ℕ) where

@@ -6,18 +6,19 @@ use Rattle.std.proofs.lemmas.List.Splits.{join_with_byte-slice_split}
 use Rattle.hex.specs.Hex.{encode_lower}
 use Rattle.dg_transcript.specs.declared.cause.Cause.{Cause}
 use Rattle.dg_transcript.specs.declared.cause.Cause.TheVariants as cause
-use Rattle.dg_transcript.specs.declared.code.Code.{Code}
-use Rattle.dg_transcript.specs.declared.code.Code.TheVariants.{NotFound, NotPermitted, BrokenPipe, Other}
+use Rattle.dg_transcript.specs.declared.code.ErrorCode.{ErrorCode}
+use Rattle.dg_transcript.specs.declared.code.ErrorCode.TheVariants.{NotFound, NotPermitted, BrokenPipe, Other}
 use Rattle.dg_transcript.specs.declared.entry.Entry.{Entry}
 use Rattle.dg_transcript.specs.declared.entry.Entry.TheVariants as entry
 use Rattle.dg_transcript.specs.declared.line.Line.{Line}
 use Rattle.dg_transcript.specs.declared.line.Line.TheVariants as line
 use Rattle.dg_transcript.specs.declared.line.Kind.{Kind}
 use Rattle.dg_transcript.specs.declared.line.Kind.TheVariants as kind
-use Rattle.dg_transcript.specs.Step.{same_bytes}
+use Rattle.dg_bytes.specs.Same.{same_bytes}
 use Rattle.dg_transcript.specs.Text.{code_number, word_field, entry_fields, line_fields}
 use Rattle.dg_transcript.specs.Limits.{EntryFits}
-use Rattle.dg_transcript.specs.Fields.{◌>>=◌, is_space, number_of, within, wait_of, code_of, bytes_of, words_of, only_field, first_field, no_field, keyword, kinds, kind_of, said, line_by, line_from, read_line}
+use Rattle.dg_bytes.specs.Chain.{◌>>=◌}
+use Rattle.dg_transcript.specs.Fields.{is_space, number_of, within, wait_of, code_of, bytes_of, words_of, only_field, first_field, no_field, keyword, kinds, kind_of, said, line_by, line_from, read_line}
 use Rattle.dg_transcript.proofs.GoodLines.{bind_ok, ok_is}
 use Rattle.dg_transcript.proofs.FieldsRead.{same_is, number_takes, number_again, within_takes, within_again, code_takes, code_again, bytes_takes, bytes_again, words_take, words_again}
 use Rattle.dg_transcript.proofs.Ordered.{LineFits}
@@ -194,7 +195,7 @@ entry_again (entry.Exited status) fits = from_again kind.Exited (decimal status 
 entry_again (entry.Killed signal) fits = from_again kind.Killed (decimal signal ∷ []) (line.Said (entry.Killed signal)) (rw (within_again 1 127 signal (omega arith) fits.0 fits.1) refl)
 entry_again (entry.NoWait code) fits = from_again kind.NoWait (decimal (code_number code) ∷ []) (line.Said (entry.NoWait code)) (rw (code_again code) refl)
 
-code_small : (c : Code) → code_number c < 2 ^ 64
+code_small : (c : ErrorCode) → code_number c < 2 ^ 64
 code_small NotFound = omega arith
 code_small NotPermitted = omega arith
 code_small BrokenPipe = omega arith

@@ -15,7 +15,7 @@ use Rattle.dg_transcript.specs.declared.line.Place.{Place}
 use Rattle.dg_transcript.specs.declared.line.Place.TheVariants as place
 use Rattle.dg_transcript.specs.Order.{opens_session, after_line}
 use Rattle.dg_transcript.specs.Limits.{IsTranscript}
-use Rattle.dg_transcript.specs.Step.{same_bytes}
+use Rattle.dg_bytes.specs.Same.{same_bytes}
 use Rattle.dg_transcript.specs.Fields.{read_line}
 use Rattle.dg_transcript.specs.Text.{line_fields, line_text, sessions_lines, transcript_lines, text_of}
 use Rattle.dg_transcript.specs.Sessions.{sessions_in}

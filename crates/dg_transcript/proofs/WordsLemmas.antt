@@ -7,8 +7,9 @@ use Rattle.std.proofs.lemmas.Bool.{le-leb, lt-leb}
 use Rattle.hex.specs.Hex.{encode_lower, decode_of}
 use Rattle.dg_transcript.specs.declared.cause.Cause.{Cause}
 use Rattle.dg_transcript.specs.declared.cause.Cause.TheVariants as cause
-use Rattle.dg_transcript.specs.Step.{same_bytes}
-use Rattle.dg_transcript.specs.Fields.{◌>>=◌, Fails, spelled_by, hex_of, word_of, each_word, words_of}
+use Rattle.dg_bytes.specs.Same.{same_bytes}
+use Rattle.dg_bytes.specs.Chain.{◌>>=◌}
+use Rattle.dg_transcript.specs.Fields.{Fails, spelled_by, hex_of, word_of, each_word, words_of}
 
 -- what was read before, and what is still read
 abbrev pub with_front : List (List ℕ) → Result (List (List ℕ)) Cause → Result (List (List ℕ)) Cause

@@ -1,5 +1,5 @@
 -- What a line says, read on its own.
-use Rattle.std.specs.Prelude.{ℕ, ◌≡◌, ◌==◌, nat_lt, nat_le, min, Bool, not, ◌&&◌, ◌||◌, if◌then◌else◌, List, [], ◌∷◌, length, slice_index, codes, find, Option, Result, Ok, Err, ok_or}
+use Rattle.std.specs.Prelude.{ℕ, ◌≡◌, ◌==◌, nat_lt, nat_le, min, Bool, not, ◌&&◌, ◌||◌, if◌then◌else◌, List, [], ◌∷◌, length, slice_index, codes, find, drop, Option, None, Result, Ok, Err, ok_or}
 use Rattle.std.specs.List.{slice_split, list_all}
 use Rattle.std.specs.Result.{result_ok}
 use Rattle.std.specs.Char.{is_ascii_digit}
@@ -7,21 +7,17 @@ use Rattle.std.specs.Str.Parse.{digits_value}
 use Rattle.hex.specs.Hex.{encode_lower, decode_of}
 use Rattle.dg_transcript.specs.declared.cause.Cause.{Cause}
 use Rattle.dg_transcript.specs.declared.cause.Cause.TheVariants as cause
-use Rattle.dg_transcript.specs.declared.code.Code.{Code}
-use Rattle.dg_transcript.specs.declared.code.Code.TheVariants.{NotFound, NotPermitted, BrokenPipe, Other}
+use Rattle.dg_transcript.specs.declared.code.ErrorCode.{ErrorCode}
+use Rattle.dg_transcript.specs.declared.code.ErrorCode.TheVariants.{NotFound, NotPermitted, BrokenPipe, Other}
 use Rattle.dg_transcript.specs.declared.entry.Entry.{Entry}
 use Rattle.dg_transcript.specs.declared.entry.Entry.TheVariants as entry
 use Rattle.dg_transcript.specs.declared.line.Line.{Line}
 use Rattle.dg_transcript.specs.declared.line.Line.TheVariants as line
 use Rattle.dg_transcript.specs.declared.line.Kind.{Kind}
 use Rattle.dg_transcript.specs.declared.line.Kind.TheVariants as kind
-use Rattle.dg_transcript.specs.Step.{same_bytes}
+use Rattle.dg_bytes.specs.Chain.{◌>>=◌}
+use Rattle.dg_bytes.specs.Same.{same_bytes}
 use Rattle.dg_transcript.specs.declared.limits.TheConstants.{MAX_CHUNK, MAX_SENT, MAX_WAIT, MAX_WORDS}
-
-infixl 10 ◌>>=◌
-abbrev pub ◌>>=◌ : {A B : Type 0} → Result A Cause → (A → Result B Cause) → Result B Cause
-(Ok x) >>= f = f x
-(Err e) >>= f = Err e
 
 -- what a function answered, seen by view, is what reading gives, unless memory ran out
 abbrev pub Fails : {Y : Type 0} → Cause → Result Y Cause → Type 0
@@ -52,10 +48,10 @@ within low high text = number_of text >>= λ n. if nat_le low n && nat_le n high
 abbrev pub wait_of : List ℕ → Result ℕ Cause
 wait_of = within 0 MAX_WAIT
 
-abbrev pub code_at : ℕ → Code
+abbrev pub code_at : ℕ → ErrorCode
 code_at n = if n == 1 then NotFound else (if n == 2 then NotPermitted else (if n == 3 then BrokenPipe else Other))
 
-unfoldable pub code_of : List ℕ → Result Code Cause
+unfoldable pub code_of : List ℕ → Result ErrorCode Cause
 code_of text = within 1 4 text >>= λ n. Ok (code_at n)
 
 -- the bytes, at least one, whose lower-case hexadecimal the text is
@@ -146,10 +142,14 @@ line_by kind.Killed fs = only_field fs >>= λ f. within 1 127 f >>= λ signal. s
 line_by kind.NoWait fs = only_field fs >>= λ f. code_of f >>= λ code. said (entry.NoWait code)
 line_by kind.Done fs = no_field fs >>= λ _. Ok line.Done
 
+-- the kind that the first of a line's fields names, if it names one
+abbrev pub kind_from : List (List ℕ) → Option Kind
+kind_from [] = None
+kind_from (word ∷ fields) = kind_of word
+
 -- a line from its fields: the first names the kind
 unfoldable pub line_from : List (List ℕ) → Result Line Cause
-line_from [] = Err cause.Kind
-line_from (word ∷ fields) = ok_or (kind_of word) cause.Kind >>= λ k. line_by k fields
+line_from fields = ok_or (kind_from fields) cause.Kind >>= λ k. line_by k (drop 1 fields)
 
 -- what a line says, without its newline
 abbrev pub read_line : List ℕ → Result Line Cause

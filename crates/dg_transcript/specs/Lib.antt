@@ -1,5 +1,4 @@
 pub mod Fields
-pub mod Kept
 pub mod Limits
 pub mod Lines
 pub mod Order
@@ -7,7 +6,9 @@ pub mod Output
 pub mod Replay
 pub mod Sessions
 pub mod Decoded
-pub mod Small
-pub mod Spaced
 pub mod Step
 pub mod Text
+-- of which only the crate's own functions and proofs speak
+pub mod Kept
+pub mod Small
+pub mod Spaced

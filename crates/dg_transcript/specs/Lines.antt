@@ -10,8 +10,9 @@ use Rattle.dg_transcript.specs.declared.line.Line.TheVariants as line
 use Rattle.dg_transcript.specs.declared.line.Place.{Place}
 use Rattle.dg_transcript.specs.declared.line.Place.TheVariants as place
 use Rattle.dg_transcript.specs.Order.{role_of, admits, opens_session, after_line}
-use Rattle.dg_transcript.specs.Fields.{◌>>=◌, is_space, kind_of, read_line}
-use Rattle.dg_transcript.specs.Step.{same_bytes}
+use Rattle.dg_bytes.specs.Chain.{◌>>=◌}
+use Rattle.dg_transcript.specs.Fields.{is_space, kind_from, read_line}
+use Rattle.dg_bytes.specs.Same.{same_bytes}
 use Rattle.dg_transcript.specs.declared.limits.TheConstants.{MAX_ENTRIES, MAX_SESSIONS}
 
 abbrev pub is_session : Line → Bool
@@ -53,11 +54,6 @@ ends_line text = nat_lt 0 (length text) && (slice_index text (length text - 1) =
 -- a line without its newline
 abbrev pub body : List ℕ → List ℕ
 body text = take (length text - 1) text
-
--- the kind that the first of a line's fields names, if it names one
-abbrev pub kind_from : List (List ℕ) → Option Kind
-kind_from [] = None
-kind_from (word ∷ fields) = kind_of word
 
 abbrev pub kind_at : List ℕ → Option Kind
 kind_at text = kind_from (slice_split is_space (body text))

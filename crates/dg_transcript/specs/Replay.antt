@@ -8,7 +8,8 @@ use Rattle.dg_transcript.specs.declared.cursor.Act.TheVariants as act
 use Rattle.dg_transcript.specs.declared.cursor.Action.{Action}
 use Rattle.dg_transcript.specs.declared.cursor.Action.TheVariants as action
 use Rattle.dg_transcript.specs.Output.{output_of}
-use Rattle.dg_transcript.specs.Step.{Step, step, same_bytes, same_words}
+use Rattle.dg_bytes.specs.Same.{same_bytes, same_words}
+use Rattle.dg_transcript.specs.Step.{Step, step}
 
 -- the entries that are left, what is left of the first one's wait where some of it has passed, and
 -- the bytes that were read and not yet taken

@@ -1,6 +1,6 @@
 -- One step of a replay: what an entry is to an action.
-use Rattle.std.specs.Prelude.{ℕ, ◌+◌, ◌-◌, ◌==◌, nat_lt, nat_le, nat_eq, Bool, if◌then◌else◌, List, Option, Some, None, unwrap_or}
-use Rattle.std.specs.Cmp.Lexicographic.{pointwise}
+use Rattle.std.specs.Prelude.{ℕ, ◌+◌, ◌-◌, ◌==◌, nat_lt, nat_le, Bool, if◌then◌else◌, List, Option, Some, None, unwrap_or}
+use Rattle.dg_bytes.specs.Same.{same_bytes, same_words}
 use Rattle.dg_transcript.specs.declared.entry.Entry.{Entry}
 use Rattle.dg_transcript.specs.declared.entry.Entry.TheVariants as entry
 use Rattle.dg_transcript.specs.declared.cursor.Cursor.{Cursor}
@@ -35,12 +35,6 @@ passes c a = record { act = act.Wants (c.place + 1); cursor = gone_on c; action 
 
 abbrev pub answers_if : Bool → Cursor → Action → Step
 answers_if fits c a = record { act = if fits then act.Answered else act.Departed; cursor = if fits then gone_on c else c; action = a }
-
-abbrev pub same_bytes : List ℕ → List ℕ → Bool
-same_bytes = pointwise nat_eq
-
-abbrev pub same_words : List (List ℕ) → List (List ℕ) → Bool
-same_words = pointwise same_bytes
 
 -- bytes, or the end, after a wait: in time where it is at most the limit
 abbrev pub arrives : Cursor → ℕ → ℕ → Step

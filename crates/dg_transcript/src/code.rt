@@ -4,14 +4,14 @@ ghost use Rattle.dg_transcript.specs.Text.{code_number};
 
 /// Why a call of a child failed.
 #[derive(Clone, Copy, Debug, PartialEq, Eq, Hash)]
-pub enum Code {
+pub enum ErrorCode {
     NotFound = 1,
     NotPermitted = 2,
     BrokenPipe = 3,
     Other = 4,
 }
 
-impl Code {
+impl ErrorCode {
     /// The number of the code, 1 to 4.
     pub fn number(self) -> u8
         ensures { result ≡ code_number self }

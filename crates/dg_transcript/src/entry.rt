@@ -3,7 +3,7 @@ ghost use Rattle.std.specs.Prelude.{◌≡◌, MatchOption, OnOk, Some, None};
 ghost use Rattle.dg_transcript.specs.Output.{output_of, is_failure};
 ghost use Rattle.dg_transcript.specs.Order.{role_of};
 
-use crate::code::Code;
+use crate::code::ErrorCode;
 use crate::line::Role;
 use dg_bytes::{Bytes, Seq, TryCopy};
 use std::alloc::{AllocError, Global};
@@ -14,29 +14,29 @@ pub enum Entry {
     /// The child was started by these words.
     Started(Seq<Bytes>),
     /// It could not be started by these words.
-    NoStart(Code, Seq<Bytes>),
+    NoStart(ErrorCode, Seq<Bytes>),
     /// The bytes were sent to it.
     Sent(Bytes),
     /// The bytes could not be sent.
-    NoSend(Code, Bytes),
+    NoSend(ErrorCode, Bytes),
     /// After so many milliseconds these bytes came from it.
     Chunk(u32, Bytes),
     /// After so many milliseconds its output ended.
     End(u32),
     /// Its output could not be read.
-    NoRead(Code),
+    NoRead(ErrorCode),
     /// For so many milliseconds nothing came from it.
     Silence(u32),
     /// Its session was closed.
     Closed,
     /// Its session could not be closed.
-    NoClose(Code),
+    NoClose(ErrorCode),
     /// It ended with this status.
     Exited(u8),
     /// It was killed by this signal.
     Killed(u8),
     /// It could not be waited for.
-    NoWait(Code),
+    NoWait(ErrorCode),
 }
 
 impl Drop for Entry {

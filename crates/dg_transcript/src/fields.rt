@@ -10,7 +10,7 @@ ghost use Rattle.dg_transcript.specs.Spaced.{behind};
 ghost use Rattle.dg_transcript.specs.Small.{is_small};
 
 use crate::cause::Cause;
-use crate::code::Code;
+use crate::code::ErrorCode;
 use crate::limits::MAX_WORDS;
 use dg_bytes::{Bytes, Seq};
 use hex::FromHexError;
@@ -128,14 +128,14 @@ pub(crate) fn within(low: u32, high: u32, text: &[u8]) -> Result<u32, Cause>
 
 /// The code that a number stands for.
 #[tactic(auto, unfolding(crate::specs::Fields::code_of))]
-pub(crate) fn code_of(text: &[u8]) -> Result<Code, Cause>
+pub(crate) fn code_of(text: &[u8]) -> Result<ErrorCode, Cause>
     ensures { Gives (λ c. c) result (code_of text.now) }
 {
     Ok(match within(1, 4, text)? {
-        1 => Code::NotFound,
-        2 => Code::NotPermitted,
-        3 => Code::BrokenPipe,
-        _ => Code::Other,
+        1 => ErrorCode::NotFound,
+        2 => ErrorCode::NotPermitted,
+        3 => ErrorCode::BrokenPipe,
+        _ => ErrorCode::Other,
     })
 }
 

@@ -15,7 +15,7 @@ mod transcript;
 mod writing;
 
 pub use crate::cause::Cause;
-pub use crate::code::Code;
+pub use crate::code::ErrorCode;
 pub use crate::cursor::{Act, Action, Cursor};
 pub use crate::decoding::decode;
 pub use crate::entry::Entry;

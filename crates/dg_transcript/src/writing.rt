@@ -6,7 +6,7 @@ ghost use Rattle.dg_transcript.specs.Text.{code_number, word_field, entry_fields
 ghost use Rattle.dg_transcript.specs.declared.entry.Entry.TheVariants as entry;
 ghost use Rattle.dg_transcript.specs.declared.line.Line.TheVariants as line;
 
-use crate::code::Code;
+use crate::code::ErrorCode;
 use crate::entry::Entry;
 use crate::transcript::Transcript;
 use dg_bytes::{Bytes, Seq};
@@ -61,7 +61,12 @@ fn push_numbered(alloc: Global, out: &mut Bytes, word: &[u8], number: u32) -> Re
 }
 
 // The first word of a line, and a code.
-fn push_coded(alloc: Global, out: &mut Bytes, word: &[u8], code: Code) -> Result<(), AllocError>
+fn push_coded(
+    alloc: Global,
+    out: &mut Bytes,
+    word: &[u8],
+    code: ErrorCode,
+) -> Result<(), AllocError>
     ensures { OnOk result (out.new ≡ out.old ++ join_with_byte 32 (word.now ∷ decimal (code_number code) ∷ [])) }
 {
     push_numbered(alloc, out, word, code.number().into())
@@ -101,7 +106,7 @@ fn push_started(alloc: Global, out: &mut Bytes, words: &Seq<Bytes>) -> Result<()
 fn push_no_start(
     alloc: Global,
     out: &mut Bytes,
-    code: Code,
+    code: ErrorCode,
     words: &Seq<Bytes>,
 ) -> Result<(), AllocError>
     ensures { OnOk result (out.new ≡ out.old ++ join_with_byte 32 (entry_fields (entry.NoStart code words.now))) }

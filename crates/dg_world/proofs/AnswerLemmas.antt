@@ -3,17 +3,18 @@ use Rattle.std.proofs.Common.{◌≡◌, ◌↔◌, ℕ, true, ◌&&◌, ◌==�
 use Rattle.std.specs.Prelude.{nat_eq}
 use Rattle.std.proofs.lemmas.Bool.{and_parts, and_from, eqb-true}
 use Rattle.std.specs.Cmp.Lexicographic.{pointwise, pointwise_decides}
-use Rattle.dg_transcript.specs.contracts.code.CodePartialEq.TheImpl as codes
+use Rattle.dg_transcript.specs.contracts.code.ErrorCodePartialEq.TheImpl as codes
 use Rattle.dg_transcript.specs.contracts.entry.EntryPartialEq.TheImpl as entries
 use Rattle.dg_match.specs.contracts.reading.ReadingPartialEq.TheImpl as readings
 use Rattle.dg_world.specs.contracts.question.AnswerPartialEq.TheImpl as answers
-use Rattle.dg_transcript.specs.declared.code.Code.{Code}
-use Rattle.dg_transcript.specs.declared.code.Code.TheVariants.{NotFound, NotPermitted, BrokenPipe, Other}
+use Rattle.dg_transcript.specs.declared.code.ErrorCode.{ErrorCode}
+use Rattle.dg_transcript.specs.declared.code.ErrorCode.TheVariants.{NotFound, NotPermitted, BrokenPipe, Other}
 use Rattle.dg_transcript.specs.declared.entry.Entry.{Entry}
 use Rattle.dg_transcript.specs.declared.entry.Entry.TheVariants as entry
 use Rattle.dg_match.specs.declared.reading.Reading.{Reading}
 use Rattle.dg_match.specs.declared.reading.Reading.TheVariants.{Read, Syntax, TooLarge}
-use Rattle.dg_world.specs.Entries.{same_code, same_words, same_entry}
+use Rattle.dg_bytes.specs.Same.{same_words}
+use Rattle.dg_world.specs.Entries.{same_code, same_entry}
 use Rattle.std.specs.Cmp.Lexicographic.{bytes_decides}
 use Rattle.dg_world.specs.Question.{same_reading, same_answer}
 use Rattle.dg_world.specs.declared.question.Answer.{Answer}
@@ -22,13 +23,13 @@ use Rattle.dg_world.specs.declared.question.Answer.TheVariants as answer
 words_decide : (a b : List (List ℕ)) → IsTrue (same_words a b) ↔ (a ≡ b)
 words_decide = pointwise_decides bytes_decides
 
-code-refl : (c : Code) → same_code c c ≡ true
+code-refl : (c : ErrorCode) → same_code c c ≡ true
 code-refl NotFound = refl
 code-refl NotPermitted = refl
 code-refl BrokenPipe = refl
 code-refl Other = refl
 
-code-true : (c d : Code) → same_code c d ≡ true → c ≡ d
+code-true : (c d : ErrorCode) → same_code c d ≡ true → c ≡ d
 code-true NotFound NotFound h = refl
 code-true NotPermitted NotPermitted h = refl
 code-true BrokenPipe BrokenPipe h = refl
@@ -116,7 +117,7 @@ same_answer-true (answer.Entry a) (answer.Entry b) h = ap answer.Entry (entry-tr
 same_answer-true (answer.Reading a) (answer.Reading b) h = ap answer.Reading (reading-true a b h)
 same_answer-true _ _ h = cc
 
-code_eq : (c d : Code) → codes.ghosts.eq c d ≡ same_code c d
+code_eq : (c d : ErrorCode) → codes.ghosts.eq c d ≡ same_code c d
 code_eq NotFound NotFound = refl
 code_eq NotPermitted NotPermitted = refl
 code_eq BrokenPipe BrokenPipe = refl

@@ -1,30 +1,26 @@
 -- When two entries of a session's record are the same.
-use Rattle.std.specs.Prelude.{ℕ, Bool, true, false, ◌&&◌, ◌==◌, List, nat_eq}
-use Rattle.std.specs.Cmp.Lexicographic.{pointwise}
-use Rattle.dg_transcript.specs.declared.code.Code.{Code}
-use Rattle.dg_transcript.specs.declared.code.Code.TheVariants.{NotFound, NotPermitted, BrokenPipe, Other}
+use Rattle.std.specs.Prelude.{ℕ, Bool, true, false, ◌&&◌, ◌==◌}
+use Rattle.dg_bytes.specs.Same.{same_bytes, same_words}
+use Rattle.dg_transcript.specs.declared.code.ErrorCode.{ErrorCode}
+use Rattle.dg_transcript.specs.declared.code.ErrorCode.TheVariants.{NotFound, NotPermitted, BrokenPipe, Other}
 use Rattle.dg_transcript.specs.declared.entry.Entry.{Entry}
 use Rattle.dg_transcript.specs.declared.entry.Entry.TheVariants as entry
 
 -- whether two codes are the same
-abbrev pub same_code : Code → Code → Bool
+abbrev pub same_code : ErrorCode → ErrorCode → Bool
 same_code NotFound NotFound = true
 same_code NotPermitted NotPermitted = true
 same_code BrokenPipe BrokenPipe = true
 same_code Other Other = true
 same_code _ _ = false
 
--- whether two lists of words are the same
-abbrev pub same_words : List (List ℕ) → List (List ℕ) → Bool
-same_words = pointwise (pointwise nat_eq)
-
 -- whether two entries are the same
 abbrev pub same_entry : Entry → Entry → Bool
 same_entry (entry.Started a) (entry.Started b) = same_words a b
 same_entry (entry.NoStart c a) (entry.NoStart d b) = same_code c d && same_words a b
-same_entry (entry.Sent a) (entry.Sent b) = pointwise nat_eq a b
-same_entry (entry.NoSend c a) (entry.NoSend d b) = same_code c d && pointwise nat_eq a b
-same_entry (entry.Chunk m a) (entry.Chunk n b) = (m == n) && pointwise nat_eq a b
+same_entry (entry.Sent a) (entry.Sent b) = same_bytes a b
+same_entry (entry.NoSend c a) (entry.NoSend d b) = same_code c d && same_bytes a b
+same_entry (entry.Chunk m a) (entry.Chunk n b) = (m == n) && same_bytes a b
 same_entry (entry.End m) (entry.End n) = m == n
 same_entry (entry.NoRead c) (entry.NoRead d) = same_code c d
 same_entry (entry.Silence m) (entry.Silence n) = m == n

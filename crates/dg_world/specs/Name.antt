@@ -1,18 +1,13 @@
 -- Names of files.
-use Rattle.std.specs.Prelude.{ℕ, Bool, not, ◌&&◌, ◌||◌, ◌==◌, nat_le, List, length, codes, nat_eq}
+use Rattle.std.specs.Prelude.{ℕ, Bool, not, ◌&&◌, ◌==◌, nat_le, List, length, codes, nat_eq}
 use Rattle.std.specs.List.{list_all, slice_split}
 use Rattle.std.specs.Cmp.Lexicographic.{pointwise}
+use Rattle.dg_bytes.specs.Portable.{is_portable}
 
--- a byte of a part: a letter, a digit, or one of . _ + -
-abbrev pub is_part_byte : ℕ → Bool
-is_part_byte b =
-    (nat_le 65 b && nat_le b 90) || (nat_le 97 b && nat_le b 122) || (nat_le 48 b && nat_le b 57)
-    || (b == 46) || (b == 95) || (b == 43) || (b == 45)
-
--- one or more of these bytes, but neither `.` nor `..`
+-- one or more letters, digits or bytes of `._-+`, but neither `.` nor `..`
 abbrev pub is_part : List ℕ → Bool
 is_part p =
-    nat_le 1 (length p) && list_all is_part_byte p && not (pointwise nat_eq p (codes ".")) && not (pointwise nat_eq p (codes ".."))
+    nat_le 1 (length p) && list_all is_portable p && not (pointwise nat_eq p (codes ".")) && not (pointwise nat_eq p (codes ".."))
 
 -- what stands between the slashes
 abbrev pub parts_of : List ℕ → List (List ℕ)

@@ -3,7 +3,7 @@ use Rattle.std.specs.Prelude.{Bool, true, false, ◌&&◌, ◌==◌}
 use Rattle.dg_match.specs.declared.reading.Reading.{Reading}
 use Rattle.dg_match.specs.declared.reading.Reading.TheVariants.{Read, Syntax, TooLarge}
 use Rattle.dg_world.specs.Entries.{same_entry}
-use Rattle.dg_world.specs.Script.{same}
+use Rattle.dg_bytes.specs.Same.{same_bytes}
 use Rattle.dg_world.specs.Test.{same_test}
 use Rattle.dg_world.specs.declared.question.System.{System}
 use Rattle.dg_world.specs.declared.question.System.TheVariants.{Target, Host, Build}
@@ -26,12 +26,12 @@ same_place a b = same_test a.test b.test && (a.session == b.session) && (a.place
 
 -- whether two questions are the same
 abbrev pub same_question : Question → Question → Bool
-same_question (File a) (File b) = same a b
+same_question (File a) (File b) = same_bytes a b
 same_question Tool Tool = true
 same_question (Triplet a) (Triplet b) = same_system a b
-same_question (Variable a) (Variable b) = same a b
+same_question (Variable a) (Variable b) = same_bytes a b
 same_question (Entry a) (Entry b) = same_place a b
-same_question (Pattern a) (Pattern b) = same a b
+same_question (Pattern a) (Pattern b) = same_bytes a b
 same_question _ _ = false
 
 -- whether two readings of a pattern are the same
@@ -44,11 +44,11 @@ same_reading _ _ = false
 -- whether two answers are the same
 abbrev pub same_answer : Answer → Answer → Bool
 same_answer answer.Absent answer.Absent = true
-same_answer (answer.Content a) (answer.Content b) = same a b
-same_answer (answer.Tool a) (answer.Tool b) = same a b
-same_answer (answer.Triplet a) (answer.Triplet b) = same a b
+same_answer (answer.Content a) (answer.Content b) = same_bytes a b
+same_answer (answer.Tool a) (answer.Tool b) = same_bytes a b
+same_answer (answer.Triplet a) (answer.Triplet b) = same_bytes a b
 same_answer answer.Unset answer.Unset = true
-same_answer (answer.Value a) (answer.Value b) = same a b
+same_answer (answer.Value a) (answer.Value b) = same_bytes a b
 same_answer answer.Ended answer.Ended = true
 same_answer (answer.Entry a) (answer.Entry b) = same_entry a b
 same_answer (answer.Reading a) (answer.Reading b) = same_reading a b

@@ -5,10 +5,7 @@ use Rattle.std.specs.Option.{unwrap_or}
 use Rattle.std.specs.List.{list_any, last_or, starts_with, ends_with}
 use Rattle.std.specs.Cmp.Lexicographic.{pointwise}
 use Rattle.dg_world.specs.Name.{parts_of}
-
--- whether two texts have the same bytes
-abbrev pub same : List ℕ → List ℕ → Bool
-same a b = pointwise nat_eq a b
+use Rattle.dg_bytes.specs.Same.{same_bytes}
 
 -- the first and the last of the parts of a name
 abbrev pub first_part : List ℕ → List ℕ
@@ -19,7 +16,7 @@ last_part n = unwrap_or (last_or None (parts_of n)) []
 
 -- a folder that no tool's scripts stand in
 abbrev pub is_reserved : List ℕ → Bool
-is_reserved folder = same folder (codes "lib") || same folder (codes "boards") || same folder (codes "transcripts")
+is_reserved folder = same_bytes folder (codes "lib") || same_bytes folder (codes "boards") || same_bytes folder (codes "transcripts")
 
 -- whether a name of two parts or more is that of a script of the tool
 unfoldable pub is_script : List ℕ → List ℕ → Bool
@@ -29,4 +26,4 @@ is_script tool n =
 
 -- whether a list has the name or its last part
 abbrev pub is_listed : List (List ℕ) → List ℕ → Bool
-is_listed names n = list_any (λ m. same m n || same m (last_part n)) names
+is_listed names n = list_any (λ m. same_bytes m n || same_bytes m (last_part n)) names

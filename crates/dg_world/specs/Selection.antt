@@ -2,7 +2,8 @@
 use Rattle.std.specs.Prelude.{ℕ, Bool, true, not, ◌&&◌, ◌||◌, ◌==◌, nat_le, List, [], ◌∷◌, length, map, codes}
 use Rattle.std.specs.List.{list_all, list_any}
 use Rattle.dg_world.specs.Name.{is_name, is_single_part}
-use Rattle.dg_world.specs.Script.{same, is_script, is_listed}
+use Rattle.dg_world.specs.Script.{is_script, is_listed}
+use Rattle.dg_bytes.specs.Same.{same_bytes}
 use Rattle.dg_world.specs.Setting.{is_setting}
 use Rattle.dg_world.specs.declared.question.System.{System}
 use Rattle.dg_world.specs.declared.question.System.TheVariants.{Target, Host, Build}
@@ -13,7 +14,7 @@ use Rattle.dg_world.specs.declared.selection.TheConstants.{MAX_BOARDS, MAX_NAMES
 -- whether no two are the same
 abbrev pub are_distinct : List (List ℕ) → Bool
 are_distinct [] = true
-are_distinct (x ∷ xs) = not (list_any (same x) xs) && are_distinct xs
+are_distinct (x ∷ xs) = not (list_any (same_bytes x) xs) && are_distinct xs
 
 -- at most 4,096 names
 abbrev pub are_names : List (List ℕ) → Bool

@@ -2,7 +2,7 @@
 use Rattle.std.specs.Prelude.{ℕ, Bool, false, ◌&&◌, ◌||◌, ◌==◌, nat_le, Option, List, [], ◌∷◌, length}
 use Rattle.std.specs.Option.{option_map}
 use Rattle.std.specs.List.{list_all, find}
-use Rattle.dg_world.specs.Script.{same}
+use Rattle.dg_bytes.specs.Same.{same_bytes}
 use Rattle.dg_world.specs.declared.setting.Setting.{Setting}
 use Rattle.dg_world.specs.declared.setting.TheConstants.{MAX_VALUE_LENGTH}
 
@@ -25,4 +25,4 @@ is_setting s = is_variable s.name && nat_le (length s.value) MAX_VALUE_LENGTH
 
 -- what a variable is set to, if it is
 abbrev pub value_of : List Setting → List ℕ → Option (List ℕ)
-value_of settings name = option_map (λ s. s.value) (find (λ s. same s.name name) settings)
+value_of settings name = option_map (λ s. s.value) (find (λ s. same_bytes s.name name) settings)

@@ -5,11 +5,11 @@ ghost use Rattle.std.specs.Cmp.Lexicographic.{pointwise, slice_cmp, nat_list_eq_
 ghost use Rattle.std.specs.Cmp.{partial_equiv_from_equiv};
 ghost use Rattle.std.specs.Cmp.Rules.{hashing};
 ghost use Rattle.std.proofs.Common.{rules};
-ghost use Rattle.dg_world.specs.Name.{is_name, is_single_part, is_part, is_part_byte, parts_of};
+ghost use Rattle.dg_world.specs.Name.{is_name, is_single_part, is_part, parts_of};
 ghost use Rattle.std.specs.List.{list_all};
 
 use crate::refusal::Refusal;
-use dg_bytes::{Bytes, TryCopy};
+use dg_bytes::{Bytes, TryCopy, are_portable};
 use std::alloc::{AllocError, Global};
 use std::cmp::Ordering;
 use std::fmt;
@@ -123,19 +123,7 @@ fn is_part(part: &[u8]) -> bool
     if part == b"..".as_slice() {
         return false;
     }
-    are_part_bytes(part)
-}
-
-fn are_part_bytes(part: &[u8]) -> bool
-    ensures { result ≡ list_all is_part_byte part.now }
-{
-    part.iter().all(|b| is_part_byte(*b))
-}
-
-fn is_part_byte(byte: u8) -> bool
-    ensures { result ≡ is_part_byte byte }
-{
-    matches!(byte, b'A'..=b'Z' | b'a'..=b'z' | b'0'..=b'9' | b'.' | b'_' | b'+' | b'-')
+    are_portable(part)
 }
 
 impl PartialEq for Name {

@@ -5,7 +5,8 @@ ghost use Rattle.std.specs.List.{list_all, list_any};
 ghost use Rattle.dg_world.specs.Name.{is_name, is_single_part, parts_of};
 ghost use Rattle.dg_world.specs.Selection.{are_boards, are_distinct, are_names, are_settings};
 ghost use Rattle.dg_world.specs.Setting.{value_of};
-ghost use Rattle.dg_world.specs.Script.{first_part, last_part, is_reserved, is_script, is_listed, same};
+ghost use Rattle.dg_world.specs.Script.{first_part, last_part, is_reserved, is_script, is_listed};
+ghost use Rattle.dg_bytes.specs.Same.{same_bytes};
 
 use crate::name::{is_name, is_single_part};
 use crate::question::System;
@@ -213,7 +214,7 @@ fn are_distinct(boards: &[Bytes]) -> bool
 
 /// Whether a board is one of these.
 fn has(boards: &[Bytes], board: &Bytes) -> bool
-    ensures { result ≡ list_any (same board.now) boards.now }
+    ensures { result ≡ list_any (same_bytes board.now) boards.now }
 {
     boards.iter().any(|other| *board == *other)
 }

@@ -2,7 +2,7 @@
 ghost use Rattle.std.specs.Prelude.{◌≡◌, IfOk, map};
 ghost use Rattle.std.specs.Option.{option_copied};
 ghost use Rattle.std.specs.List.{list_all, list_any};
-ghost use Rattle.dg_world.specs.Script.{same};
+ghost use Rattle.dg_bytes.specs.Same.{same_bytes};
 ghost use Rattle.dg_world.specs.Selection.{are_distinct};
 ghost use Rattle.dg_world.specs.Setting.{is_setting, is_variable, is_variable_byte, is_variable_start, value_of};
 
@@ -69,7 +69,7 @@ pub(crate) fn have_distinct_names(settings: &[Setting]) -> bool
 
 /// Whether a setting is of this variable.
 fn sets(settings: &[Setting], name: &Bytes) -> bool
-    ensures { result ≡ list_any (λ s. same name.now s.name) settings.now }
+    ensures { result ≡ list_any (λ s. same_bytes name.now s.name) settings.now }
 {
     settings.iter().any(|setting| *name == setting.name)
 }

@@ -42,24 +42,24 @@ fault_in : {X : Type 0} → WordFault → Result X WordFault → WordFault
 fault_in f (Ok x) = f
 fault_in f (Err g) = g
 
-err_same : {X : Type 0} {f g : WordFault} → ◌≡◌ {A = Result X WordFault} (Err f) (Err g) → f ≡ g
+pub err_same : {X : Type 0} {f g : WordFault} → ◌≡◌ {A = Result X WordFault} (Err f) (Err g) → f ≡ g
 unfolding fault_in
 err_same {f = f} e = ap (fault_in f) e
 
 -- modes inside of braces, inside of quotes, and behind either
-abbrev OpenBrace : Mode → Type 0
+abbrev pub OpenBrace : Mode → Type 0
 OpenBrace mode.Braced = Unit {0}
 OpenBrace mode.BracedPair = Unit {0}
 OpenBrace m = ⊥
 
-abbrev OpenQuote : Mode → Type 0
+abbrev pub OpenQuote : Mode → Type 0
 OpenQuote (mode.In context.Quoted) = Unit {0}
 OpenQuote (mode.Pair context.Quoted) = Unit {0}
 OpenQuote (mode.Join context.Quoted) = Unit {0}
 OpenQuote (mode.Number context.Quoted n) = Unit {0}
 OpenQuote m = ⊥
 
-abbrev IsBehind : Mode → Type 0
+abbrev pub IsBehind : Mode → Type 0
 IsBehind mode.Gap = ⊥
 IsBehind (mode.In s) = ⊥
 IsBehind (mode.Pair s) = ⊥
@@ -70,7 +70,7 @@ IsBehind mode.BracedPair = ⊥
 IsBehind m = Unit {0}
 
 -- why a text cannot end in a mode
-data Stopping : Mode → WordFault → Type 0 where
+pub data Stopping : Mode → WordFault → Type 0 where
   in_braces : {m : Mode} → OpenBrace m → Stopping m ListBrace
   in_quotes : {m : Mode} → OpenQuote m → Stopping m ListQuote
   in_number : (s : Context) (n : kinds.Digits) → s ≢ context.Quoted → whole n ≡ None → Stopping (mode.Number s n) BadCodePoint
@@ -83,7 +83,7 @@ number_stopping context.Bare x xs n w None h f e = subst (λ g. Stopping (mode.N
 number_stopping context.Index x xs n w None h f e = subst (λ g. Stopping (mode.Number context.Index x) g) (err_same e) (Stopping.in_number context.Index x (λ i. absurd cc) h)
 number_stopping context.Alone x xs n w None h f e = subst (λ g. Stopping (mode.Number context.Alone x) g) (err_same e) (Stopping.in_number context.Alone x (λ i. absurd cc) h)
 
-stopping : (m : Mode) (xs : List (List ℕ)) (n : ℕ) (w : List ℕ) (f : WordFault) → list_stop (at xs m n w) ≡ Err f → Stopping m f
+pub stopping : (m : Mode) (xs : List (List ℕ)) (n : ℕ) (w : List ℕ) (f : WordFault) → list_stop (at xs m n w) ≡ Err f → Stopping m f
 unfolding list_stop list_ends
 stopping (mode.In context.Quoted) xs n w f e = subst (λ g. Stopping (mode.In context.Quoted) g) (err_same e) (Stopping.in_quotes tt)
 stopping (mode.Pair context.Quoted) xs n w f e = subst (λ g. Stopping (mode.Pair context.Quoted) g) (err_same e) (Stopping.in_quotes tt)
@@ -108,7 +108,7 @@ failing target.Deeper s f e = absurd cc
 failing target.Shallower s f e = absurd cc
 failing x s f e = err_same e
 
-data Failed : Mode → ℕ → WordFault → Type 0 where
+pub data Failed : Mode → ℕ → WordFault → Type 0 where
   behind : {m : Mode} {b : ℕ} → IsBehind m → Failed m b ListAfter
   last_digit : {b : ℕ} (s : Context) (n : kinds.Digits) (v : ℕ) → n.left ≡ 1 → with_digit n b ≡ Some v → written n.escape v ≡ None → Failed (mode.Number s n) b BadCodePoint
   no_digit : {b : ℕ} (s : Context) (n : kinds.Digits) → whole n ≡ None → Failed (mode.Number s n) b BadCodePoint
@@ -186,30 +186,30 @@ failed deep mode.Braced b f g h = absurd (no_braced deep (class_of b) b f h)
 failed deep mode.BracedPair b f g h = absurd h
 failed deep m b f g h = subst (λ y. Failed m b y) (behind_failed (class_of b) f h) (Failed.behind tt)
 
-step_failed : (s : Listing) (b : ℕ) (f : WordFault) → Fine s.mode → list_step s b ≡ Err f → Failed s.mode b f
+pub step_failed : (s : Listing) (b : ℕ) (f : WordFault) → Fine s.mode → list_step s b ≡ Err f → Failed s.mode b f
 unfolding list_step
 step_failed s b f g e =
     let t : Transition = list_transition (nat_lt 0 s.depth) s.mode (class_of b) b in
     failed (nat_lt 0 s.depth) s.mode b f g (failing t.next (list_effect t.second (list_effect t.first s)) f e)
 
 -- modes that only one byte leaves, and in which no text ends
-abbrev Stays : (Mode → Type 0) → Target → Type 0
+abbrev pub Stays : (Mode → Type 0) → Target → Type 0
 Stays P (target.To m) = P m
 Stays P target.Deeper = P mode.Braced
 Stays P target.Shallower = P mode.Braced
 Stays P x = Unit {0}
 
-record Held (P : Mode → Type 0) (k : ℕ) : Type 0 where
-  transitions : (deep : Bool) (m : Mode) (b : ℕ) → P m → b ≢ k → Stays P (list_transition deep m (class_of b) b).next
-  ends : (m : Mode) (s : Listing) (ys : List (List ℕ)) → P m → list_ended (list_ends m) s ≡ Ok ys → ⊥
+pub record Held (P : Mode → Type 0) (k : ℕ) : Type 0 where
+  pub transitions : (deep : Bool) (m : Mode) (b : ℕ) → P m → b ≢ k → Stays P (list_transition deep m (class_of b) b).next
+  pub ends : (m : Mode) (s : Listing) (ys : List (List ℕ)) → P m → list_ended (list_ends m) s ≡ Ok ys → ⊥
 
-stays_follow : (P : Mode → Type 0) (x : Target) (s n : Listing) → Stays P x → list_follow x s ≡ Ok n → P n.mode
+pub stays_follow : (P : Mode → Type 0) (x : Target) (s n : Listing) → Stays P x → list_follow x s ≡ Ok n → P n.mode
 stays_follow P (target.To m) s n h e = subst (λ (y : Listing). P y.mode) (ok_state e) h
 stays_follow P target.Deeper s n h e = subst (λ (y : Listing). P y.mode) (ok_state e) h
 stays_follow P target.Shallower s n h e = subst (λ (y : Listing). P y.mode) (ok_state e) h
 stays_follow P x s n h e = absurd cc
 
-stays_step : (P : Mode → Type 0) (k : ℕ) → Held P k → (s n : Listing) (b : ℕ) → P s.mode → b ≢ k → list_step s b ≡ Ok n → P n.mode
+pub stays_step : (P : Mode → Type 0) (k : ℕ) → Held P k → (s n : Listing) (b : ℕ) → P s.mode → b ≢ k → list_step s b ≡ Ok n → P n.mode
 unfolding list_step
 stays_step P k c s n b h d e =
     let t : Transition = list_transition (nat_lt 0 s.depth) s.mode (class_of b) b in
@@ -230,7 +230,7 @@ held_transition : (r : Result Listing WordFault) (bs : List ℕ) (p : ℕ) (ys :
 held_transition (Ok n) bs p ys f e = f n refl e
 held_transition (Err g) bs p ys f e = absurd cc
 
-held : (P : Mode → Type 0) (k : ℕ) → Held P k → (more : List ℕ) → Without k more → (s : Listing) → P s.mode → (p : ℕ) (ys : List (List ℕ)) → list_read more s p ≡ Ok ys → ⊥
+pub held : (P : Mode → Type 0) (k : ℕ) → Held P k → (more : List ℕ) → Without k more → (s : Listing) → P s.mode → (p : ℕ) (ys : List (List ℕ)) → list_read more s p ≡ Ok ys → ⊥
 unfolding list_read list_stop
 held P k c [] w s h p ys e = c.ends s.mode s ys h (held_end (list_ended (list_ends s.mode) s) p ys e)
 held P k c (b ∷ bs) w s h p ys e = held_transition (list_step s b) bs p ys (λ n i j. held P k c bs w.1 n (stays_step P k c s n b h w.0 i) (p + 1) ys j) e
@@ -255,11 +255,11 @@ brace_ends mode.Braced s ys h e = absurd cc
 brace_ends mode.BracedPair s ys h e = absurd cc
 brace_ends m s ys h e = h
 
-held_brace : Held OpenBrace 125
+pub held_brace : Held OpenBrace 125
 held_brace = record { transitions = λ deep m b h d. brace_transitions deep m (class_of b) b h (λ e. d (is_class b class.Close e)); ends = brace_ends }
 
 -- inside of quotes
-quote_context : (c : Class) (b : ℕ) → c ≢ class.Quote → Stays OpenQuote (list_quoted c b).next
+pub quote_context : (c : Class) (b : ℕ) → c ≢ class.Quote → Stays OpenQuote (list_quoted c b).next
 quote_context class.Quote b n = absurd (n refl)
 quote_context class.Backslash b n = tt
 quote_context c b n = tt
@@ -269,7 +269,7 @@ quote_paired b v t (Paired.one h) = tt
 quote_paired b v t (Paired.letter e n h) = tt
 quote_paired b v t (Paired.eight h) = tt
 
-quote_pair : (c : Class) (b : ℕ) → Stays OpenQuote (list_pair context.Quoted c b).next
+pub quote_pair : (c : Class) (b : ℕ) → Stays OpenQuote (list_pair context.Quoted c b).next
 quote_pair class.Newline b = tt
 quote_pair c b = quote_paired b (stands_for b) (escaped context.Quoted b) (paired context.Quoted b)
 
@@ -286,11 +286,11 @@ quote_counted e zero v = tt
 quote_counted e (suc zero) v = quote_behind (written e v) (goes (mode.In context.Quoted)) tt
 quote_counted e (suc (suc left)) v = tt
 
-quote_numbered : (n : kinds.Digits) (c : Class) (b : ℕ) (r : Option ℕ) → c ≢ class.Quote → Stays OpenQuote (list_numbered context.Quoted n c b r).next
+pub quote_numbered : (n : kinds.Digits) (c : Class) (b : ℕ) (r : Option ℕ) → c ≢ class.Quote → Stays OpenQuote (list_numbered context.Quoted n c b r).next
 quote_numbered n c b (Some v) d = quote_counted n.escape n.left v
 quote_numbered n c b None d = quote_behind (whole n) (list_quoted c b) (quote_context c b d)
 
-quote_transitions : (deep : Bool) (m : Mode) (c : Class) (b : ℕ) → OpenQuote m → c ≢ class.Quote → Stays OpenQuote (list_transition deep m c b).next
+pub quote_transitions : (deep : Bool) (m : Mode) (c : Class) (b : ℕ) → OpenQuote m → c ≢ class.Quote → Stays OpenQuote (list_transition deep m c b).next
 unfolding list_transition
 quote_transitions deep (mode.In context.Quoted) c b h n = quote_context c b n
 quote_transitions deep (mode.Pair context.Quoted) c b h n = quote_pair c b
@@ -310,11 +310,11 @@ quote_ends (mode.Join context.Quoted) s ys h e = absurd cc
 quote_ends (mode.Number context.Quoted x) s ys h e = quote_number_ends (whole x) s ys e
 quote_ends m s ys h e = h
 
-held_quote : Held OpenQuote 34
+pub held_quote : Held OpenQuote 34
 held_quote = record { transitions = λ deep m b h d. quote_transitions deep m (class_of b) b h (λ e. d (is_class b class.Quote e)); ends = quote_ends }
 
 -- a list that is read from its beginning on
-read_whole : (a : Elements) (xs : List (List ℕ)) → without_place a ≡ Ok xs → a ≡ Ok xs
+pub read_whole : (a : Elements) (xs : List (List ℕ)) → without_place a ≡ Ok xs → a ≡ Ok xs
 read_whole (Ok ys) xs e = ap (λ r. Ok (elements_in r)) e
   where
     elements_in : Result (List (List ℕ)) WordFault → List (List ℕ)
@@ -322,7 +322,7 @@ read_whole (Ok ys) xs e = ap (λ r. Ok (elements_in r)) e
     elements_in (Err f) = []
 read_whole (Err f) xs e = absurd cc
 
-read_behind : (front more : List ℕ) (s : Listing) → Reached front s → (xs : List (List ℕ)) → ListOf (front ++ more) xs → (p : ℕ) × (list_read more s p ≡ Ok xs)
+pub read_behind : (front more : List ℕ) (s : Listing) → Reached front s → (xs : List (List ℕ)) → ListOf (front ++ more) xs → (p : ℕ) × (list_read more s p ≡ Ok xs)
 unfolding elements_of
 read_behind front more s r xs h =
     let l = (r.leads more).on 0 in
@@ -371,7 +371,7 @@ unfolding list_step
 behind_fails s b h e =
     ap (λ (t : Transition). list_follow t.next (list_effect t.second (list_effect t.first s))) (behind_transition (nat_lt 0 s.depth) s.mode (class_of b) b h ∙ behind_more (class_of b) e)
 
-behind_parted : (more : List ℕ) (s : Listing) → IsBehind s.mode → (p : ℕ) (ys : List (List ℕ)) → list_read more s p ≡ Ok ys → Parted more
+pub behind_parted : (more : List ℕ) (s : Listing) → IsBehind s.mode → (p : ℕ) (ys : List (List ℕ)) → list_read more s p ≡ Ok ys → Parted more
 unfolding list_read
 behind_parted [] s h p ys e = tt
 behind_parted (b ∷ bs) s h p ys e = tested (is_blank b) refl
@@ -380,7 +380,7 @@ behind_parted (b ∷ bs) s h p ys e = tested (is_blank b) refl
     tested true i = i
     tested false i = let y = sym (ap (λ r. list_onward r p (λ n. list_read bs n (p + 1))) (behind_fails s b h i)) ∙ e in absurd cc
 
-behind_stops : (s : Listing) (p : ℕ) → IsBehind s.mode → list_read [] s p ≡ Ok s.elements
+pub behind_stops : (s : Listing) (p : ℕ) → IsBehind s.mode → list_read [] s p ≡ Ok s.elements
 unfolding list_read list_stop
 behind_stops s p h = ap (λ x. list_stopped (list_ended x s) p) (behind_ends s.mode h)
 
@@ -539,7 +539,7 @@ list_fault_says_what_is_wrong text fault place e =
       | inr (b, bs, r, w) ↦ says_at text x.front x.rest bs b place s fault s.mode x.split x.place_is r x.reached refl x.reached.fine x.reached.trace (step_failed s b fault x.reached.fine w)
     ]
 
-placed : (a : Elements) (fault : WordFault) → without_place a ≡ Err fault → (place : ℕ) × (a ≡ Err (fault, place))
+pub placed : (a : Elements) (fault : WordFault) → without_place a ≡ Err fault → (place : ℕ) × (a ≡ Err (fault, place))
 placed (Ok xs) fault e = absurd cc
 placed (Err (f, p)) fault e = (p, ap (λ r. Err (kind_in r, p)) e)
   where

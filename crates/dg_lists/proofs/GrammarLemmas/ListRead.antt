@@ -24,7 +24,7 @@ use Rattle.dg_lists.specs.Elements.{Listing, elements_of, list_effect, list_ende
 use Rattle.dg_lists.specs.Grammar.Escapes as spec
 use Rattle.dg_lists.specs.Grammar.Escapes.{each, begins_with_space, begins_number, Digits, Escaped, NumberWrites, stands_for, value_from}
 use Rattle.dg_lists.specs.Grammar.Lists as lists
-use Rattle.dg_lists.specs.Grammar.Lists.{parts, is_blank, plain_bare, plain_quoted, plain_braced, begins, Begins, Parted, Inside, Element, ListOf}
+use Rattle.dg_lists.specs.Grammar.Lists.{parts, is_blank, plain_bare, plain_quoted, plain_braced, begins, BeginsElement, Parted, Inside, Element, ListOf}
 use Rattle.dg_lists.proofs.GrammarLemmas.Numbers.{and_left, and_right, paired, one_transition, octal_transition, letter_transition, number, with_more, is_none, bytes_of, IsWriting, Written, writes, writes_byte, whole_behind, some_digits, next_value}
 use Rattle.dg_lists.proofs.GrammarLemmas.Bytes.{is_class}
 
@@ -425,7 +425,7 @@ pub begin_pair : (xs : List (List ℕ)) → list_step (at xs Gap 0 []) 92 ≡ li
 unfolding list_transition
 begin_pair xs = step_by (at xs Gap 0 []) 92 class.Backslash (goes (Pair Bare)) backslash_is refl ∙ sym (pair_step xs false [])
 
-begin_lead : (after : List ℕ) (xs : List (List ℕ)) (t v : List ℕ) → Begins t → Inside plain_bare after t v → (p : ℕ) → list_read (t ++ after) (at xs Gap 0 []) p ≡ list_read (t ++ after) (at xs (In Bare) 0 []) p
+begin_lead : (after : List ℕ) (xs : List (List ℕ)) (t v : List ℕ) → BeginsElement t → Inside plain_bare after t v → (p : ℕ) → list_read (t ++ after) (at xs Gap 0 []) p ≡ list_read (t ++ after) (at xs (In Bare) 0 []) p
 begin_lead after xs t v h lists.Inside.nothing p = absurd h
 begin_lead after xs t v h (lists.Inside.byte {t = u} b e i) p = read_step _ _ b (u ++ after) p (begin_plain xs b h e)
 begin_lead after xs t v h (lists.Inside.escape {t = u} e out f i) p = read_step _ _ 92 (e ++ u ++ after) p (begin_pair xs)

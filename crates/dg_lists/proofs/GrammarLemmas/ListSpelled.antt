@@ -24,7 +24,7 @@ use Rattle.dg_lists.specs.Elements.{Listing, Elements, elements_of, list_ended, 
 use Rattle.dg_lists.specs.Grammar.Escapes as spec
 use Rattle.dg_lists.specs.Grammar.Escapes.{Digits, Escaped, NumberWrites, Spaces, stands_for, value_from}
 use Rattle.dg_lists.specs.Grammar.Lists as lists
-use Rattle.dg_lists.specs.Grammar.Lists.{parts, is_blank, plain_bare, plain_quoted, plain_braced, begins, Begins, Parted, Inside, Element, ListOf}
+use Rattle.dg_lists.specs.Grammar.Lists.{parts, is_blank, plain_bare, plain_quoted, plain_braced, begins, BeginsElement, Parted, Inside, Element, ListOf}
 use Rattle.dg_lists.proofs.GrammarLemmas.Numbers.{and_both, Paired, paired, no_digits, no_room, more_digits, digit_some, was_written, octal_small, some_effect, number, bytes_of, IsWriting, whole_behind, some_digits, next_value}
 use Rattle.dg_lists.proofs.GrammarLemmas.Bytes.{is_class}
 use Rattle.dg_lists.proofs.GrammarLemmas.ListRead.{at, backslash_is, bare_blank, begin_pair, begin_plain, behind_blank, blank_step, braced_pair_transition, close_is, closes, deeper_transition, digit_transition, ends_behind, escaped_step, gap_stop, join_step, join_stop, joined_step, last_step, left, left_less, left_most, letter_whole, more_step, number_step, number_stop, open_is, pair_step, paired_transition, plain_braced_transition, plain_in, plain_step, read_end, read_step, space_step, context, step_by, unparted}
@@ -452,7 +452,7 @@ cons_of : List ℕ → Type 0
 cons_of [] = ⊥
 cons_of (b ∷ bs) = Unit {0}
 
-begins_inner : (b : ℕ) (bs inner after : List ℕ) → b ∷ bs ≡ inner ++ after → begins (class_of b) ≡ true → parts (class_of b) ≡ false → Parted after → Begins inner
+begins_inner : (b : ℕ) (bs inner after : List ℕ) → b ∷ bs ≡ inner ++ after → begins (class_of b) ≡ true → parts (class_of b) ≡ false → Parted after → BeginsElement inner
 unfolding cons_of
 begins_inner b bs [] [] e g h l = absurd (subst cons_of e tt)
 begins_inner b bs [] (c ∷ cs) e g h l = let x = sym h ∙ ap (λ y. parts (class_of y)) (first_same e) ∙ l in absurd cc

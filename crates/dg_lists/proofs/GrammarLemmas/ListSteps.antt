@@ -77,7 +77,7 @@ fine_transition deep mode.Braced c b h = fine_braced deep c b
 fine_transition deep mode.BracedPair c b h = tt
 fine_transition deep m c b h = fine_behind c
 
-abbrev FineListing : Result Listing WordFault → Type 0
+abbrev pub FineListing : Result Listing WordFault → Type 0
 FineListing (Ok s) = Fine s.mode
 FineListing (Err f) = Unit {0}
 
@@ -88,7 +88,7 @@ fine_follow target.Shallower s h = tt
 fine_follow (target.Bad f) s h = tt
 fine_follow n s h = tt
 
-fine_step : (s : Listing) (b : ℕ) → Fine s.mode → FineListing (list_step s b)
+pub fine_step : (s : Listing) (b : ℕ) → Fine s.mode → FineListing (list_step s b)
 unfolding list_step
 fine_step s b h =
     let t : Transition = list_transition (nat_lt 0 s.depth) s.mode (class_of b) b in
@@ -247,7 +247,7 @@ trace_follow past target.Deeper s n h e = subst (λ (y : Listing). Trace past y.
 trace_follow past target.Shallower s n h e = subst (λ (y : Listing). Trace past y.mode) (ok_state e) tt
 trace_follow past x s n h e = absurd cc
 
-reached_step : (past : List ℕ) (s n : Listing) (b : ℕ) → Reached past s → list_step s b ≡ Ok n → Reached (past ++ b ∷ []) n
+pub reached_step : (past : List ℕ) (s n : Listing) (b : ℕ) → Reached past s → list_step s b ≡ Ok n → Reached (past ++ b ∷ []) n
 unfolding list_step
 reached_step past s n b r e =
     let t : Transition = list_transition (nat_lt 0 s.depth) s.mode (class_of b) b in

@@ -38,9 +38,9 @@ begins Quote = false
 begins Open = false
 begins c = true
 
-abbrev pub Begins : List ℕ → Type 0
-Begins [] = ⊥
-Begins (b ∷ bs) = begins (class_of b) ≡ true
+abbrev pub BeginsElement : List ℕ → Type 0
+BeginsElement [] = ⊥
+BeginsElement (b ∷ bs) = begins (class_of b) ≡ true
 
 -- what comes behind an element: a blank or a newline, or nothing
 abbrev pub Parted : List ℕ → Type 0
@@ -65,7 +65,7 @@ pub data Braced : List ℕ → Type 0 where
 
 -- An element before the text after, and its value.
 pub data Element (after : List ℕ) : List ℕ → List ℕ → Type 0 where
-  bare : {t v : List ℕ} → Begins t → Inside plain_bare after t v → Element after t v
+  bare : {t v : List ℕ} → BeginsElement t → Inside plain_bare after t v → Element after t v
   quoted : {t v : List ℕ} → Inside plain_quoted (34 ∷ after) t v → Element after (34 ∷ t ++ 34 ∷ []) v
   braced : {t : List ℕ} → Braced t → Element after (123 ∷ t ++ 125 ∷ []) t
 

@@ -1,7 +1,7 @@
 //! Calls in turn, of which a refused one changes nothing.
 use dg_bytes::Bytes;
 use dg_match::{Buffer, Pattern};
-use dg_results::Judging;
+use dg_results::{Judging, ResultCall};
 use dg_scope::{ScopeFault, Scopes};
 use std::alloc::{AllocError, Global};
 
@@ -45,13 +45,23 @@ pub fn variables_are_kept(alloc: Global) -> Option<bool> {
 
 /// Four calls that write a line each, counted in `done` as they are answered.
 fn four_calls(judging: &mut Judging, alloc: Global, done: &mut usize) -> Result<(), AllocError> {
-    judging.pass(alloc, b"a message of some length")?;
+    let message = |text: &[u8]| Bytes::from_slice(alloc, text);
+    judging.take(
+        alloc,
+        &ResultCall::Pass(message(b"a message of some length")?),
+    )?;
     *done = 1;
-    judging.perror(alloc, b"another one, as long as that", None)?;
+    judging.take(
+        alloc,
+        &ResultCall::Perror(message(b"another one, as long as that")?, None),
+    )?;
     *done = 2;
-    judging.fail(alloc, b"and a third that is longer yet than both")?;
+    judging.take(
+        alloc,
+        &ResultCall::Fail(message(b"and a third that is longer yet than both")?),
+    )?;
     *done = 3;
-    judging.note(alloc, b"the last")?;
+    judging.take(alloc, &ResultCall::Note(message(b"the last")?))?;
     *done = 4;
     Ok(())
 }

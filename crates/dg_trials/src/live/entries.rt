@@ -4,7 +4,7 @@ use crate::parts::{cut, parts};
 use anyhow::{Result, bail};
 use dg_bytes::Bytes;
 use dg_gate::{Ended, Piece, Reply};
-use dg_transcript::Code;
+use dg_transcript::ErrorCode;
 use std::alloc::{AllocError, Global};
 use std::collections::VecDeque;
 use std::str;
@@ -23,12 +23,12 @@ fn small(field: &[u8]) -> Result<u8> {
 }
 
 /// The code of a number.
-pub fn code(number: u32) -> Code {
+pub fn code(number: u32) -> ErrorCode {
     match number {
-        1 => Code::NotFound,
-        2 => Code::NotPermitted,
-        3 => Code::BrokenPipe,
-        _ => Code::Other,
+        1 => ErrorCode::NotFound,
+        2 => ErrorCode::NotPermitted,
+        3 => ErrorCode::BrokenPipe,
+        _ => ErrorCode::Other,
     }
 }
 

@@ -23,7 +23,8 @@ use Rattle.dg_words.specs.Grammar.Saying.{EndsWord, IsWrong, OpensNothing, TooMa
 use Rattle.dg_lists.proofs.GrammarLemmas.Bytes.{is_class}
 use Rattle.dg_words.proofs.GrammarLemmas.Closers.{ends_at}
 use Rattle.dg_words.proofs.GrammarLemmas.Trails.{Cause, IsNested, Reached, Trail, cause, reached_step}
-use Rattle.dg_words.proofs.GrammarLemmas.OneKind.{is_missing, one_kind, one_place}
+use Rattle.dg_lists.proofs.GrammarLemmas.Places.{one_place, stops_whole}
+use Rattle.dg_words.proofs.GrammarLemmas.OneKind.{is_missing, one_kind}
 use Rattle.dg_words.proofs.GrammarLemmas.Plain.{OpensOne, bracket_opens, paren_opens, plain}
 use Rattle.dg_words.proofs.GrammarLemmas.Wrong.{IsWrongAt, wrong_at, wrong_end}
 use Rattle.dg_words.proofs.GrammarLemmas.InOrder.{in_nothing, same_open}
@@ -280,9 +281,6 @@ open_tells l m text k ks h o = from (read l text (fresh m) 0) refl
         ]
 
 -- what is wrong at the first place is told
-stops_whole : (Is : List ℕ → Type 0) (text : List ℕ) (place : ℕ) → StopsAt Is text place → Is text
-stops_whole Is text place x = elim x.why [ inl (e, h) ↦ h | inr (b, rest, e, h) ↦ subst Is (sym e) (h rest) ]
-
 tells_not : (l : Level) (m : Mode) (f : WordFault) (text : List ℕ) → Tells l m f text → IsNot (IsRead l m) text
 tells_not l m f text h x = let y = sym (h 0) ∙ ap kind_of x.2 in absurd cc
 

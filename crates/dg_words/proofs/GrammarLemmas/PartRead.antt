@@ -31,7 +31,7 @@ use Rattle.dg_lists.proofs.GrammarLemmas.Numbers.{Paired, paired}
 use Rattle.dg_lists.proofs.GrammarLemmas.Bytes.{is_class}
 use Rattle.dg_lists.proofs.GrammarLemmas.ListRead.{backslash_is}
 use Rattle.dg_words.proofs.GrammarLemmas.Segments.{at, Leads, lead_one, lead_both, step_by, read_step, read_end, moved, add_add, add_none, Seg, seg_one, does_in, pend_step, pend_transition}
-use Rattle.dg_words.specs.Grammar.Words.{Parts, Gap, begins, Begins}
+use Rattle.dg_words.specs.Grammar.Words.{Parts, Gap, begins, BeginsWord}
 use Rattle.dg_words.proofs.GrammarLemmas.Pieces.{same, seg_backslash}
 use Rattle.dg_words.proofs.GrammarLemmas.Pieces.{begun, behind_nothing, escaped_transition, letter_line, octal_line, dollar_is, left_bracket_is, right_bracket_is, right_paren_is, paren_is, bracket_transition, seg_dollar, seg_named, varied}
 use Rattle.dg_words.specs.declared.kinds.Opener.TheVariants as opener
@@ -409,7 +409,7 @@ begin_bracket l inner x d t = begin_by l inner x d 91 t class.LeftBracket left_b
     no_hash_bracket at_start = refl
     no_hash_bracket at_star = refl
 
-pub bare_begins : (x : Entry) (l L : Level) (n : ℕ) (s : Context) (after t : List ℕ) (ps : List Piece) → Parts L n s after t ps → (inner : List Opener) (d : Draft) → s ≡ context.Bare → L ≡ level_in l inner → Begins t → NoHash x t → Begun_as l inner x d (t ++ after)
+pub bare_begins : (x : Entry) (l L : Level) (n : ℕ) (s : Context) (after t : List ℕ) (ps : List Piece) → Parts L n s after t ps → (inner : List Opener) (d : Draft) → s ≡ context.Bare → L ≡ level_in l inner → BeginsWord t → NoHash x t → Begun_as l inner x d (t ++ after)
 bare_begins x l L n s after t ps words.Parts.nothing inner d i e h k = absurd h
 bare_begins x l L n s after t ps (words.Parts.byte {t = u} b f r) inner d i e h k =
     let g = plain_goes_on (level_in l inner) (class_of b) (subst (λ y. plain y context.Bare (class_of b) ≡ true) e (subst (λ y. plain L y (class_of b) ≡ true) i f)) in

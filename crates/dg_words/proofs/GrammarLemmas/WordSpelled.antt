@@ -24,7 +24,7 @@ use Rattle.dg_words.specs.Transitions.{after, ends, transition}
 use Rattle.dg_words.specs.Machine.{is_none}
 use Rattle.dg_lists.specs.Grammar.Escapes.{begins_with_space, Spaces}
 use Rattle.dg_words.specs.Grammar.Words as grammar
-use Rattle.dg_words.specs.Grammar.Words.{begins, Begins, Braced, ends_word, OneWord, Parted, Parts, Plain, plain_braced, with_text}
+use Rattle.dg_words.specs.Grammar.Words.{begins, BeginsWord, Braced, ends_word, OneWord, Parted, Parts, Plain, plain_braced, with_text}
 use Rattle.dg_lists.proofs.GrammarLemmas.Numbers.{and_both}
 use Rattle.dg_lists.proofs.GrammarLemmas.Bytes.{is_class}
 use Rattle.dg_lists.proofs.GrammarLemmas.ListRead.{backslash_is, newline_is, quote_is}
@@ -197,7 +197,7 @@ cons_of : List ℕ → Type 0
 cons_of [] = ⊥
 cons_of (b ∷ bs) = Unit {0}
 
-bare_begins : (l : Level) (b : ℕ) (bs u a : List ℕ) → b ∷ bs ≡ u ++ a → begins (class_of b) ≡ true → (Parted l (b ∷ bs) → ⊥) → Parted l a → Begins u
+bare_begins : (l : Level) (b : ℕ) (bs u a : List ℕ) → b ∷ bs ≡ u ++ a → begins (class_of b) ≡ true → (Parted l (b ∷ bs) → ⊥) → Parted l a → BeginsWord u
 bare_begins l b bs [] a e h un q = absurd (un (subst (λ y. Parted l y) (sym e) q))
 bare_begins l b bs (c ∷ cs) a e h un q = subst (λ y. begins (class_of y) ≡ true) (first_same e) h
 

@@ -71,9 +71,9 @@ begins class.Quote = false
 begins class.Open = false
 begins c = true
 
-abbrev pub Begins : List ℕ → Type 0
-Begins [] = ⊥
-Begins (b ∷ bs) = begins (class_of b) ≡ true
+abbrev pub BeginsWord : List ℕ → Type 0
+BeginsWord [] = ⊥
+BeginsWord (b ∷ bs) = begins (class_of b) ≡ true
 
 -- nor does a command's first word begin with `#`
 abbrev pub is_hash : Class → Bool
@@ -201,7 +201,7 @@ mutual
 
   -- A bare, a quoted or a braced word.
   pub data Plain : Level → ℕ → List ℕ → List ℕ → List Piece → Type 0 where
-    bare : {l : Level} {n : ℕ} {after t : List ℕ} {ps : List Piece} → Begins t → Parts l n Bare after t ps → Plain l n after t ps
+    bare : {l : Level} {n : ℕ} {after t : List ℕ} {ps : List Piece} → BeginsWord t → Parts l n Bare after t ps → Plain l n after t ps
     quoted : {l : Level} {n : ℕ} {after t : List ℕ} {ps : List Piece} → Parts l n Quoted (34 ∷ after) t ps → Plain l n after (34 ∷ t ++ 34 ∷ []) ps
     braced : {l : Level} {n : ℕ} {after t v : List ℕ} → Braced t v → Plain l n after (123 ∷ t ++ 125 ∷ []) (with_text v [])
 

@@ -2,7 +2,8 @@ use Rattle.std.proofs.Common.{◌≡◌, [], ap, sym, subst, ◌∙◌, Err}
 use Rattle.std.specs.Prelude.{codes}
 use Rattle.std.proofs.lemmas.List.{nil_from_length}
 use Rattle.dg_cmds.specs.declared.fault.CmdFault.TheVariants.{Tcl}
-use Rattle.dg_cmds.specs.Answers.{Answer, ◌>>=◌, Gives}
+use Rattle.dg_bytes.specs.Chain.{◌>>=◌}
+use Rattle.dg_cmds.specs.Answers.{Answer, Gives}
 use Rattle.dg_cmds.specs.Formats.{with_parts}
 use Rattle.dg_cmds.proofs.FormatLemmas.{plain-step, field-step, none-step}
 use Rattle.dg_cmds.proofs.format.with_parts.Goals as goal

@@ -1,5 +1,5 @@
-use Rattle.std.proofs.Common.{◌≡◌, ◌++◌, map, length, drop, ◌+◌, ◌*◌}
-use Rattle.dg_language.specs.Words.{substitution_of}
+use Rattle.std.proofs.Common.{◌≡◌, length, take, ◌+◌, ◌*◌}
+use Rattle.dg_language.specs.WordSteps.{AddsSteps}
 use Rattle.dg_words.specs.Parts.{pieces_of, pieces_of_part}
 use Rattle.dg_forms.proofs.substitute.+parts.Given as goal
 
@@ -10,6 +10,4 @@ abbrev pub decreases-push_parts : goal.decreases-push_parts
 decreases-push_parts l = 2 * length l.parts.now + 1
 
 abbrev pub invariant-push_parts-loop-part : goal.invariant-push_parts-loop-part
-invariant-push_parts-loop-part l =
-    (pieces_of l.part-items ≡ l.fn.parts)
-    × (l.steps ++ map substitution_of (pieces_of (drop l.part-index l.part-items)) ≡ l.fn.steps ++ map substitution_of l.fn.parts)
+invariant-push_parts-loop-part l = (pieces_of l.part-items ≡ l.fn.parts) × AddsSteps l.fn.steps l.steps (pieces_of (take l.part-index l.part-items))

@@ -1,5 +1,5 @@
 use Rattle.std.proofs.Common.{◌≡◌, ◌++◌, drop}
-use Rattle.dg_language.specs.Words.{substitutions}
+use Rattle.dg_language.specs.WordSteps.{substitutions}
 use Rattle.dg_forms.proofs.substitute.substitutions_of.Given as goal
 
 abbrev pub invariant-loop-word : goal.invariant-loop-word

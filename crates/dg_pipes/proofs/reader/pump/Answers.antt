@@ -1,7 +1,7 @@
 use Rattle.std.proofs.Common.{◌≡◌, ◌++◌, [], ◌∷◌, refl, subst, MatchBool, take, rules}
 use Rattle.std.proofs.lemmas.List.{with_items_is}
 use Rattle.rtrb.specs.Ring.{sent}
-use Rattle.dg_transcript.specs.declared.code.Code.TheVariants.{Other}
+use Rattle.dg_transcript.specs.declared.code.ErrorCode.TheVariants.{Other}
 use Rattle.std.specs.Io.KnownBytes.{Consumes}
 use Rattle.dg_pipes.specs.declared.item.Item.TheVariants.{End, Fault}
 use Rattle.dg_pipes.proofs.Pumping.{stopped, ended, went_on, keeps_nothing, consumes_none, fault_not_end}

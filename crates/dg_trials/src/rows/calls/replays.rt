@@ -3,7 +3,7 @@ use crate::parts::cut;
 use crate::rows::calls::text::{Line, Words};
 use crate::rows::row::number;
 use dg_bytes::{Bytes, Seq};
-use dg_transcript::{Act, Action, Code, Cursor, Entry};
+use dg_transcript::{Act, Action, Cursor, Entry, ErrorCode};
 use std::alloc::{AllocError, Global};
 
 /// The words of a start.
@@ -41,18 +41,18 @@ fn entry(alloc: Global, spelled: &[u8]) -> Result<Option<Entry>, AllocError> {
     let (first, second) = cut(rest);
     Ok(Some(match word {
         b"started" => Entry::Started(words(alloc, rest)?),
-        b"nostart" => Entry::NoStart(Code::NotFound, words(alloc, rest)?),
+        b"nostart" => Entry::NoStart(ErrorCode::NotFound, words(alloc, rest)?),
         b"sent" => Entry::Sent(Bytes::from_slice(alloc, rest)?),
-        b"nosend" => Entry::NoSend(Code::BrokenPipe, Bytes::from_slice(alloc, rest)?),
+        b"nosend" => Entry::NoSend(ErrorCode::BrokenPipe, Bytes::from_slice(alloc, rest)?),
         b"chunk" => Entry::Chunk(small(first), Bytes::from_slice(alloc, second)?),
         b"end" => Entry::End(small(rest)),
-        b"noread" => Entry::NoRead(Code::Other),
+        b"noread" => Entry::NoRead(ErrorCode::Other),
         b"silence" => Entry::Silence(small(rest)),
         b"closed" => Entry::Closed,
-        b"noclose" => Entry::NoClose(Code::Other),
+        b"noclose" => Entry::NoClose(ErrorCode::Other),
         b"exited" => Entry::Exited(status(rest)),
         b"killed" => Entry::Killed(status(rest)),
-        b"nowait" => Entry::NoWait(Code::Other),
+        b"nowait" => Entry::NoWait(ErrorCode::Other),
         _ => return Ok(None),
     }))
 }

@@ -3,7 +3,7 @@ use crate::parts::cut;
 use crate::rows::calls::text::Line;
 use crate::rows::row::number;
 use dg_bytes::Bytes;
-use dg_results::{Class, Judging, Verdict};
+use dg_results::{Class, Judging, ResultCall, Verdict};
 use std::alloc::{AllocError, Global};
 
 /// The classes of lines.
@@ -50,41 +50,30 @@ fn count(text: &[u8]) -> Option<u32> {
     u32::try_from(number(text)).ok()
 }
 
-/// Makes a call that writes a line.
-fn make_line(
-    judging: &mut Judging,
-    alloc: Global,
-    call: &[u8],
-    message: &[u8],
-) -> Result<(), AllocError> {
+/// A call that writes a line.
+fn line_call(call: &[u8], message: Bytes) -> ResultCall {
     let (word, rest) = cut(call);
     match word {
-        b"pass" => judging.pass(alloc, message),
-        b"fail" => judging.fail(alloc, message),
-        b"unresolved" => judging.unresolved(alloc, message),
-        b"untested" => judging.untested(alloc, message),
-        b"unsupported" => judging.unsupported(alloc, message),
-        b"perror" => judging.perror(alloc, message, count(rest)),
-        b"warning" => judging.warning(alloc, message, count(rest)),
-        _ => judging.note(alloc, message),
+        b"pass" => ResultCall::Pass(message),
+        b"fail" => ResultCall::Fail(message),
+        b"unresolved" => ResultCall::Unresolved(message),
+        b"untested" => ResultCall::Untested(message),
+        b"unsupported" => ResultCall::Unsupported(message),
+        b"perror" => ResultCall::Perror(message, count(rest)),
+        b"warning" => ResultCall::Warning(message, count(rest)),
+        _ => ResultCall::Note(message),
     }
 }
 
-/// Makes a call.
-fn make(
-    judging: &mut Judging,
-    alloc: Global,
-    call: &[u8],
-    message: &[u8],
-) -> Result<(), AllocError> {
+/// The call of a word, with a message if it has one.
+fn call_of(call: &[u8], message: Bytes) -> ResultCall {
     match call {
-        b"setup_xfail" => judging.setup_xfail(),
-        b"clear_xfail" => judging.clear_xfail(),
-        b"setup_kfail" => judging.setup_kfail(),
-        b"clear_kfail" => judging.clear_kfail(),
-        _ => make_line(judging, alloc, call, message)?,
+        b"setup_xfail" => ResultCall::SetupXfail,
+        b"clear_xfail" => ResultCall::ClearXfail,
+        b"setup_kfail" => ResultCall::SetupKfail,
+        b"clear_kfail" => ResultCall::ClearKfail,
+        _ => line_call(call, message),
     }
-    Ok(())
 }
 
 /// The verdict of calls, the last of which may be `abort MESSAGE` or `depart`, both of the script t/a.exp.
@@ -95,7 +84,10 @@ pub fn judged(alloc: Global, calls: &[Bytes]) -> Result<Verdict, AllocError> {
         match word {
             b"abort" => return judging.abort(alloc, b"t/a.exp", rest),
             b"depart" => return judging.depart(alloc, b"t/a.exp"),
-            _ => make(&mut judging, alloc, call.as_slice(), &[*letter])?,
+            _ => {
+                let message = Bytes::from_slice(alloc, &[*letter])?;
+                judging.take(alloc, &call_of(call.as_slice(), message))?;
+            }
         }
     }
     Ok(judging.finish())

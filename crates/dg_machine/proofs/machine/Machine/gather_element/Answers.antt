@@ -1,6 +1,7 @@
 use Rattle.std.proofs.Common.{refl}
 use Rattle.dg_language.specs.Variables.{read_variable}
-use Rattle.dg_language.specs.Words.{gather, element}
+use Rattle.dg_language.specs.Words.{element}
+use Rattle.dg_compiled.specs.Gathering.{gather}
 use Rattle.dg_machine.specs.Meaning.{go, rest, all_back, reading, outside_index}
 use Rattle.dg_machine.proofs.GatherLemmas.{ready-reading}
 use Rattle.dg_machine.proofs.machine.Machine.gather_element.Goals as goal

@@ -1,6 +1,6 @@
 use Rattle.std.proofs.Common.{refl}
 use Rattle.dg_language.specs.Variables.{read_variable}
-use Rattle.dg_language.specs.Words.{gather}
+use Rattle.dg_compiled.specs.Gathering.{gather}
 use Rattle.dg_machine.specs.Meaning.{go, rest, all_back, reading}
 use Rattle.dg_machine.proofs.GatherLemmas.{ready-reading}
 use Rattle.dg_machine.proofs.machine.Machine.gather_variable.Goals as goal

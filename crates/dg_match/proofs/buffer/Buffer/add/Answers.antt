@@ -1,5 +1,5 @@
 use Rattle.std.proofs.Common.{◌-◌, ℕ, ap, ◌∙◌}
-use Rattle.dg_match.specs.Held.{output_of, without_nulls}
+use Rattle.dg_match.specs.Held.{held_output, without_nulls}
 use Rattle.dg_match.proofs.ChunkLemmas.{chunk_within, chunk_passed, chunk_fits, chunk_added}
 use Rattle.dg_match.proofs.buffer.Buffer.add.Goals as goal
 
@@ -22,4 +22,4 @@ returns-clause-ok c =
     c.self.inside.compared c.self.inside.starts c.cut.new.self c.args.self.now c.cut.ensures.value (c.self.view_is ∙ c.close_up.ensures)
 
 pub returns-clause-output : goal.returns-clause-output
-returns-clause-output c = ap output_of (returns-clause-ok c)
+returns-clause-output c = ap held_output (returns-clause-ok c)

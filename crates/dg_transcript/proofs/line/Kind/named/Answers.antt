@@ -1,6 +1,6 @@
 use Rattle.std.proofs.Common.{◌≡◌, ◌∙◌, true, false, get_or, refl, sym}
 use Rattle.dg_transcript.specs.Fields.{keyword, kind_of, kinds}
-use Rattle.dg_transcript.specs.Step.{same_bytes}
+use Rattle.dg_bytes.specs.Same.{same_bytes}
 use Rattle.dg_transcript.specs.declared.line.Kind.TheVariants.{Session}
 use Rattle.dg_transcript.proofs.Finding.{found_here, found_behind, found_nowhere}
 use Rattle.dg_transcript.proofs.line.Kind.named.Goals as goal

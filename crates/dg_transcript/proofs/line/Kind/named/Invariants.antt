@@ -2,7 +2,7 @@
 use Rattle.std.proofs.Common.{◌≡◌, drop}
 use Rattle.std.specs.Prelude.{find}
 use Rattle.dg_transcript.specs.Fields.{keyword, kind_of, kinds}
-use Rattle.dg_transcript.specs.Step.{same_bytes}
+use Rattle.dg_bytes.specs.Same.{same_bytes}
 use Rattle.dg_transcript.proofs.line.Kind.named.Given as goal
 
 abbrev pub invariant-loop-kind : goal.invariant-loop-kind

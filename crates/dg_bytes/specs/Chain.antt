@@ -1,0 +1,7 @@
+-- What is made of a value, if there is one.
+use Rattle.std.specs.Prelude.{Result, Ok, Err}
+
+infixl 10 ◌>>=◌
+abbrev pub ◌>>=◌ : {X Y F : Type 0} → Result X F → (X → Result Y F) → Result Y F
+Ok x >>= more = more x
+Err f >>= more = Err f
