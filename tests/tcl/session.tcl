@@ -3,7 +3,9 @@
 #     tclsh session.tcl STDIN STDOUT words.cases ..
 #
 # Both files begin with what stands in `first.session` and `first.answers`, and end with `last.session` and `last.answers`, `suites.session` and `suites.answers`. A script is not put twice in turn. In a script a line
-# `+++ NAME` begins the text of another file, which is put before it and removed after its report.
+# `+++ NAME` begins the text of another file, which is put before it and removed after its report; `+++ transcript` begins that of its
+# transcript. In a file of rows a row is a request and its answer, with a tab between them: `\n`, `\xHH` and such stand for bytes, and
+# what stands in `<` and `>` for its digits.
 source [file join [file dirname [info script]] cases.tcl]
 
 # The counts of a report in their order: the class, and what the report calls it.
@@ -40,10 +42,14 @@ proc status {lines} {
     return [regexp -line {^(FAIL|XPASS|KPASS|UNRESOLVED): } $lines]
 }
 
-# The bytes of a text in hexadecimal digits, `-` where there are none.
+# Bytes in hexadecimal digits, `-` where there are none.
+proc digits {bytes} {
+    return [expr {$bytes eq "" ? "-" : [binary encode hex $bytes]}]
+}
+
+# The bytes of a text in hexadecimal digits.
 proc hex {text} {
-    set digits [binary encode hex [encoding convertto utf-8 $text]]
-    return [expr {$digits eq "" ? "-" : $digits}]
+    return [digits [encoding convertto utf-8 $text]]
 }
 
 # The script of a case, and the names and texts of the other files that it has.
@@ -55,6 +61,53 @@ proc parts {script} {
     }
     lappend parts $script
     return [list [lindex $parts 0] [lrange $parts 1 end]]
+}
+
+# The request that puts a part of a case, and the one that takes it away again.
+proc put {name text} {
+    return [expr {$name eq "transcript" ? "transcript unix t/a.exp" : "put $name"}]\ [hex $text]
+}
+
+proc remove {name} {
+    return [expr {$name eq "transcript" ? "drop unix t/a.exp" : "remove $name"}]
+}
+
+# Writes the requests and the answers of a file of cases.
+proc write_scripts {input output file} {
+    foreach {name script lines} [read_cases $file] {
+        lassign [parts $script] script files
+        foreach {other text} $files {
+            puts $input [put $other $text]
+            puts $output ok
+        }
+        puts $input "put t/a.exp [hex $script]"
+        puts $input report
+        set bytes [report $lines]
+        puts -nonewline $output "ok\nsum [status $lines] [string length $bytes] 1\n$bytes"
+        foreach {other text} $files {
+            puts $input [remove $other]
+            puts $output ok
+        }
+    }
+}
+
+# The bytes of a text with escapes.
+proc unescaped {text} {
+    return [subst -nocommands -novariables $text]
+}
+
+# Writes the requests and the answers of a file of rows.
+proc write_rows {input output file} {
+    foreach row [split [string trimright [read_bytes $file] \n] \n] {
+        if {$row eq "" || [string match "#*" $row]} continue
+        lassign [split $row \t] request answer
+        if {[regexp {^(.*)<(.*)>$} $request -> words text]} {
+            puts $input $words[digits [unescaped $text]]
+        } else {
+            puts $input [unescaped $request]
+        }
+        puts $output $answer
+    }
 }
 
 proc read_bytes {file} {
@@ -70,20 +123,10 @@ set output [open [lindex $argv 1] wb]
 puts -nonewline $input [read_bytes [file join $here first.session]]
 puts -nonewline $output [read_bytes [file join $here first.answers]]
 foreach file [lrange $argv 2 end] {
-    foreach {name script lines} [read_cases $file] {
-        lassign [parts $script] script files
-        foreach {other text} $files {
-            puts $input "put $other [hex $text]"
-            puts $output ok
-        }
-        puts $input "put t/a.exp [hex $script]"
-        puts $input report
-        set bytes [report $lines]
-        puts -nonewline $output "ok\nsum [status $lines] [string length $bytes] 1\n$bytes"
-        foreach {other text} $files {
-            puts $input "remove $other"
-            puts $output ok
-        }
+    if {[file extension $file] eq ".rows"} {
+        write_rows $input $output $file
+    } else {
+        write_scripts $input $output $file
     }
 }
 foreach part {last suites} {

@@ -1,6 +1,5 @@
-//! The program that tries what no clause says: rows of calls, each with the answer that it must give, and what no row says. Each line
-//! that it writes is a case, and whether it came out as it has to, or a file of data, and how much of it was tried. No line depends on
-//! how threads run.
+//! The program that tries what no clause says, and what no script or request can be a row of. Each line that it writes is a case, and
+//! whether it came out as it has to, or a file of data, and how much of it was tried. No line depends on how threads run.
 #![tactic(auto)]
 
 mod files;
@@ -12,7 +11,6 @@ mod memory;
 mod parts;
 mod pipes;
 mod reports;
-mod rows;
 mod sessions;
 mod wanted;
 
@@ -25,7 +23,7 @@ use std::thread::Threads;
 use std::time::Clock;
 
 /// The parts that are tried in turn.
-const PARTS: [&str; 6] = ["jobs", "cores", "sessions", "live", "rows", "pipes"];
+const PARTS: [&str; 5] = ["jobs", "cores", "sessions", "live", "pipes"];
 
 /// Tries a part, with the data of this folder.
 fn try_part<R>(rt: R, folder: &str, part: &str) -> Result<()>
@@ -49,7 +47,6 @@ where
         "cores" => reports::try_cases(&rt, rt.alloc()),
         "sessions" => sessions::try_cases(&rt, rt.alloc()),
         "live" => live::try_files(&rt, folder),
-        "rows" => rows::try_files(&rt, folder),
         "pipes" => pipes::try_file(rt, folder),
         _ => bail!("there is no part of this name"),
     }

@@ -1,15 +1,15 @@
 #!/usr/bin/env python3
-"""Writes rows of bad transcripts: good ones cut after each byte, and with other bytes in the place of each.
+"""Tries texts of transcripts in a session: good ones cut after each byte, and with other bytes in the place of each.
 
-    python3 bad_transcripts.py > ../data/bad-transcripts.rows
+    python3 bad_transcripts.py PROGRAM
 
 What each text gives is told by the small reader below, which follows docs/TRANSCRIPTS.md and shares nothing with the program.
-`--try FILE` reads the rows of transcripts in FILE, which were written by hand, and tells where the reader differs:
-
-    python3 bad_transcripts.py --try ../data/transcripts.rows
 """
 import re
+import subprocess
 import sys
+
+from common import LONGEST, Tries, settings
 
 # The kinds of an entry, by the first word of its line: what its fields are, and where in a session it may stand.
 ENTRIES = {
@@ -144,17 +144,6 @@ def read(text):
     return str(reader.sessions)
 
 
-def in_runs(answers):
-    """Answers one after another; of equal ones the places of the first and the last are told before the answer."""
-    runs = []
-    for place, answer in enumerate(answers):
-        if runs and runs[-1][2] == answer:
-            runs[-1][1] = place
-        else:
-            runs.append([place, place, answer])
-    return ", ".join(f"{first}-{last} {answer}" for first, last, answer in runs)
-
-
 # Good transcripts: of one session, and with each kind of entry.
 ONE = """dejagnu-transcript 1
 session 1
@@ -193,54 +182,37 @@ done
 # What is put in the place of each byte: letters, digits, and what separates fields and lines.
 OTHERS = "zaA019- \n\r\0\xff"
 
-HEAD = """\
-# Written by tests/bad_transcripts.py. What each front of a good transcript gives, from the empty one to the whole text; and what the
-# text gives with another byte in the place of each of its bytes: how many sessions it tells of, or its first bad line and why. Before an
-# answer stand the first and the last place where it is given.
-"""
+# The causes of a session's answer, in their order.
+CAUSES = ["Header", "Kind", "Field", "SessionOrder", "TooMany", "Truncated"]
 
 
-def field(text):
-    """A field of a row."""
-    plain = {"\n": "\\n", "\t": "\\t", "\r": "\\r", "\\": "\\\\"}
-    return "".join(
-        plain.get(byte) or (byte if " " <= byte <= "~" else f"\\x{ord(byte):02x}") for byte in text
-    )
-
-
-def rows():
-    for name, text in ("one session", ONE), ("each kind of entry", KINDS):
-        yield f"# Of {name}."
-        yield f"fronts\t{field(text)}\t" + in_runs(read(text[:end]) for end in range(len(text) + 1))
+def texts():
+    """The fronts of each, from the empty one to the whole, and each with another byte in the place of one."""
+    for text in ONE, KINDS:
+        yield from (text[:end] for end in range(len(text) + 1))
         for other in OTHERS:
-            answers = (read(text[:at] + other + text[at + 1 :]) for at in range(len(text)))
-            yield f"replaced\t{field(other)}\t{field(text)}\t" + in_runs(answers)
+            yield from (text[:at] + other + text[at + 1 :] for at in range(len(text)))
 
 
-def unescaped(row):
-    """A row with its repetitions written out and its escapes undone."""
-    row = re.sub(r"\\<(\d+)\*([^>]*)>", lambda found: int(found[1]) * found[2], row)
-    named = {"n": "\n", "t": "\t", "r": "\r", "\\": "\\"}
-    escape = r"\\(x[0-9a-f]{2}|.)"
-    return re.sub(escape, lambda found: named.get(found[1]) or chr(int(found[1][1:], 16)), row)
+def answer(text):
+    """What a session answers to a text."""
+    line, _, why = read(text).partition(" ")
+    return f"refused 7 {line} {CAUSES.index(why) + 1}" if why else "ok"
 
 
-def try_rows(path):
-    """Whether each row of a transcript in a file gives what the reader tells."""
-    differ = tried = 0
-    for number, row in enumerate(open(path, encoding="latin-1").read().split("\n"), 1):
-        name, *fields = row.split("\t")
-        if name == "transcript":
-            text, wanted = map(unescaped, fields)
-            tried += 1
-            if read(text) != wanted:
-                differ += 1
-                print(f"{path}:{number}: the reader tells {read(text)}")
-    print(f"{tried} rows, {differ} of them otherwise")
-    return differ == 0
+def main(program):
+    tries = Tries("bad_transcripts")
+    tried = list(texts())
+    requests = "".join(f"transcript unix t/a.exp {text.encode('latin-1').hex() or '-'}\n" for text in tried)
+    ran = subprocess.run([program, "--session"], input=requests, capture_output=True, text=True, timeout=LONGEST, env=settings())
+    given = ran.stdout.splitlines()
+    for text, told in zip(tried, given):
+        tries.begin(repr(text))
+        tries.same("answer", answer(text), told)
+    tries.begin("all of them")
+    tries.same("count", (len(tried), 0), (len(given), ran.returncode))
+    tries.end()
 
 
 if __name__ == "__main__":
-    if sys.argv[1:2] == ["--try"]:
-        sys.exit(0 if try_rows(sys.argv[2]) else 1)
-    print(HEAD + "\n".join(rows()))
+    main(sys.argv[1])
