@@ -47,11 +47,13 @@ class Edit:
 
 
 def type_at(text, place):
-    """The type whose method stands at a place, with the trait that it is of, or with what a type with parameters is given."""
+    """The type whose method stands at a place (`Any` for one of all types), with the trait that it is of, or with what a type with
+    parameters is given."""
     found = ""
     for it in re.finditer(r"(?m)^(?:impl|trait)(<[^>]*>)?\s+([^{]*?)(?:\s+where|\s*\{)", text[:place]):
         trait, _, own = it.group(2).rpartition(" for ")
         name, _, given = own.partition("<")
+        name = "Any" if name in re.findall(r"[<,]\s*(\w+)", it.group(1) or "") else name
         given = [each for each in given.rstrip(">").split(", ") if each and not each.startswith("'")]
         found = name + trait.partition("<")[0] + (f"+{'+'.join(given)}" if given and not it.group(1) else "")
     return found
