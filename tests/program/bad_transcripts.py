@@ -1,5 +1,5 @@
 #!/usr/bin/env python3
-"""Tries texts of transcripts in a session: good ones cut after each byte, and with other bytes in the place of each.
+"""Tries texts of transcripts in a session: good ones cut after each byte, and with other bytes in the place of each, and some at limits.
 
     python3 bad_transcripts.py PROGRAM
 
@@ -182,16 +182,31 @@ done
 # What is put in the place of each byte: letters, digits, and what separates fields and lines.
 OTHERS = "zaA019- \n\r\0\xff"
 
+def whole(*lines):
+    return "".join(f"{line}\n" for line in ("dejagnu-transcript 1", *lines, "done"))
+
+
+def limits():
+    """Texts at each limit, and past it by one: of sessions, entries, words, the bytes of a chunk, and those that are sent."""
+    for more in 0, 1:
+        yield whole(*(f"session {number}\nnostart 1 61" for number in range(1, 65 + more)))
+        yield whole("session 1", "started 61", *["silence 0"] * (65_535 + more))
+        yield whole("session 1", "started" + " -" * (64 + more))
+        yield whole("session 1", "started 61", "chunk 0 " + "00" * (4_096 + more))
+        yield whole("session 1", "started 61", "sent " + "00" * (1_048_576 + more))
+
+
 # The causes of a session's answer, in their order.
 CAUSES = ["Header", "Kind", "Field", "SessionOrder", "TooMany", "Truncated"]
 
 
 def texts():
-    """The fronts of each, from the empty one to the whole, and each with another byte in the place of one."""
+    """The fronts of each, from the empty one to the whole, and each with another byte in the place of one; and those at limits."""
     for text in ONE, KINDS:
         yield from (text[:end] for end in range(len(text) + 1))
         for other in OTHERS:
             yield from (text[:at] + other + text[at + 1 :] for at in range(len(text)))
+    yield from limits()
 
 
 def answer(text):
@@ -207,7 +222,7 @@ def main(program):
     ran = subprocess.run([program, "--session"], input=requests, capture_output=True, text=True, timeout=LONGEST, env=settings())
     given = ran.stdout.splitlines()
     for text, told in zip(tried, given):
-        tries.begin(repr(text))
+        tries.begin(repr(text[:600]))
         tries.same("answer", answer(text), told)
     tries.begin("all of them")
     tries.same("count", (len(tried), 0), (len(given), ran.returncode))
