@@ -6,9 +6,9 @@ use Rattle.dg_expr.specs.declared.fault.ExprFault.TheVariants.{Memory, NotWhole}
 use Rattle.dg_expr.specs.Operator.{Value, number_value}
 
 -- What a function returned is this value, unless memory ran out.
-abbrev pub Gives : Value → Result (List ℕ) ExprFault → Type 0
-Gives v (Ok text) = v ≡ Ok text
-Gives v (Err f) = (f ≡ Memory) ⊎ (v ≡ Err f)
+abbrev pub HasValue : Value → Result (List ℕ) ExprFault → Type 0
+HasValue v (Ok text) = v ≡ Ok text
+HasValue v (Err f) = (f ≡ Memory) ⊎ (v ≡ Err f)
 
 -- the number whose text is the value, or the value's fault
 abbrev pub Computes : Value → Result ℤ ExprFault → Type 0

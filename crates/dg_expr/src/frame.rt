@@ -107,7 +107,7 @@ impl Frames {
         self.inner.pop()
     }
 
-    /// Gives a tree to all that takes it where an operator of this level follows.
+    /// HasValue a tree to all that takes it where an operator of this level follows.
     #[tactic(auto, unfolding(crate::specs::Reading::reduce))]
     fn reduce(&mut self, alloc: Global, level: u8, tree: Tree) -> Result<Tree, ExprFault>
         ensures { Leads (reduce level self.old tree) self.new result }

@@ -3,7 +3,7 @@ ghost use Rattle.std.specs.Prelude.{◌≡◌, ◌≢◌, ◌*ℤ◌, ◌+ℤ◌
 ghost use Rattle.std.specs.Int.{w64, int_bit_and, int_bit_not, int_bit_or, int_bit_xor};
 ghost use Rattle.std.specs.List.{list_any};
 ghost use Rattle.dg_lists.specs.Elements.{elements_of};
-ghost use Rattle.dg_expr.specs.Answers.{Computes, Gives, IsNotWhole};
+ghost use Rattle.dg_expr.specs.Answers.{Computes, HasValue, IsNotWhole};
 ghost use Rattle.dg_expr.specs.Number.{decimal_text, number_of};
 ghost use Rattle.dg_expr.specs.Operator.{and_then, denied, divided, found_in, number_value, of_whole, of_wholes, or_else, order_of, quotient, remainder, shifted_left, shifted_right, truly, truth_value, value_of, value_of_one};
 ghost use Rattle.dg_bytes.specs.Same.{same_bytes};
@@ -31,7 +31,7 @@ pub fn decimal(alloc: Global, value: i64) -> Result<Bytes, AllocError>
 
 /// The text of a number, if 64 bits hold it.
 fn number_value(alloc: Global, value: i128) -> Result<Bytes, ExprFault>
-    ensures { Gives (number_value value) result }
+    ensures { HasValue (number_value value) result }
 {
     match i64::try_from(value) {
         Ok(value) => Ok(decimal(alloc, value)?),
@@ -40,7 +40,7 @@ fn number_value(alloc: Global, value: i128) -> Result<Bytes, ExprFault>
 }
 
 fn truth_value(alloc: Global, truth: bool) -> Result<Bytes, ExprFault>
-    ensures { Gives (truth_value truth) result }
+    ensures { HasValue (truth_value truth) result }
 {
     Ok(Bytes::from_slice(alloc, truth_text(truth))?)
 }
@@ -67,7 +67,7 @@ fn times(x: i64, y: i64) -> i128
 
 #[tactic(auto, using(crate::proofs::Wholes::wholes))]
 fn product(alloc: Global, left: &[u8], right: &[u8]) -> Result<Bytes, ExprFault>
-    ensures { Gives (of_wholes (λ x y. number_value (x *ℤ y)) left.now right.now) result }
+    ensures { HasValue (of_wholes (λ x y. number_value (x *ℤ y)) left.now right.now) result }
 {
     let (x, y) = wholes(left, right)?;
     number_value(alloc, times(x, y))
@@ -75,7 +75,7 @@ fn product(alloc: Global, left: &[u8], right: &[u8]) -> Result<Bytes, ExprFault>
 
 #[tactic(auto, using(crate::proofs::Wholes::wholes))]
 fn sum(alloc: Global, left: &[u8], right: &[u8]) -> Result<Bytes, ExprFault>
-    ensures { Gives (of_wholes (λ x y. number_value (x +ℤ y)) left.now right.now) result }
+    ensures { HasValue (of_wholes (λ x y. number_value (x +ℤ y)) left.now right.now) result }
 {
     let (x, y) = wholes(left, right)?;
     number_value(alloc, i128::from(x) + i128::from(y))
@@ -83,7 +83,7 @@ fn sum(alloc: Global, left: &[u8], right: &[u8]) -> Result<Bytes, ExprFault>
 
 #[tactic(auto, using(crate::proofs::Wholes::wholes))]
 fn difference(alloc: Global, left: &[u8], right: &[u8]) -> Result<Bytes, ExprFault>
-    ensures { Gives (of_wholes (λ x y. number_value (x -ℤ y)) left.now right.now) result }
+    ensures { HasValue (of_wholes (λ x y. number_value (x -ℤ y)) left.now right.now) result }
 {
     let (x, y) = wholes(left, right)?;
     number_value(alloc, i128::from(x) - i128::from(y))
@@ -117,7 +117,7 @@ fn remainder(x: i64, y: i64) -> i128
 
 #[tactic(auto, using(crate::proofs::Wholes::wholes))]
 fn ratio(alloc: Global, left: &[u8], right: &[u8]) -> Result<Bytes, ExprFault>
-    ensures { Gives (of_wholes (divided quotient) left.now right.now) result }
+    ensures { HasValue (of_wholes (divided quotient) left.now right.now) result }
 {
     let (x, y) = wholes(left, right)?;
     if y == 0 {
@@ -128,7 +128,7 @@ fn ratio(alloc: Global, left: &[u8], right: &[u8]) -> Result<Bytes, ExprFault>
 
 #[tactic(auto, using(crate::proofs::Wholes::wholes))]
 fn residue(alloc: Global, left: &[u8], right: &[u8]) -> Result<Bytes, ExprFault>
-    ensures { Gives (of_wholes (divided remainder) left.now right.now) result }
+    ensures { HasValue (of_wholes (divided remainder) left.now right.now) result }
 {
     let (x, y) = wholes(left, right)?;
     if y == 0 {
@@ -171,7 +171,7 @@ fn shifted_right(x: i64, count: i64) -> Result<i128, ExprFault>
 
 #[tactic(auto, using(crate::proofs::Wholes::wholes))]
 fn shift_left(alloc: Global, left: &[u8], right: &[u8]) -> Result<Bytes, ExprFault>
-    ensures { Gives (of_wholes shifted_left left.now right.now) result }
+    ensures { HasValue (of_wholes shifted_left left.now right.now) result }
 {
     let (x, count) = wholes(left, right)?;
     number_value(alloc, shifted_left(x, count)?)
@@ -179,7 +179,7 @@ fn shift_left(alloc: Global, left: &[u8], right: &[u8]) -> Result<Bytes, ExprFau
 
 #[tactic(auto, using(crate::proofs::Wholes::wholes))]
 fn shift_right(alloc: Global, left: &[u8], right: &[u8]) -> Result<Bytes, ExprFault>
-    ensures { Gives (of_wholes shifted_right left.now right.now) result }
+    ensures { HasValue (of_wholes shifted_right left.now right.now) result }
 {
     let (x, count) = wholes(left, right)?;
     number_value(alloc, shifted_right(x, count)?)
@@ -187,7 +187,7 @@ fn shift_right(alloc: Global, left: &[u8], right: &[u8]) -> Result<Bytes, ExprFa
 
 #[tactic(auto, using(crate::proofs::Wholes::wholes))]
 fn bit_and(alloc: Global, left: &[u8], right: &[u8]) -> Result<Bytes, ExprFault>
-    ensures { Gives (of_wholes (λ x y. number_value (int_bit_and w64 x y)) left.now right.now) result }
+    ensures { HasValue (of_wholes (λ x y. number_value (int_bit_and w64 x y)) left.now right.now) result }
 {
     let (x, y) = wholes(left, right)?;
     number_value(alloc, i128::from(x & y))
@@ -195,7 +195,7 @@ fn bit_and(alloc: Global, left: &[u8], right: &[u8]) -> Result<Bytes, ExprFault>
 
 #[tactic(auto, using(crate::proofs::Wholes::wholes))]
 fn bit_xor(alloc: Global, left: &[u8], right: &[u8]) -> Result<Bytes, ExprFault>
-    ensures { Gives (of_wholes (λ x y. number_value (int_bit_xor w64 x y)) left.now right.now) result }
+    ensures { HasValue (of_wholes (λ x y. number_value (int_bit_xor w64 x y)) left.now right.now) result }
 {
     let (x, y) = wholes(left, right)?;
     number_value(alloc, i128::from(x ^ y))
@@ -203,7 +203,7 @@ fn bit_xor(alloc: Global, left: &[u8], right: &[u8]) -> Result<Bytes, ExprFault>
 
 #[tactic(auto, using(crate::proofs::Wholes::wholes))]
 fn bit_or(alloc: Global, left: &[u8], right: &[u8]) -> Result<Bytes, ExprFault>
-    ensures { Gives (of_wholes (λ x y. number_value (int_bit_or w64 x y)) left.now right.now) result }
+    ensures { HasValue (of_wholes (λ x y. number_value (int_bit_or w64 x y)) left.now right.now) result }
 {
     let (x, y) = wholes(left, right)?;
     number_value(alloc, i128::from(x | y))
@@ -241,21 +241,21 @@ fn is_element(alloc: Global, text: &[u8], list: &[u8]) -> Result<bool, ExprFault
 
 /// Whether an element of a list is equal to a text, as a value.
 fn contained(alloc: Global, text: &[u8], list: &[u8]) -> Result<Bytes, ExprFault>
-    ensures { Gives (found_in (elements_of list.now) text.now (λ t. t)) result }
+    ensures { HasValue (found_in (elements_of list.now) text.now (λ t. t)) result }
 {
     truth_value(alloc, is_element(alloc, text, list)?)
 }
 
 /// Whether no element of a list is equal to a text, as a value.
 fn missing(alloc: Global, text: &[u8], list: &[u8]) -> Result<Bytes, ExprFault>
-    ensures { Gives (found_in (elements_of list.now) text.now not) result }
+    ensures { HasValue (found_in (elements_of list.now) text.now not) result }
 {
     truth_value(alloc, !is_element(alloc, text, list)?)
 }
 
 /// The truth of both: the right is looked at where the left is true.
 fn both(alloc: Global, left: &[u8], right: &[u8]) -> Result<Bytes, ExprFault>
-    ensures { Gives (and_then (truth_of left.now) (truth_of right.now)) result }
+    ensures { HasValue (and_then (truth_of left.now) (truth_of right.now)) result }
 {
     if !truth(left)? {
         return truth_value(alloc, false);
@@ -265,7 +265,7 @@ fn both(alloc: Global, left: &[u8], right: &[u8]) -> Result<Bytes, ExprFault>
 
 /// The truth of either: the right is looked at where the left is false.
 fn either(alloc: Global, left: &[u8], right: &[u8]) -> Result<Bytes, ExprFault>
-    ensures { Gives (or_else (truth_of left.now) (truth_of right.now)) result }
+    ensures { HasValue (or_else (truth_of left.now) (truth_of right.now)) result }
 {
     if truth(left)? {
         return truth_value(alloc, true);

@@ -19,7 +19,7 @@ use Rattle.dg_lists.specs.declared.kinds.Transition.{Transition}
 use Rattle.dg_lists.specs.declared.kinds.Ending.{Ending}
 use Rattle.dg_lists.specs.declared.kinds.Ending.TheVariants as ending
 use Rattle.dg_lists.specs.Classes.{class_of}
-use Rattle.dg_lists.specs.Transitions.{behind_number, counted, does, escaped, goes, is_space, puts, whole, with_digit}
+use Rattle.dg_lists.specs.Transitions.{behind_number, counted, does, escaped, goes, in_braces, is_space, puts, whole, with_digit}
 
 -- between elements
 abbrev pub list_gap : Class → ℕ → Transition
@@ -59,11 +59,7 @@ list_numbered s n c b None = behind_number (whole n) (list_context s c b)
 
 -- a braced element is taken as it stands
 abbrev pub list_braced : Bool → Class → ℕ → Transition
-list_braced deep class.Open b = does (effect.Byte b) target.Deeper
-list_braced true class.Close b = does (effect.Byte b) target.Shallower
-list_braced false class.Close b = does effect.Word (target.To (Behind delimiter.Brace))
-list_braced deep class.Backslash b = puts b BracedPair
-list_braced deep c b = puts b Braced
+list_braced deep c b = in_braces (puts b BracedPair) deep c b
 
 abbrev pub list_behind : Class → Transition
 list_behind class.Blank = goes Gap

@@ -1,14 +1,17 @@
 -- What one more byte makes of what is open, and what an escape writes.
-use Rattle.std.specs.Prelude.{ℕ, zero, suc, ◌+◌, ◌-◌, ◌*◌, Bool, true, Option, None, Some, if◌then◌else◌, ◌==◌, nat_lt, nat_le}
+use Rattle.std.specs.Prelude.{ℕ, zero, suc, ◌+◌, ◌-◌, ◌*◌, Bool, true, false, Option, None, Some, if◌then◌else◌, ◌==◌, nat_lt, nat_le}
 use Rattle.std.specs.Char.{digit_value}
 use lib.Utf8.{scalar}
 use Rattle.dg_lists.specs.declared.fault.WordFault.TheVariants.{BadCodePoint}
+use Rattle.dg_lists.specs.declared.kinds.Class.{Class}
+use Rattle.dg_lists.specs.declared.kinds.Class.TheVariants as class
 use Rattle.dg_lists.specs.declared.kinds.Context.{Context}
+use Rattle.dg_lists.specs.declared.kinds.Delimiter.TheVariants as delimiter
 use Rattle.dg_lists.specs.declared.kinds.Escape.{Escape}
 use Rattle.dg_lists.specs.declared.kinds.Escape.TheVariants as escape
 use Rattle.dg_lists.specs.declared.kinds.Digits.{Digits}
 use Rattle.dg_lists.specs.declared.kinds.Mode.{Mode}
-use Rattle.dg_lists.specs.declared.kinds.Mode.TheVariants.{In, Number}
+use Rattle.dg_lists.specs.declared.kinds.Mode.TheVariants.{Behind, Braced, In, Number}
 use Rattle.dg_lists.specs.declared.kinds.Effect.{Effect}
 use Rattle.dg_lists.specs.declared.kinds.Effect.TheVariants as effect
 use Rattle.dg_lists.specs.declared.kinds.Target.{Target}
@@ -26,6 +29,15 @@ puts b m = does (effect.Byte b) (target.To m)
 -- nothing but another mode
 abbrev pub goes : Mode → Transition
 goes m = does effect.Nothing (target.To m)
+
+-- A byte inside braces, where others may be open within: these stay, and the brace that closes the word ends it. A backslash
+-- makes what is given.
+abbrev pub in_braces : Transition → Bool → Class → ℕ → Transition
+in_braces escape deep class.Open b = does (effect.Byte b) target.Deeper
+in_braces escape true class.Close b = does (effect.Byte b) target.Shallower
+in_braces escape false class.Close b = does effect.Word (target.To (Behind delimiter.Brace))
+in_braces escape deep class.Backslash b = escape
+in_braces escape deep c b = puts b Braced
 
 -- a transition behind another effect
 abbrev pub behind_effect : Effect → Transition → Transition

@@ -20,4 +20,4 @@ pub use crate::kinds::{
 pub use crate::list::{append_elements, kept_elements, list_elements, list_text, split_list};
 pub use crate::measure::list_fits;
 pub use crate::run::{BracedRun, braced_run};
-pub use crate::transition::{class_of, counted, escaped, is_space, push_code};
+pub use crate::transition::{class_of, counted, escaped, in_braces, is_space, push_code};

@@ -12,7 +12,7 @@ use crate::fault::{ListFault, WordFault};
 use crate::kinds::{Class, Context, Delimiter, Digits, Effect, Ending, Mode, Target, Transition};
 use crate::measure::list_fits;
 use crate::run::braced_run;
-use crate::transition::{class_of, counted, escaped, is_space, push_code};
+use crate::transition::{class_of, counted, escaped, in_braces, is_space, push_code};
 use dg_bytes::{Bytes, Growth, Seq, Text, TryCopy};
 use std::alloc::{AllocError, Global};
 use std::marker::Model;
@@ -115,13 +115,7 @@ fn in_pair(context: Context, class: Class, byte: u8) -> Transition
 fn in_braced(deep: bool, class: Class, byte: u8) -> Transition
     ensures { result ≡ list_braced deep class byte }
 {
-    match class {
-        Class::Open => Transition::does(Effect::Byte(byte), Target::Deeper),
-        Class::Close if deep => Transition::does(Effect::Byte(byte), Target::Shallower),
-        Class::Close => Transition::does(Effect::Word, Target::To(Mode::Behind(Delimiter::Brace))),
-        Class::Backslash => Transition::puts(byte, Mode::BracedPair),
-        _ => Transition::puts(byte, Mode::Braced),
-    }
+    in_braces(Transition::puts(byte, Mode::BracedPair), deep, class, byte)
 }
 
 fn behind(class: Class) -> Transition

@@ -2,10 +2,10 @@
 ghost use Rattle.std.specs.Prelude.{◌≡◌, ◌++◌, OnErr, OnOk, Option};
 ghost use Rattle.std.specs.Char.{encode_utf8};
 ghost use Rattle.dg_lists.specs.Classes.{class_of, is_name};
-ghost use Rattle.dg_lists.specs.Transitions.{base_of, begins_number, behind_effect, behind_number, counted, digits_of, does, escaped, goes, is_space, letter_of, most_of, puts, whole, with_digit, written};
+ghost use Rattle.dg_lists.specs.Transitions.{base_of, begins_number, behind_effect, behind_number, counted, digits_of, does, escaped, goes, in_braces, is_space, letter_of, most_of, puts, whole, with_digit, written};
 
 use crate::fault::WordFault;
-use crate::kinds::{Class, Context, Digits, Effect, Escape, Mode, Target, Transition};
+use crate::kinds::{Class, Context, Delimiter, Digits, Effect, Escape, Mode, Target, Transition};
 use dg_bytes::Bytes;
 use std::alloc::AllocError;
 
@@ -243,6 +243,20 @@ pub fn escaped(context: Context, byte: u8) -> Transition
             Transition::goes(Mode::Number(context, digits))
         }
         _ => Transition::puts(byte, Mode::In(context)),
+    }
+}
+
+/// A byte inside braces, where others may be open within: these stay, and the brace that closes the
+/// word ends it. A backslash makes what is given.
+pub fn in_braces(escape: Transition, deep: bool, class: Class, byte: u8) -> Transition
+    ensures { result ≡ in_braces escape deep class byte }
+{
+    match class {
+        Class::Open => Transition::does(Effect::Byte(byte), Target::Deeper),
+        Class::Close if deep => Transition::does(Effect::Byte(byte), Target::Shallower),
+        Class::Close => Transition::does(Effect::Word, Target::To(Mode::Behind(Delimiter::Brace))),
+        Class::Backslash => escape,
+        _ => Transition::puts(byte, Mode::Braced),
     }
 }
 

@@ -20,3 +20,4 @@ pub mod AwaitingLemmas
 pub mod LimitLemmas
 pub mod PatternLemmas
 pub mod WholeLemmas
+pub mod ResultLemmas

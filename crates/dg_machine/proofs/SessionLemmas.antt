@@ -40,7 +40,7 @@ use Rattle.dg_machine.specs.declared.frame.Pace.TheVariants.{Moved, Stands, Over
 use Rattle.dg_machine.specs.declared.machine.Machine.{Machine}
 use Rattle.dg_machine.specs.Acting.{UsesOne, Acts, acting, naming, told_after, after_weight}
 use Rattle.dg_machine.specs.Lost.{HasReadPattern}
-use Rattle.dg_machine.specs.Meaning.{all_back, ends_with, go, rest, weight_of, weight, Comes, Goes, Opens, Readies, Tries, RunsAs}
+use Rattle.dg_machine.specs.Meaning.{all_back, ends_with, go, rest, weight_of, weight, Comes, Goes, Readies, Tries, Opens, RunsAs}
 use Rattle.dg_machine.specs.Performing.{Performs}
 use Rattle.dg_machine.specs.Seeking.{fit_of, Seeks, SeeksNamed}
 use Rattle.dg_machine.proofs.GatherLemmas.{weight-same}

@@ -218,11 +218,11 @@ Tries play again w old new (Stands ask) =
 Tries play again w old new (Over c) = (play ≡ ends_with c new.state) × (new.state.known ≡ old.state.known)
 Tries play again w old new Lost = HasReadPattern old.state.known
 
--- What is opened, or a command, has gone on with so much weight more; or a question stands.
+-- What a machine came to open, or to run: it has gone on with so much weight more, or a question stands.
 abbrev pub Opens : (State → Then → Play Ending) → ℕ → Machine → Machine → Pace → Type 0
 Opens f w old new p = Tries (f old.state (all_back old.stack)) (λ s. f s (all_back old.stack)) w old new p
 
--- a command, as one that a machine came to run
+-- so it is of a command, with the weight of one whose words are made
 abbrev pub RunsAs : (State → Then → Play Ending) → Machine → Machine → Pace → Type 0
 RunsAs f old new p = Opens f (2 ^ 250) old new p
 

@@ -251,7 +251,7 @@ impl Machine {
                     action: _,
                     after,
                 } = begun;
-                Ok(self.after_entry(alloc, after, session, &entry)?)
+                self.after_entry(alloc, after, session, &entry)
             }
             Came::Late => {
                 let closing = self.depart(alloc)?;
@@ -275,7 +275,7 @@ impl Machine {
             Some(Pace::Over(closing)) => Ok(Pace::Over(closing)),
             Some(Pace::Moved) => Ok(Pace::Moved),
             Some(Pace::Lost) => Ok(Pace::Lost),
-            None => Ok(self.give_name(alloc, session)?),
+            None => self.give_name(alloc, session),
         }
     }
 

@@ -94,7 +94,7 @@ impl Machine {
             Ok(true) => Ok(self.enter(alloc, choice.body, choice.depth)?),
             Ok(false) => {
                 if choice.left.len() == 0 {
-                    return Ok(self.otherwise(alloc, choice.otherwise, choice.depth)?);
+                    return self.otherwise(alloc, choice.otherwise, choice.depth);
                 }
                 self.stack.push(Frame::Choosing { choice })?;
                 self.end(Code::Done, value);

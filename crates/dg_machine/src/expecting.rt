@@ -58,7 +58,7 @@ impl Machine {
             reach: Reach::InAction,
             wait,
         })?;
-        Ok(self.enter(alloc, action, depth)?)
+        self.enter(alloc, action, depth)
     }
 
     /// The first of the patterns that has a match in what was read is taken; or the session is read, for so many
@@ -81,7 +81,7 @@ impl Machine {
         };
         keep_match(alloc, &mut self.state, wait.session, &hit)?;
         let action = copied(alloc, action_at(wait.pairs.pairs(), hit.index))?;
-        Ok(self.run_action(alloc, wait, action)?)
+        self.run_action(alloc, wait, action)
     }
 
     /// A round begins, if one is left.
@@ -96,7 +96,7 @@ impl Machine {
         }
         wait.left -= 1;
         let limit = wait.limit;
-        Ok(self.try_output(alloc, wait, limit)?)
+        self.try_output(alloc, wait, limit)
     }
 
     /// The output of a session has ended.
@@ -109,7 +109,7 @@ impl Machine {
     {
         keep_end(alloc, &mut self.state, wait.session)?;
         let action = copied(alloc, end_action(wait.pairs.pairs()))?;
-        Ok(self.run_action(alloc, wait, action)?)
+        self.run_action(alloc, wait, action)
     }
 
     /// The session of an `expect` is read, for so many milliseconds at most.
@@ -137,12 +137,12 @@ impl Machine {
                 Ok(Pace::Moved)
             }
             Came::Answered(entry) => match entry.output() {
-                Some(_) => Ok(self.try_output(alloc, wait, left_of(&action))?),
-                None => Ok(self.after_end(alloc, wait)?),
+                Some(_) => self.try_output(alloc, wait, left_of(&action)),
+                None => self.after_end(alloc, wait),
             },
             Came::Late => {
                 let action = copied(alloc, timeout_action(wait.pairs.pairs()))?;
-                Ok(self.run_action(alloc, wait, action)?)
+                self.run_action(alloc, wait, action)
             }
         }
     }
@@ -185,7 +185,7 @@ impl Machine {
                 if !self.has_session(Fit::Open, wait.session) {
                     let id = id_of(alloc, wait.session)?;
                     let message = not_open(alloc, id.as_slice())?;
-                    return Ok(self.fail(alloc, message)?);
+                    return self.fail(alloc, message);
                 }
                 self.stack.push(Frame::Awaiting {
                     reach: Reach::Trying,
@@ -251,7 +251,7 @@ impl Machine {
                 let message = Bytes::from_slice(alloc, CANNOT_COMPILE)?;
                 Ok(self.fail(alloc, message)?)
             }
-            Known::AllRead => Ok(self.first_round(alloc, compiling)?),
+            Known::AllRead => self.first_round(alloc, compiling),
         }
     }
 
@@ -300,7 +300,7 @@ impl Machine {
     {
         if let Some(timeout) = &expecting.timeout {
             let text = timeout.copy(alloc)?;
-            return Ok(self.begin_compiling(alloc, expecting, text.as_slice())?);
+            return self.begin_compiling(alloc, expecting, text.as_slice());
         }
         let name = sought(alloc, &self.state, b"timeout")?;
         match self.ready(alloc, name.as_slice())? {
@@ -315,7 +315,7 @@ impl Machine {
             Some(Pace::Lost) => Ok(Pace::Lost),
             None => {
                 let text = or_ten(alloc, self.state.value_of(name.as_slice()))?;
-                Ok(self.begin_compiling(alloc, expecting, text.as_slice())?)
+                self.begin_compiling(alloc, expecting, text.as_slice())
             }
         }
     }
@@ -333,7 +333,7 @@ impl Machine {
     {
         let expectation = match expect_words(alloc, words.as_slice())? {
             Ok(expectation) => expectation,
-            Err(message) => return Ok(self.fail(alloc, message)?),
+            Err(message) => return self.fail(alloc, message),
         };
         let (timeout, id, pairs) = expectation.into_parts();
         match self.session_for(alloc, Fit::Open, id)? {
@@ -383,7 +383,7 @@ impl Machine {
             }
             Err(fault) => {
                 let message = Bytes::from_slice(alloc, fault_text(fault))?;
-                Ok(self.fail(alloc, message)?)
+                self.fail(alloc, message)
             }
         }
     }

@@ -58,7 +58,7 @@ impl Machine {
                 self.end(Code::Done, value);
                 Ok(Pace::Moved)
             }
-            Computed::Failed(message) => Ok(self.fail(alloc, message)?),
+            Computed::Failed(message) => self.fail(alloc, message),
             Computed::Operand(making) => {
                 let depth = calculation.depth;
                 self.stack.push(Frame::Calculating { calculation })?;
@@ -76,7 +76,7 @@ impl Machine {
         ensures { IfOk result (GoesAs (fail (fault_message Syntax text.now [])) 2 self.old self.new) }
     {
         let message = syntax_error(alloc, text.as_slice())?;
-        Ok(self.fail(alloc, message)?)
+        self.fail(alloc, message)
     }
 
     /// What an operand is made of has ended.
@@ -137,7 +137,7 @@ impl Machine {
         ensures { IfOk result (GoesAs (do_expr (evaluate depth) args.now) (2 ^ 140) self.old self.new) }
     {
         let Some((first, others)) = split(args) else {
-            return Ok(self.wrong_count(alloc, b"expr")?);
+            return self.wrong_count(alloc, b"expr");
         };
         let text = with_spaces(alloc, first.as_slice(), others)?;
         if text.len() > LONGEST_VALUE {
@@ -146,7 +146,7 @@ impl Machine {
         }
         let formula = self.shelves.formulas.reading(alloc, &text)?;
         let Some(mut calculation) = Calculation::of(alloc, formula, depth) else {
-            return Ok(self.no_expression(alloc, &text)?);
+            return self.no_expression(alloc, &text);
         };
         match compute_on(alloc, &self.state, &mut calculation)? {
             Computed::Value(value) => {
@@ -161,7 +161,7 @@ impl Machine {
             }
             computed => {
                 self.stack.push(Frame::Writing)?;
-                Ok(self.come_to(alloc, calculation, computed)?)
+                self.come_to(alloc, calculation, computed)
             }
         }
     }

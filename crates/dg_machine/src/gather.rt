@@ -98,7 +98,7 @@ impl Machine {
                 Ok(Pace::Stands(ask))
             }
             Some(pace) => Ok(pace),
-            None => Ok(self.add_variable(alloc, making, name.as_slice(), depth)?),
+            None => self.add_variable(alloc, making, name.as_slice(), depth),
         }
     }
 
@@ -127,7 +127,7 @@ impl Machine {
             Some(pace) => Ok(pace),
             None => {
                 making.text = before;
-                Ok(self.add_variable(alloc, making, whole.as_slice(), depth)?)
+                self.add_variable(alloc, making, whole.as_slice(), depth)
             }
         }
     }

@@ -48,12 +48,12 @@ impl Machine {
             }
             FileText::Known(None) => {
                 self.state.mark(alloc, file.as_slice())?;
-                Ok(self.miss_library(alloc, library)?)
+                self.miss_library(alloc, library)
             }
             FileText::Known(Some(text)) => {
                 self.state.enter_library(alloc, file.as_slice())?;
                 self.stack.push(Frame::Loading)?;
-                Ok(self.enter(alloc, text, depth)?)
+                self.enter(alloc, text, depth)
             }
         }
     }
@@ -70,13 +70,13 @@ impl Machine {
         ensures { IfOk result (RunsAs (do_load_lib (evaluate depth) args.now) self.old self.new) }
     {
         let Some(library) = only(args) else {
-            return Ok(self.wrong_count(alloc, b"load_lib")?);
+            return self.wrong_count(alloc, b"load_lib");
         };
         let file = library_file(alloc, library.as_slice())?;
         if !is_name(file.as_slice()) {
             return Ok(self.miss_library(alloc, library.as_slice())?);
         }
-        Ok(self.load_library(alloc, library.as_slice(), &Name::from_valid(file), depth)?)
+        self.load_library(alloc, library.as_slice(), &Name::from_valid(file), depth)
     }
 
     /// A library has ended: the scope where it was loaded is back.

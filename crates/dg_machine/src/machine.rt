@@ -302,7 +302,7 @@ impl Machine {
             let closing = self.cut(alloc, b"too many nested evaluations")?;
             return Ok(Pace::Over(closing));
         }
-        Ok(self.begin_inside(alloc, commands, depth - 1)?)
+        self.begin_inside(alloc, commands, depth - 1)
     }
 
     /// The commands of a text that is evaluated begin: those that run where they stand do, and what is left waits for its turn.
@@ -324,7 +324,7 @@ impl Machine {
                     self.end(Code::Done, value);
                     return Ok(Pace::Moved);
                 }
-                Ok(self.begin_at(alloc, all, at, depth)?)
+                self.begin_at(alloc, all, at, depth)
             }
             Err(commands) => {
                 self.stack.push(Frame::Sequence { commands, depth })?;
@@ -401,6 +401,6 @@ impl Machine {
         ensures { IfOk result (GoesAs (evaluate depth text) 4 self.old self.new) }
     {
         let commands = self.script(alloc, text)?;
-        Ok(self.begin(alloc, commands, depth)?)
+        self.begin(alloc, commands, depth)
     }
 }

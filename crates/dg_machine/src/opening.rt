@@ -50,7 +50,7 @@ impl Machine {
             }
             FileText::Known(Some(text)) => {
                 self.stack.push(Frame::Preceding { next })?;
-                Ok(self.enter(alloc, text, DEPTH)?)
+                self.enter(alloc, text, DEPTH)
             }
         }
     }
@@ -97,9 +97,9 @@ impl Machine {
             }
             FileText::Known(None) => {
                 let message = no_such_script(alloc, self.state.test().script().as_slice())?;
-                Ok(self.fail(alloc, message)?)
+                self.fail(alloc, message)
             }
-            FileText::Known(Some(text)) => Ok(self.enter(alloc, text, DEPTH)?),
+            FileText::Known(Some(text)) => self.enter(alloc, text, DEPTH),
         }
     }
 
@@ -111,15 +111,15 @@ impl Machine {
         match what {
             Opening::Board => {
                 let name = board_file(alloc, self.state.test().board().as_slice())?;
-                Ok(self.open_first(alloc, name, Opening::AfterBoard)?)
+                self.open_first(alloc, name, Opening::AfterBoard)
             }
-            Opening::AfterBoard => Ok(self.leave_board(alloc)?),
-            Opening::Tool => Ok(self.open_tool(alloc)?),
+            Opening::AfterBoard => self.leave_board(alloc),
+            Opening::Tool => self.open_tool(alloc),
             Opening::Library(name) => {
                 let name = name.copy(alloc)?;
-                Ok(self.open_first(alloc, name, Opening::Script)?)
+                self.open_first(alloc, name, Opening::Script)
             }
-            Opening::Script => Ok(self.open_script(alloc)?),
+            Opening::Script => self.open_script(alloc),
         }
     }
 

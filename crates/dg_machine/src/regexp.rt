@@ -33,7 +33,7 @@ impl Machine {
     {
         let search = match regexp_words(alloc, args)? {
             Ok(search) => search,
-            Err(message) => return Ok(self.fail(alloc, message)?),
+            Err(message) => return self.fail(alloc, message),
         };
         match reading_of(alloc, &self.state, &search.pattern)? {
             Known::Unasked(question) => {
@@ -42,12 +42,12 @@ impl Machine {
             }
             Known::OneUnread => {
                 let message = Bytes::from_slice(alloc, CANNOT_COMPILE)?;
-                Ok(self.fail(alloc, message)?)
+                self.fail(alloc, message)
             }
             Known::AllRead => {
                 // The call shows the proof that the length is a `usize`.
                 let _count = search.names.len();
-                Ok(self.find_text(alloc, search)?)
+                self.find_text(alloc, search)
             }
         }
     }

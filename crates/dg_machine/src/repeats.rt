@@ -346,7 +346,7 @@ impl Machine {
         ensures { IfOk result (GoesAs (do_for (evaluate depth) args.now) 16 self.old self.new) }
     {
         let Some((start, test, next, body)) = four(args) else {
-            return Ok(self.wrong_count(alloc, b"for")?);
+            return self.wrong_count(alloc, b"for");
         };
         let repetition = Repetition {
             stage: LoopPart::Start,

@@ -91,7 +91,7 @@ impl Machine {
             return Ok(Sought::Instead(pace));
         };
         let id = value.copy(alloc)?;
-        Ok(self.session_named(alloc, fit, id.as_slice())?)
+        self.session_named(alloc, fit, id.as_slice())
     }
 
     /// The session that a flag names, or else the one of `spawn_id`.
@@ -105,8 +105,8 @@ impl Machine {
         ensures { IfOk result (Seeks fit id self.old self.new) }
     {
         match id {
-            Some(id) => Ok(self.session_named(alloc, fit, id.as_slice())?),
-            None => Ok(self.session_of_spawn_id(alloc, fit)?),
+            Some(id) => self.session_named(alloc, fit, id.as_slice()),
+            None => self.session_of_spawn_id(alloc, fit),
         }
     }
 
@@ -190,10 +190,10 @@ impl Machine {
     {
         match send_words(alloc, args)? {
             Ok((id, text)) => match self.session_for(alloc, Fit::Open, id)? {
-                Sought::Session(session) => Ok(self.send_to(alloc, session, text)?),
+                Sought::Session(session) => self.send_to(alloc, session, text),
                 Sought::Instead(pace) => Ok(pace),
             },
-            Err(message) => Ok(self.fail(alloc, message)?),
+            Err(message) => self.fail(alloc, message),
         }
     }
 
@@ -205,11 +205,11 @@ impl Machine {
         match id_words(alloc, b"close", args)? {
             Ok(id) => match self.session_for(alloc, Fit::Open, id)? {
                 Sought::Session(session) => {
-                    Ok(self.begin_action(session, Action::Close, After::Reported)?)
+                    self.begin_action(session, Action::Close, After::Reported)
                 }
                 Sought::Instead(pace) => Ok(pace),
             },
-            Err(message) => Ok(self.fail(alloc, message)?),
+            Err(message) => self.fail(alloc, message),
         }
     }
 
@@ -232,10 +232,10 @@ impl Machine {
     {
         match id_words(alloc, b"wait", args)? {
             Ok(id) => match self.session_for(alloc, Fit::Waitable, id)? {
-                Sought::Session(session) => Ok(self.close_and_wait(session)?),
+                Sought::Session(session) => self.close_and_wait(session),
                 Sought::Instead(pace) => Ok(pace),
             },
-            Err(message) => Ok(self.fail(alloc, message)?),
+            Err(message) => self.fail(alloc, message),
         }
     }
 
@@ -297,13 +297,13 @@ impl Machine {
     {
         let (later, text) = match match_words(alloc, args)? {
             Ok(words) => words,
-            Err(message) => return Ok(self.fail(alloc, message)?),
+            Err(message) => return self.fail(alloc, message),
         };
         if later {
-            return Ok(self.later_limit(alloc, text)?);
+            return self.later_limit(alloc, text);
         }
         match self.session_for(alloc, Fit::Started, None)? {
-            Sought::Session(session) => Ok(self.session_limit(alloc, session, text)?),
+            Sought::Session(session) => self.session_limit(alloc, session, text),
             Sought::Instead(pace) => Ok(pace),
         }
     }

@@ -246,7 +246,7 @@ impl Machine {
         };
         if let Some(value) = self.state.value_in_use(name.as_slice()) {
             let old = value.copy(alloc)?;
-            return Ok(self.add_to(alloc, name.as_slice(), old, by)?);
+            return self.add_to(alloc, name.as_slice(), old, by);
         }
         if let Some(pace) = self.ready(alloc, name.as_slice())? {
             return Ok(pace);

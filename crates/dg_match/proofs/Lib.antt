@@ -5,6 +5,7 @@ pub mod StartLemmas
 pub mod TryLemmas
 pub mod BufferLemmas
 pub mod RegexLemmas
+pub mod RestLemmas
 pub mod GroupLemmas
 pub mod NeedsLemmas
 pub mod AutomataLemmas

@@ -1,7 +1,7 @@
 //! Searches of the buffer that leave out the starts that are known to be passed.
-ghost use Rattle.std.specs.Prelude.{◌≡◌, ◌≤◌, ◌*◌, ℕ, MatchOption, None, length, nat_lt, if◌then◌else◌};
+ghost use Rattle.std.specs.Prelude.{◌≡◌, ◌≤◌, ◌<◌, ◌-◌, ◌*◌, ℕ, MatchOption, None, length, nat_lt, if◌then◌else◌};
 ghost use Rattle.dg_glob.specs.Glob.{IsFirstSpan, IsSpan};
-ghost use Rattle.dg_glob.specs.Parts.{IsTrail, followed};
+ghost use Rattle.dg_glob.specs.Parts.{IsTrail, followed, parts_of};
 ghost use Rattle.dg_match.specs.Starts.{IsPassed};
 ghost use Rattle.dg_match.specs.Literals.{IsNowhere, IsFirstPlace, least_place};
 ghost use Rattle.dg_match.specs.Searches.{bytes_compared, glob_compared, left_by, places_passed};
@@ -115,6 +115,42 @@ pub(crate) struct Followed {
     pub(crate) compared: usize,
 }
 
+/// How far a glob's parts were found, and how many bytes were read for that.
+#[derive(Clone, Copy)]
+struct Trailed {
+    left: Trail,
+    read: usize,
+}
+
+/// Searches the buffer for the parts of a glob that are not found yet. Only the bytes behind those that
+/// are passed are read, and these are counted.
+fn follow_rest(bytes: &[u8], parts: &Parts, trail: Trail) -> Trailed
+    requires { IsTrail parts.now trail.found bytes.now trail.passed }
+    ensures value { (result.left.found, result.left.passed) ≡ followed parts.now trail.found bytes.now trail.passed }
+    ensures known { IsTrail parts.now result.left.found bytes.now result.left.passed }
+    ensures none { result.left.found < length (parts_of parts.now) → (s e : ℕ) → IsSpan parts.now bytes.now s e → ⊥ }
+    ensures read { result.read ≡ length bytes.now - trail.passed }
+{
+    let Some(rest) = bytes.get(trail.passed..) else {
+        return Trailed {
+            left: trail,
+            read: 0,
+        };
+    };
+    let sought = Trail {
+        found: trail.found,
+        passed: 0,
+    };
+    let behind = parts.follow(rest, sought);
+    Trailed {
+        left: Trail {
+            found: behind.found,
+            passed: trail.passed + behind.passed,
+        },
+        read: rest.len(),
+    }
+}
+
 /// Searches the buffer for a glob. Only where all its parts stand one behind the other the whole
 /// buffer is searched.
 pub(crate) fn search_glob(bytes: &[u8], parts: &Parts, trail: Trail) -> Followed
@@ -126,8 +162,7 @@ pub(crate) fn search_glob(bytes: &[u8], parts: &Parts, trail: Trail) -> Followed
     ensures at_most { result.compared ≤ 2 * length bytes.now }
     ensures counted { result.compared ≡ glob_compared parts.now trail.found trail.passed bytes.now }
 {
-    let left = parts.follow(bytes, trail);
-    let read = bytes.len().saturating_sub(trail.passed);
+    let Trailed { left, read } = follow_rest(bytes, parts, trail);
     let whole = parts.count() <= left.found;
     if whole {
         return Followed {

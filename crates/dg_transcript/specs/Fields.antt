@@ -24,9 +24,9 @@ abbrev pub Fails : {Y : Type 0} → Cause → Result Y Cause → Type 0
 Fails cause.Memory read = Unit {0}
 Fails c read = read ≡ Err c
 
-abbrev pub Gives : {X Y : Type 0} → (X → Y) → Result X Cause → Result Y Cause → Type 0
-Gives view (Ok x) read = read ≡ Ok (view x)
-Gives view (Err e) read = Fails e read
+abbrev pub Parses : {X Y : Type 0} → (X → Y) → Result X Cause → Result Y Cause → Type 0
+Parses view (Ok x) read = read ≡ Ok (view x)
+Parses view (Err e) read = Fails e read
 
 -- ---- fields
 

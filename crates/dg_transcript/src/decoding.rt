@@ -1,7 +1,7 @@
 //! A text read as a transcript.
 ghost use Rattle.std.specs.Prelude.{◌≡◌, ◌⊎◌, if◌then◌else◌, ◌<◌, ◌≤◌, ◌+◌, ◌++◌, ◌∷◌, [], suc, length, OnOk, OnErr, IfOk, IfErr, MatchResult, List, true, vec_len};
 ghost use Rattle.bstr.specs.Text.{lines_of};
-ghost use Rattle.dg_transcript.specs.Fields.{Gives, Fails};
+ghost use Rattle.dg_transcript.specs.Fields.{Parses, Fails};
 ghost use Rattle.dg_transcript.specs.Kept.{next_of};
 ghost use Rattle.dg_transcript.specs.Limits.{IsTranscript};
 ghost use Rattle.dg_transcript.specs.Text.{text_of};
@@ -73,7 +73,7 @@ fn is_past(sessions: u32, entries: u32, line: &Line) -> bool
 
 fn placed(place: Place, sessions: u32, entries: u32, line: Line) -> Result<Line, Cause>
     requires { sessions ≤ MAX_SESSIONS }
-    ensures { Gives (λ l. l) result (placed place sessions entries line) }
+    ensures { Parses (λ l. l) result (placed place sessions entries line) }
 {
     if !may_come(place, sessions, &line) {
         return Err(Cause::SessionOrder);
@@ -94,7 +94,7 @@ fn whole_line_at(
 ) -> Result<Line, Cause>
     requires few { sessions ≤ MAX_SESSIONS }
     requires some { 0 < length text.now }
-    ensures { Gives (λ l. l) result (whole_line_at place sessions entries text.now) }
+    ensures { Parses (λ l. l) result (whole_line_at place sessions entries text.now) }
 {
     match place {
         Place::Top => {
@@ -121,7 +121,7 @@ fn line_at(
     text: &[u8],
 ) -> Result<Line, Cause>
     requires { sessions ≤ MAX_SESSIONS }
-    ensures { Gives (λ l. l) result (line_at place sessions entries text.now) }
+    ensures { Parses (λ l. l) result (line_at place sessions entries text.now) }
 {
     if text.is_empty() {
         return Err(Cause::Truncated);

@@ -4,7 +4,7 @@ ghost use Rattle.std.specs.List.{slice_split, list_all};
 ghost use Rattle.std.specs.Result.{result_ok};
 ghost use Rattle.std.specs.Char.{is_ascii_digit};
 ghost use Rattle.std.specs.Str.Parse.{digits_value};
-ghost use Rattle.dg_transcript.specs.Fields.{Gives, is_space, is_numeral, number_of, within, code_of, hex_of, bytes_of, word_of, words_of, only_field, no_field, first_field};
+ghost use Rattle.dg_transcript.specs.Fields.{Parses, is_space, is_numeral, number_of, within, code_of, hex_of, bytes_of, word_of, words_of, only_field, no_field, first_field};
 ghost use Rattle.hex.specs.Hex.{decode_of};
 ghost use Rattle.dg_transcript.specs.Spaced.{behind};
 ghost use Rattle.dg_transcript.specs.Small.{is_small};
@@ -40,7 +40,7 @@ pub(crate) fn split(text: &[u8]) -> (&[u8], Option<&[u8]>)
 
 /// The first field of those behind a word, and what is behind it.
 pub(crate) fn first_field(fields: Option<&[u8]>) -> Result<(&[u8], Option<&[u8]>), Cause>
-    ensures { Gives (λ x. (x.0.now, behind (option_copied x.1))) result (first_field (behind (option_copied fields.entry))) }
+    ensures { Parses (λ x. (x.0.now, behind (option_copied x.1))) result (first_field (behind (option_copied fields.entry))) }
 {
     match fields {
         Some(fields) => Ok(split(fields)),
@@ -50,7 +50,7 @@ pub(crate) fn first_field(fields: Option<&[u8]>) -> Result<(&[u8], Option<&[u8]>
 
 /// The one field behind a word.
 pub(crate) fn only_field(fields: Option<&[u8]>) -> Result<&[u8], Cause>
-    ensures { Gives (λ x. x.now) result (only_field (behind (option_copied fields.entry))) }
+    ensures { Parses (λ x. x.now) result (only_field (behind (option_copied fields.entry))) }
 {
     let (field, behind) = first_field(fields)?;
     match behind {
@@ -61,7 +61,7 @@ pub(crate) fn only_field(fields: Option<&[u8]>) -> Result<&[u8], Cause>
 
 /// Nothing behind a word.
 pub(crate) fn no_field(fields: Option<&[u8]>) -> Result<(), Cause>
-    ensures { Gives (λ u. u) result (no_field (behind (option_copied fields.entry))) }
+    ensures { Parses (λ u. u) result (no_field (behind (option_copied fields.entry))) }
 {
     match fields {
         None => Ok(()),
@@ -104,7 +104,7 @@ fn value_of(digits: &[u8]) -> u32
 /// The number that a numeral stands for.
 #[tactic(auto, unfolding(crate::specs::Fields::number_of))]
 pub(crate) fn number_of(text: &[u8]) -> Result<u32, Cause>
-    ensures { Gives (λ n. n) result (number_of text.now) }
+    ensures { Parses (λ n. n) result (number_of text.now) }
 {
     if is_numeral(text) {
         Ok(value_of(text))
@@ -116,7 +116,7 @@ pub(crate) fn number_of(text: &[u8]) -> Result<u32, Cause>
 /// A number within limits.
 #[tactic(auto, unfolding(crate::specs::Fields::within))]
 pub(crate) fn within(low: u32, high: u32, text: &[u8]) -> Result<u32, Cause>
-    ensures { Gives (λ n. n) result (within low high text.now) }
+    ensures { Parses (λ n. n) result (within low high text.now) }
 {
     let number = number_of(text)?;
     if low <= number && number <= high {
@@ -129,7 +129,7 @@ pub(crate) fn within(low: u32, high: u32, text: &[u8]) -> Result<u32, Cause>
 /// The code that a number stands for.
 #[tactic(auto, unfolding(crate::specs::Fields::code_of))]
 pub(crate) fn code_of(text: &[u8]) -> Result<ErrorCode, Cause>
-    ensures { Gives (λ c. c) result (code_of text.now) }
+    ensures { Parses (λ c. c) result (code_of text.now) }
 {
     Ok(match within(1, 4, text)? {
         1 => ErrorCode::NotFound,
@@ -189,7 +189,7 @@ fn decode(alloc: Global, text: &[u8]) -> Result<Option<Bytes>, AllocError>
 /// The bytes, at least one, that lower-case hexadecimal stands for.
 #[tactic(auto, using(crate::proofs::SmallDigits::spelled_again), unfolding(crate::specs::Fields::hex_of))]
 pub(crate) fn hex_of(alloc: Global, text: &[u8]) -> Result<Bytes, Cause>
-    ensures { Gives (λ b. b) result (hex_of text.now) }
+    ensures { Parses (λ b. b) result (hex_of text.now) }
 {
     let Some(bytes) = decode(alloc, text)? else {
         return Err(Cause::Field);
@@ -204,7 +204,7 @@ pub(crate) fn hex_of(alloc: Global, text: &[u8]) -> Result<Bytes, Cause>
 /// At most so many bytes.
 #[tactic(auto, unfolding(crate::specs::Fields::bytes_of))]
 pub(crate) fn bytes_of(alloc: Global, most: usize, text: &[u8]) -> Result<Bytes, Cause>
-    ensures { Gives (λ b. b) result (bytes_of most text.now) }
+    ensures { Parses (λ b. b) result (bytes_of most text.now) }
 {
     let mut bytes = hex_of(alloc, text)?;
     if bytes.len() > most {
@@ -216,7 +216,7 @@ pub(crate) fn bytes_of(alloc: Global, most: usize, text: &[u8]) -> Result<Bytes,
 
 #[tactic(auto, unfolding(crate::specs::Fields::word_of))]
 fn word_of(alloc: Global, text: &[u8]) -> Result<Bytes, Cause>
-    ensures { Gives (λ b. b) result (word_of text.now) }
+    ensures { Parses (λ b. b) result (word_of text.now) }
 {
     if text == b"-".as_slice() {
         return Ok(Bytes::new(alloc));
@@ -226,7 +226,7 @@ fn word_of(alloc: Global, text: &[u8]) -> Result<Bytes, Cause>
 
 /// The words, 1 to 64 of them.
 pub(crate) fn words_of(alloc: Global, fields: Option<&[u8]>) -> Result<Seq<Bytes>, Cause>
-    ensures { Gives (λ w. w) result (words_of (behind (option_copied fields.entry))) }
+    ensures { Parses (λ w. w) result (words_of (behind (option_copied fields.entry))) }
 {
     let mut words = Vec::new(alloc);
     let mut left = fields;

@@ -1,6 +1,6 @@
 //! What a line says, read on its own.
 ghost use Rattle.std.specs.Prelude.{option_copied};
-ghost use Rattle.dg_transcript.specs.Fields.{Gives, within, line_by, read_line};
+ghost use Rattle.dg_transcript.specs.Fields.{Parses, within, line_by, read_line};
 ghost use Rattle.dg_transcript.specs.Spaced.{behind};
 
 use crate::cause::Cause;
@@ -13,7 +13,7 @@ use crate::line::{Kind, Line};
 use std::alloc::Global;
 
 fn wait_of(text: &[u8]) -> Result<u32, Cause>
-    ensures { Gives (λ n. n) result (within 0 3600000 text.now) }
+    ensures { Parses (λ n. n) result (within 0 3600000 text.now) }
 {
     within(0, MAX_WAIT, text)
 }
@@ -21,7 +21,7 @@ fn wait_of(text: &[u8]) -> Result<u32, Cause>
 // A session begins.
 #[tactic(auto, unfolding(crate::specs::Fields::line_by))]
 fn session(fields: Option<&[u8]>) -> Result<Line, Cause>
-    ensures { Gives (λ l. l) result (line_by Kind.Session (behind (option_copied fields.entry))) }
+    ensures { Parses (λ l. l) result (line_by Kind.Session (behind (option_copied fields.entry))) }
 {
     let number = number_of(only_field(fields)?)?;
     Ok(Line::Session(number))
@@ -30,7 +30,7 @@ fn session(fields: Option<&[u8]>) -> Result<Line, Cause>
 // A start by the words behind it.
 #[tactic(auto, unfolding(crate::specs::Fields::line_by))]
 fn started(alloc: Global, fields: Option<&[u8]>) -> Result<Line, Cause>
-    ensures { Gives (λ l. l) result (line_by Kind.Started (behind (option_copied fields.entry))) }
+    ensures { Parses (λ l. l) result (line_by Kind.Started (behind (option_copied fields.entry))) }
 {
     let words = words_of(alloc, fields)?;
     Ok(Line::Said(Entry::Started(words)))
@@ -39,7 +39,7 @@ fn started(alloc: Global, fields: Option<&[u8]>) -> Result<Line, Cause>
 // A start that failed: a code, and the words.
 #[tactic(auto, unfolding(crate::specs::Fields::line_by))]
 fn no_start(alloc: Global, fields: Option<&[u8]>) -> Result<Line, Cause>
-    ensures { Gives (λ l. l) result (line_by Kind.NoStart (behind (option_copied fields.entry))) }
+    ensures { Parses (λ l. l) result (line_by Kind.NoStart (behind (option_copied fields.entry))) }
 {
     let (code, words) = first_field(fields)?;
     let code = code_of(code)?;
@@ -50,7 +50,7 @@ fn no_start(alloc: Global, fields: Option<&[u8]>) -> Result<Line, Cause>
 // Bytes that were sent.
 #[tactic(auto, unfolding(crate::specs::Fields::line_by))]
 fn sent(alloc: Global, fields: Option<&[u8]>) -> Result<Line, Cause>
-    ensures { Gives (λ l. l) result (line_by Kind.Sent (behind (option_copied fields.entry))) }
+    ensures { Parses (λ l. l) result (line_by Kind.Sent (behind (option_copied fields.entry))) }
 {
     let bytes = bytes_of(alloc, MAX_SENT, only_field(fields)?)?;
     Ok(Line::Said(Entry::Sent(bytes)))
@@ -59,7 +59,7 @@ fn sent(alloc: Global, fields: Option<&[u8]>) -> Result<Line, Cause>
 // Bytes that could not be sent, behind a code.
 #[tactic(auto, unfolding(crate::specs::Fields::line_by))]
 fn no_send(alloc: Global, fields: Option<&[u8]>) -> Result<Line, Cause>
-    ensures { Gives (λ l. l) result (line_by Kind.NoSend (behind (option_copied fields.entry))) }
+    ensures { Parses (λ l. l) result (line_by Kind.NoSend (behind (option_copied fields.entry))) }
 {
     let (code, bytes) = first_field(fields)?;
     let code = code_of(code)?;
@@ -70,7 +70,7 @@ fn no_send(alloc: Global, fields: Option<&[u8]>) -> Result<Line, Cause>
 // Bytes that came, behind the wait for them.
 #[tactic(auto, unfolding(crate::specs::Fields::line_by))]
 fn chunk(alloc: Global, fields: Option<&[u8]>) -> Result<Line, Cause>
-    ensures { Gives (λ l. l) result (line_by Kind.Chunk (behind (option_copied fields.entry))) }
+    ensures { Parses (λ l. l) result (line_by Kind.Chunk (behind (option_copied fields.entry))) }
 {
     let (wait, bytes) = first_field(fields)?;
     let wait = wait_of(wait)?;
@@ -81,7 +81,7 @@ fn chunk(alloc: Global, fields: Option<&[u8]>) -> Result<Line, Cause>
 // The end of the output, after a wait.
 #[tactic(auto, unfolding(crate::specs::Fields::line_by))]
 fn end(fields: Option<&[u8]>) -> Result<Line, Cause>
-    ensures { Gives (λ l. l) result (line_by Kind.End (behind (option_copied fields.entry))) }
+    ensures { Parses (λ l. l) result (line_by Kind.End (behind (option_copied fields.entry))) }
 {
     let wait = wait_of(only_field(fields)?)?;
     Ok(Line::Said(Entry::End(wait)))
@@ -90,7 +90,7 @@ fn end(fields: Option<&[u8]>) -> Result<Line, Cause>
 // A read that failed.
 #[tactic(auto, unfolding(crate::specs::Fields::line_by))]
 fn no_read(fields: Option<&[u8]>) -> Result<Line, Cause>
-    ensures { Gives (λ l. l) result (line_by Kind.NoRead (behind (option_copied fields.entry))) }
+    ensures { Parses (λ l. l) result (line_by Kind.NoRead (behind (option_copied fields.entry))) }
 {
     let code = code_of(only_field(fields)?)?;
     Ok(Line::Said(Entry::NoRead(code)))
@@ -99,7 +99,7 @@ fn no_read(fields: Option<&[u8]>) -> Result<Line, Cause>
 // A wait in which nothing came.
 #[tactic(auto, unfolding(crate::specs::Fields::line_by))]
 fn silence(fields: Option<&[u8]>) -> Result<Line, Cause>
-    ensures { Gives (λ l. l) result (line_by Kind.Silence (behind (option_copied fields.entry))) }
+    ensures { Parses (λ l. l) result (line_by Kind.Silence (behind (option_copied fields.entry))) }
 {
     let wait = wait_of(only_field(fields)?)?;
     Ok(Line::Said(Entry::Silence(wait)))
@@ -108,7 +108,7 @@ fn silence(fields: Option<&[u8]>) -> Result<Line, Cause>
 // A session that was closed.
 #[tactic(auto, unfolding(crate::specs::Fields::line_by))]
 fn closed(fields: Option<&[u8]>) -> Result<Line, Cause>
-    ensures { Gives (λ l. l) result (line_by Kind.Closed (behind (option_copied fields.entry))) }
+    ensures { Parses (λ l. l) result (line_by Kind.Closed (behind (option_copied fields.entry))) }
 {
     no_field(fields)?;
     Ok(Line::Said(Entry::Closed))
@@ -117,7 +117,7 @@ fn closed(fields: Option<&[u8]>) -> Result<Line, Cause>
 // A session that could not be closed.
 #[tactic(auto, unfolding(crate::specs::Fields::line_by))]
 fn no_close(fields: Option<&[u8]>) -> Result<Line, Cause>
-    ensures { Gives (λ l. l) result (line_by Kind.NoClose (behind (option_copied fields.entry))) }
+    ensures { Parses (λ l. l) result (line_by Kind.NoClose (behind (option_copied fields.entry))) }
 {
     let code = code_of(only_field(fields)?)?;
     Ok(Line::Said(Entry::NoClose(code)))
@@ -126,7 +126,7 @@ fn no_close(fields: Option<&[u8]>) -> Result<Line, Cause>
 // The status with which a child ended.
 #[tactic(auto, unfolding(crate::specs::Fields::line_by))]
 fn exited(fields: Option<&[u8]>) -> Result<Line, Cause>
-    ensures { Gives (λ l. l) result (line_by Kind.Exited (behind (option_copied fields.entry))) }
+    ensures { Parses (λ l. l) result (line_by Kind.Exited (behind (option_copied fields.entry))) }
 {
     let status = status_of(only_field(fields)?)?;
     Ok(Line::Said(Entry::Exited(status)))
@@ -135,7 +135,7 @@ fn exited(fields: Option<&[u8]>) -> Result<Line, Cause>
 // The signal by which it was killed.
 #[tactic(auto, unfolding(crate::specs::Fields::line_by))]
 fn killed(fields: Option<&[u8]>) -> Result<Line, Cause>
-    ensures { Gives (λ l. l) result (line_by Kind.Killed (behind (option_copied fields.entry))) }
+    ensures { Parses (λ l. l) result (line_by Kind.Killed (behind (option_copied fields.entry))) }
 {
     let signal = signal_of(only_field(fields)?)?;
     Ok(Line::Said(Entry::Killed(signal)))
@@ -144,7 +144,7 @@ fn killed(fields: Option<&[u8]>) -> Result<Line, Cause>
 // A child that could not be waited for.
 #[tactic(auto, unfolding(crate::specs::Fields::line_by))]
 fn no_wait(fields: Option<&[u8]>) -> Result<Line, Cause>
-    ensures { Gives (λ l. l) result (line_by Kind.NoWait (behind (option_copied fields.entry))) }
+    ensures { Parses (λ l. l) result (line_by Kind.NoWait (behind (option_copied fields.entry))) }
 {
     let code = code_of(only_field(fields)?)?;
     Ok(Line::Said(Entry::NoWait(code)))
@@ -153,7 +153,7 @@ fn no_wait(fields: Option<&[u8]>) -> Result<Line, Cause>
 // The last line.
 #[tactic(auto, unfolding(crate::specs::Fields::line_by))]
 fn done(fields: Option<&[u8]>) -> Result<Line, Cause>
-    ensures { Gives (λ l. l) result (line_by Kind.Done (behind (option_copied fields.entry))) }
+    ensures { Parses (λ l. l) result (line_by Kind.Done (behind (option_copied fields.entry))) }
 {
     no_field(fields)?;
     Ok(Line::Done)
@@ -161,7 +161,7 @@ fn done(fields: Option<&[u8]>) -> Result<Line, Cause>
 
 // The line of a kind, from the fields behind its first word.
 fn line_by(alloc: Global, kind: Kind, fields: Option<&[u8]>) -> Result<Line, Cause>
-    ensures { Gives (λ l. l) result (line_by kind (behind (option_copied fields.entry))) }
+    ensures { Parses (λ l. l) result (line_by kind (behind (option_copied fields.entry))) }
 {
     match kind {
         Kind::Session => session(fields),
@@ -184,7 +184,7 @@ fn line_by(alloc: Global, kind: Kind, fields: Option<&[u8]>) -> Result<Line, Cau
 
 #[tactic(auto, unfolding(crate::specs::Fields::within))]
 fn status_of(text: &[u8]) -> Result<u8, Cause>
-    ensures { Gives (λ n. n) result (within 0 255 text.now) }
+    ensures { Parses (λ n. n) result (within 0 255 text.now) }
 {
     let status = within(0, 255, text)?;
     Ok(status as u8)
@@ -192,7 +192,7 @@ fn status_of(text: &[u8]) -> Result<u8, Cause>
 
 #[tactic(auto, unfolding(crate::specs::Fields::within))]
 fn signal_of(text: &[u8]) -> Result<u8, Cause>
-    ensures { Gives (λ n. n) result (within 1 127 text.now) }
+    ensures { Parses (λ n. n) result (within 1 127 text.now) }
 {
     let signal = within(1, 127, text)?;
     Ok(signal as u8)
@@ -201,7 +201,7 @@ fn signal_of(text: &[u8]) -> Result<u8, Cause>
 /// What a line says, without its newline.
 #[tactic(auto, unfolding(crate::specs::Fields::line_from))]
 pub(crate) fn read_line(alloc: Global, line: &[u8]) -> Result<Line, Cause>
-    ensures { Gives (λ l. l) result (read_line line.now) }
+    ensures { Parses (λ l. l) result (read_line line.now) }
 {
     let (word, fields) = split(line);
     match Kind::named(word) {

@@ -26,7 +26,7 @@ use Rattle.dg_lists.specs.Transitions.{whole}
 use Rattle.dg_words.specs.Transitions.{transition, ends, context_ends, number_ends, rests, in_start}
 use Rattle.dg_words.specs.Machine.{Draft, Stepped, Go, Over, Fails, State, Answer, onward, stopped, step, stop, read, fresh, follow, follow_inside, has_room, opens, leaves, leaves_index, take_transition, level_in, perform, ended, is_none}
 use Rattle.dg_words.specs.Reading.{kind_of, words_only, command_at, words_of, operand_at}
-use Rattle.dg_words.specs.Answers.{Gives}
+use Rattle.dg_words.specs.Answers.{ReadsAs}
 use Rattle.dg_words.proofs.Loop.{Falls, step_falls}
 use Rattle.dg_words.proofs.Kept.{Kept, Keeps, step_keeps, fresh_kept}
 use Rattle.dg_words.proofs.Own.{Own, after_own, transition_own}
@@ -313,13 +313,13 @@ operand_within text at next words le e =
     let h = range level.Alone (drop at text) (fresh Operand) at next words (kind_ok (read level.Alone (drop at text) (fresh Operand) at) (words, next) e) in omega (arith, h.1, length-drop at text, le)
 
 -- the answer of a reader, by what it returned
-pub gives_command : (text : List ℕ) (at : ℕ) (r : Result Parsed WordFault) → Gives (λ p. (p.words, p.next)) r (read level.Top (drop at text) (fresh Start) at) →
+pub gives_command : (text : List ℕ) (at : ℕ) (r : Result Parsed WordFault) → ReadsAs (λ p. (p.words, p.next)) r (read level.Top (drop at text) (fresh Start) at) →
     MatchResult r (λ p. command_at text at ≡ Ok (p.words, p.next)) (λ f. (f ≡ Memory) ⊎ (command_at text at ≡ Err f))
 unfolding command_at
 gives_command text at (Ok p) e = ap kind_of e
 gives_command text at (Err f) e = e
 
-pub gives_operand : (text : List ℕ) (at : ℕ) (r : Result Parsed WordFault) → Gives (λ p. (p.words, p.next)) r (read level.Alone (drop at text) (fresh Operand) at) →
+pub gives_operand : (text : List ℕ) (at : ℕ) (r : Result Parsed WordFault) → ReadsAs (λ p. (p.words, p.next)) r (read level.Alone (drop at text) (fresh Operand) at) →
     MatchResult r (λ p. operand_at text at ≡ Ok (p.words, p.next)) (λ f. (f ≡ Memory) ⊎ (operand_at text at ≡ Err f))
 unfolding operand_at
 gives_operand text at (Ok p) e = ap kind_of e

@@ -15,6 +15,6 @@ Made m (steps.Over n) new = m ≡ Over new.draft.words n
 Made m (steps.Bad f) new = m ≡ Fails f
 
 -- What a function returned, seen by view, is what reading gives, unless memory ran out.
-abbrev pub Gives : {X : Type 0} → (X → List Word × ℕ) → Result X WordFault → Answer → Type 0
-Gives view (Ok x) a = a ≡ Ok (view x)
-Gives view (Err f) a = (f ≡ Memory) ⊎ (kind_of a ≡ Err f)
+abbrev pub ReadsAs : {X : Type 0} → (X → List Word × ℕ) → Result X WordFault → Answer → Type 0
+ReadsAs view (Ok x) a = a ≡ Ok (view x)
+ReadsAs view (Err f) a = (f ≡ Memory) ⊎ (kind_of a ≡ Err f)

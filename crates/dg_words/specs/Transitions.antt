@@ -19,7 +19,7 @@ use Rattle.dg_lists.specs.declared.kinds.Target.TheVariants as target
 use Rattle.dg_lists.specs.declared.kinds.Transition.{Transition}
 use Rattle.dg_lists.specs.declared.kinds.Ending.{Ending}
 use Rattle.dg_lists.specs.declared.kinds.Ending.TheVariants as ending
-use Rattle.dg_lists.specs.Transitions.{does, puts, goes, behind_effect, with_digit, whole, behind_number, counted, escaped, is_space}
+use Rattle.dg_lists.specs.Transitions.{does, puts, goes, in_braces, behind_effect, with_digit, whole, behind_number, counted, escaped, is_space}
 
 -- What a byte is between words: `]` ends only a bracket, and a list has no commands.
 abbrev pub heard : Level → Class → Class
@@ -145,11 +145,7 @@ in_operand c = does effect.Word target.Rest
 
 -- inside braces, where others may be open within
 abbrev pub in_braced : Bool → Class → ℕ → Transition
-in_braced deep class.Open b = does (effect.Byte b) target.Deeper
-in_braced true class.Close b = does (effect.Byte b) target.Shallower
-in_braced false class.Close b = does effect.Word (target.To (Behind delimiter.Brace))
-in_braced deep class.Backslash b = goes BracedPair
-in_braced deep c b = puts b Braced
+in_braced deep c b = in_braces (goes BracedPair) deep c b
 
 -- both bytes of a pair stay, but for a joined line
 abbrev pub in_braced_pair : Class → ℕ → Transition

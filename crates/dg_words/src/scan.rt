@@ -1,6 +1,6 @@
 //! The reading of a command, of the words of a list, and of an operand.
 ghost use Rattle.std.specs.Prelude.{◌≡◌, ◌++◌, ◌∷◌, [], ◌+◌, ◌==◌, ◌<◌, ◌≤◌, ◌≢◌, ◌^◌, ◌⊎◌, OnOk, IfErr, IfOk, MatchOption, MatchResult, length, drop, Ok, Err, ℕ, List};
-ghost use Rattle.dg_words.specs.Answers.{Gives, Made};
+ghost use Rattle.dg_words.specs.Answers.{ReadsAs, Made};
 ghost use Rattle.dg_words.specs.First.{FirstCommand, FirstFault};
 ghost use Rattle.dg_words.specs.Grammar.Spelling.{IsCommandFault, IsOperandFault, IsWordsFault, SpellsCommand, SpellsOperand};
 ghost use Rattle.dg_words.specs.Grammar.Words.{WordsOf};
@@ -299,7 +299,7 @@ impl Scanner {
 
     /// The text ends at a place: the words and that place, or what is missing.
     fn at_end(self, place: usize) -> Result<Parsed, WordFault>
-        ensures { Gives (λ p. (p.words, p.next)) result (stopped (stop self) place) }
+        ensures { ReadsAs (λ p. (p.words, p.next)) result (stopped (stop self) place) }
     {
         match self.stop() {
             Ok(words) => Ok(Parsed { words, next: place }),
@@ -346,7 +346,7 @@ fn scan(
     at: usize,
 ) -> Result<Parsed, WordFault>
     requires { at ≤ length text.now }
-    ensures { Gives (λ p. (p.words, p.next)) result (read level (drop at text.now) (fresh mode) at) }
+    ensures { ReadsAs (λ p. (p.words, p.next)) result (read level (drop at text.now) (fresh mode) at) }
 {
     let mut scanner = Scanner::new(alloc, mode);
     match scanner.read_on(level, text, at) {

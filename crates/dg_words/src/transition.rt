@@ -6,7 +6,7 @@ ghost use Rattle.dg_words.specs.Transitions.{after, behind, behind_pair, behind_
 use crate::kinds::Level;
 use dg_lists::{
     Class, Context, Delimiter, Digits, Effect, Ending, Mode, Target, Transition, WordFault,
-    counted, escaped, is_space,
+    counted, escaped, in_braces, is_space,
 };
 
 impl Level {
@@ -284,13 +284,7 @@ fn in_operand(class: Class) -> Transition
 fn in_braced(deep: bool, class: Class, byte: u8) -> Transition
     ensures { result ≡ in_braced deep class byte }
 {
-    match class {
-        Class::Open => Transition::does(Effect::Byte(byte), Target::Deeper),
-        Class::Close if deep => Transition::does(Effect::Byte(byte), Target::Shallower),
-        Class::Close => Transition::does(Effect::Word, Target::To(Mode::Behind(Delimiter::Brace))),
-        Class::Backslash => Transition::goes(Mode::BracedPair),
-        _ => Transition::puts(byte, Mode::Braced),
-    }
+    in_braces(Transition::goes(Mode::BracedPair), deep, class, byte)
 }
 
 /// Both bytes of a pair stay, but for a joined line.

@@ -29,7 +29,8 @@ use Rattle.dg_lists.proofs.GrammarLemmas.ListRead.{backslash_is, newline_is}
 use Rattle.dg_words.proofs.GrammarLemmas.Segments.{at, Leads, lead_same, lead_none, lead_one, step_by, read_step, read_end, moved, add_add, add_none, Seg, seg_both, seg_one, seg_then, does_in}
 use Rattle.dg_words.specs.Transitions.{in_braced_join, in_braced_pair, in_comment}
 use Rattle.dg_lists.specs.declared.kinds.Delimiter.{Delimiter}
-use Rattle.dg_words.specs.Grammar.Words.{Parted, Gap, Skipped, Comment, Braced, plain_braced, plain_comment, skipped}
+use Rattle.dg_lists.specs.Grammar.Lists.{plain_braced}
+use Rattle.dg_words.specs.Grammar.Words.{Parted, Gap, Skipped, Comment, Braced, plain_comment, skipped}
 use Rattle.dg_words.proofs.GrammarLemmas.Pieces.{close_is, open_is, pair_transition, same, seg_as}
 
 -- where a reading may be outermost

@@ -27,7 +27,8 @@ use Rattle.dg_lists.proofs.GrammarLemmas.ListRead.{backslash_is}
 use Rattle.dg_words.proofs.GrammarLemmas.Segments.{at, Leads, lead_none, lead_one, lead_both, step_by, read_step, moved, add_add, Seg, seg_both, seg_one, seg_then, does_in}
 use Rattle.dg_words.specs.Transitions.{in_brace_first, in_brace_star}
 use Rattle.dg_lists.specs.declared.kinds.Delimiter.TheVariants as delimiter
-use Rattle.dg_words.specs.Grammar.Words.{Parts, Plain, OneWord, Words, OneCommand, Script, Begun, WordsOf, ends_command, Parted, Gap, Skipped, Braced, plain_braced, is_hash, begins_with_hash}
+use Rattle.dg_lists.specs.Grammar.Lists.{plain_braced}
+use Rattle.dg_words.specs.Grammar.Words.{Parts, Plain, OneWord, Words, OneCommand, Script, Begun, WordsOf, ends_command, Parted, Gap, Skipped, Braced, is_hash, begins_with_hash}
 use Rattle.dg_lists.proofs.GrammarLemmas.ListRead.{quote_is}
 use Rattle.dg_words.proofs.GrammarLemmas.Pieces.{close_is, open_is, same}
 use Rattle.dg_words.specs.Reading.{command_at, words_of, kind_of, words_only}

@@ -24,7 +24,8 @@ use Rattle.dg_words.specs.Transitions.{after, ends, transition}
 use Rattle.dg_words.specs.Machine.{is_none}
 use Rattle.dg_lists.specs.Grammar.Escapes.{begins_with_space, Spaces}
 use Rattle.dg_words.specs.Grammar.Words as grammar
-use Rattle.dg_words.specs.Grammar.Words.{begins, BeginsWord, Braced, ends_word, OneWord, Parted, Parts, Plain, plain_braced, with_text}
+use Rattle.dg_lists.specs.Grammar.Lists.{plain_braced}
+use Rattle.dg_words.specs.Grammar.Words.{begins, BeginsWord, Braced, ends_word, OneWord, Parted, Parts, Plain, with_text}
 use Rattle.dg_lists.proofs.GrammarLemmas.Numbers.{and_both}
 use Rattle.dg_lists.proofs.GrammarLemmas.Bytes.{is_class}
 use Rattle.dg_lists.proofs.GrammarLemmas.ListRead.{backslash_is, newline_is, quote_is}

@@ -10,6 +10,7 @@ use Rattle.dg_lists.specs.declared.kinds.Context.TheVariants.{Bare, Quoted, Inde
 use Rattle.dg_words.specs.declared.word.Word.{Word}
 use Rattle.dg_lists.specs.Classes.{class_of}
 use Rattle.dg_lists.specs.Grammar.Escapes.{each, Escaped, Spaces}
+use Rattle.dg_lists.specs.Grammar.Lists.{plain_braced}
 
 -- what parts words: in a list of words newlines too
 abbrev pub blanks : Level → Class → Bool
@@ -44,13 +45,6 @@ plain l Index class.RightParen = false
 plain l Index c = true
 plain l Bare c = not (ends_word l c)
 plain l s c = false
-
--- between braces
-abbrev pub plain_braced : Class → Bool
-plain_braced class.Open = false
-plain_braced class.Close = false
-plain_braced class.Backslash = false
-plain_braced c = true
 
 -- in a comment
 abbrev pub plain_comment : Class → Bool

@@ -7,20 +7,20 @@ pub returns-then-whole-clause-known : goal.returns-then-whole-clause-known
 returns-then-whole-clause-known c = trail_begins c.args.parts.now c.args.bytes.now
 
 pub returns-then-whole-clause-left : goal.returns-then-whole-clause-left
-returns-then-whole-clause-left c = left_all c.args.parts.now c.args.bytes.now c.args.trail.found c.args.trail.passed _ _ _ c.follow-left.ensures.value c.count.ensures c.if-whole.true
+returns-then-whole-clause-left c = left_all c.args.parts.now c.args.bytes.now c.args.trail.found c.args.trail.passed _ _ _ c.follow_rest-read.ensures.value c.count.ensures c.if-whole.true
 
 pub returns-then-whole-clause-counted : goal.returns-then-whole-clause-counted
 returns-then-whole-clause-counted c =
-    let all = counted_all c.args.parts.now c.args.bytes.now c.args.trail.found c.args.trail.passed _ _ _ c.follow-left.ensures.value c.count.ensures c.if-whole.true in
-    let read = c.saturating_sub-read.ensures in
+    let all = counted_all c.args.parts.now c.args.bytes.now c.args.trail.found c.args.trail.passed _ _ _ c.follow_rest-read.ensures.value c.count.ensures c.if-whole.true in
+    let read = c.follow_rest-read.ensures.read in
     let both = c.saturating_add.ensures in
     omega arith
 
 pub returns-clause-left : goal.returns-clause-left
-returns-clause-left c = left_some c.args.parts.now c.args.bytes.now c.args.trail.found c.args.trail.passed _ _ _ c.follow-left.ensures.value c.count.ensures c.if-whole.false
+returns-clause-left c = left_some c.args.parts.now c.args.bytes.now c.args.trail.found c.args.trail.passed _ _ _ c.follow_rest-read.ensures.value c.count.ensures c.if-whole.false
 
 pub returns-clause-counted : goal.returns-clause-counted
 returns-clause-counted c =
-    let some = counted_some c.args.parts.now c.args.bytes.now c.args.trail.found c.args.trail.passed _ _ _ c.follow-left.ensures.value c.count.ensures c.if-whole.false in
-    let read = c.saturating_sub-read.ensures in
+    let some = counted_some c.args.parts.now c.args.bytes.now c.args.trail.found c.args.trail.passed _ _ _ c.follow_rest-read.ensures.value c.count.ensures c.if-whole.false in
+    let read = c.follow_rest-read.ensures.read in
     omega arith

@@ -2,11 +2,11 @@ use Rattle.std.proofs.Common.{◌≡◌, ◌∙◌, length, refl, false, arith}
 use Rattle.dg_expr.specs.Truth.{truth_of}
 use Rattle.dg_machine.proofs.ChoiceLemmas.{choose-over}
 use Rattle.dg_compiled.proofs.ExpressionLemmas.{judged-truth}
-use Rattle.dg_machine.proofs.MachineLemmas.{Goes-along}
+use Rattle.dg_machine.proofs.ResultLemmas.{Goes-along-ok}
 use Rattle.dg_machine.proofs.machine.Machine.decide_now.Goals as goal
 
 pub returns-then-len-eq0 : goal.returns-then-len-eq0
 returns-then-len-eq0 c =
     let told = rw c.as_slice.ensures at (rw c.in-Ok-false.field-0-test at (rw c.in-Ok-false.is at c.in_ok-truth_in.ensures)) in
     let none : length c.args.choice.left ≡ 0 = omega (arith, c.len.ensures, c.if-len-eq0.true) in
-    Goes-along _ _ _ _ _ _ _ _ c.in_ok-otherwise-in-Ok-false.ensures (judged-truth (truth_of c.args.value) c.args.value false _ _ _ told ∙ choose-over _ _ _ _ _ none) refl (omega arith)
+    Goes-along-ok _ _ _ _ _ _ _ _ c.otherwise.ensures (judged-truth (truth_of c.args.value) c.args.value false _ _ _ told ∙ choose-over _ _ _ _ _ none) refl (omega arith)

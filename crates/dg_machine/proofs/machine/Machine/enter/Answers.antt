@@ -1,4 +1,5 @@
+use Rattle.std.proofs.lemmas.Result.{IfOk-weaker}
 use Rattle.dg_machine.proofs.machine.Machine.enter.Goals as goal
 
 pub returns : goal.returns
-returns c = rw c.script.ensures.same at (c.in_ok-begin.ensures _ c.in_ok-commands.ensures.all)
+returns c = IfOk-weaker c.begin.result _ _ (λ p h. rw c.script.ensures.same at (h _ c.in_ok-commands.ensures.all)) c.begin.ensures

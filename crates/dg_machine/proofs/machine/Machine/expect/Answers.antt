@@ -1,7 +1,8 @@
 use Rattle.std.proofs.Common.{◌∙◌, refl, sym, arith}
 use Rattle.dg_machine.specs.Meaning.{all_back, go, rest}
-use Rattle.dg_machine.proofs.MachineLemmas.{Goes-along, weight-cons}
+use Rattle.dg_machine.proofs.MachineLemmas.{weight-cons}
 use Rattle.dg_machine.proofs.LimitLemmas.{expect-given, expect-listed, weight-expecting}
+use Rattle.dg_machine.proofs.ResultLemmas.{Goes-along-ok}
 use Rattle.dg_machine.proofs.machine.Machine.expect.Goals as goal
 
 pub returns-in_default : goal.returns-in_default
@@ -32,5 +33,5 @@ returns c =
     let k = all_back c.args.self.now.stack in
     let listed = expect-listed c.args.depth _ s k _ _ c.in-Some.ensures (c.deref.ensures ∙ c.in_ok-words.ensures) in
     let same = rw c.in-Err.is at c.in_ok-making.ensures.same in
-    let went = rw (c.in_ok-message-in-Err.ensures, c.fault_text.ensures) at c.in_ok-fail-in-Err.ensures in
-    Goes-along _ _ _ _ _ _ _ _ went (listed ∙ sym (same c.args.depth k)) refl (omega arith)
+    let went = rw (c.in_ok-message-in-Err.ensures, c.fault_text.ensures) at c.fail.ensures in
+    Goes-along-ok _ _ _ _ _ _ _ _ went (listed ∙ sym (same c.args.depth k)) refl (omega arith)

@@ -1,14 +1,15 @@
 use Rattle.std.proofs.Common.{◌∙◌, ap, sym, arith}
 use Rattle.dg_machine.specs.declared.machine.Machine.{Machine}
 use Rattle.dg_machine.specs.Meaning.{go, rest}
-use Rattle.dg_machine.proofs.MachineLemmas.{Goes-comes, weight-cons}
+use Rattle.dg_machine.proofs.MachineLemmas.{weight-cons}
 use Rattle.dg_machine.proofs.LimitLemmas.{expects-not, read-parts, session-asks, session-found, session-moves, session-over, weight-found, whole, with_session}
+use Rattle.dg_machine.proofs.ResultLemmas.{Goes-comes-ok}
 use Rattle.dg_machine.proofs.machine.Machine.expect_words.Goals as goal
 
 pub returns-in-Err : goal.returns-in-Err
 returns-in-Err c =
     let read = sym c.in-Err.is ∙ (rw c.as_slice.ensures at c.in_ok-expectation.ensures) in
-    Goes-comes _ _ _ _ _ _ _ c.in_ok-fail-in-Err.ensures (expects-not _ _ _ _ _ read) (omega arith)
+    Goes-comes-ok _ _ _ _ _ _ _ c.fail.ensures (expects-not _ _ _ _ _ read) (omega arith)
 
 pub returns-in_ok-push-in-Session : goal.returns-in_ok-push-in-Session
 unfolding rest go

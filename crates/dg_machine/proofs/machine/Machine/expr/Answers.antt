@@ -1,4 +1,5 @@
 use Rattle.std.proofs.Common.{rules, ◌≡◌, ap, ◌<◌, ◌≤◌, ◌∙◌, refl, sym, subst, arith}
+use Rattle.std.proofs.lemmas.Result.{IfOk-weaker}
 use Rattle.dg_expr.specs.Number.{decimal_text}
 use Rattle.dg_language.specs.declared.code.Code.TheVariants.{Done}
 use Rattle.dg_language.specs.Expressions.{in_decimal, written}
@@ -7,6 +8,7 @@ use Rattle.dg_machine.specs.Meaning.{back, all_back, rest, weight}
 use Rattle.dg_machine.proofs.MachineLemmas.{Goes-along, weight-cons}
 use Rattle.dg_compiled.proofs.GatherLemmas.{fail-through}
 use Rattle.dg_compiled.proofs.ExpressionLemmas.{begun-calculates, calculate-none, expr-long, expr-short}
+use Rattle.dg_machine.proofs.ResultLemmas.{Goes-along-ok}
 use Rattle.dg_machine.proofs.machine.Machine.expr.Goals as goal
 
 pub returns-then-len-gt-LONGEST_VALUE : goal.returns-then-len-gt-LONGEST_VALUE
@@ -21,8 +23,8 @@ returns-in_default-of c =
     let short = rw text at (subst (λ n. n ≤ 1048576) c.len.ensures c.if-len-gt-LONGEST_VALUE.false) in
     let none = sym (rw c.in_default-of.is at c.of.ensures.begun) ∙ c.in_ok-formula.ensures in
     let code = rw text at none in
-    let went = rw text at c.in_ok-no_expression.ensures in
-    Goes-along _ _ _ _ _ _ _ _ went
+    let went = rw text at c.no_expression.ensures in
+    Goes-along-ok _ _ _ _ _ _ _ _ went
     (expr-short _ _ _ _ c.in-Some.ensures _ _ short ∙ calculate-none _ _ _ _ code ∙ fail-through _ _ _ _) refl (omega arith)
 
 pub returns-in-Value : goal.returns-in-Value
@@ -63,7 +65,10 @@ returns c =
     let begun = rw c.in-Some-of.is at c.of.ensures.begun in
     let counted = rw c.in-Some-of.is at c.of.ensures.counted in
     let code = rw text at c.in_ok-formula.ensures in
-    let went = rw (c.in_ok-push-in_default-2.ensures, c.requires) at (c.in_ok-come_to-in_default-2.ensures c.in-Some-of.calculation c.in_ok-computed.ensures) in
     rw c.requires
-    (Goes-along _ _ _ _ _ _ _ _ went (expr-short _ _ _ _ c.in-Some.ensures _ _ short ∙ sym (begun-calculates _ _ _ _ _ _ code begun.0 begun.1)) refl
+    (IfOk-weaker c.come_to.result _ _
+    (λ p h.
+    let went = rw (c.in_ok-push-in_default-2.ensures, c.requires) at (h c.in-Some-of.calculation c.in_ok-computed.ensures) in
+    Goes-along p _ _ _ _ _ _ _ went (expr-short _ _ _ _ c.in-Some.ensures _ _ short ∙ sym (begun-calculates _ _ _ _ _ _ code begun.0 begun.1)) refl
     (rw weight-cons (omega (arith, counted))))
+    c.come_to.ensures)

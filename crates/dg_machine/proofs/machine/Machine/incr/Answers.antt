@@ -1,4 +1,5 @@
 use Rattle.std.proofs.Common.{sym}
+use Rattle.std.proofs.lemmas.Result.{IfOk-weaker}
 use Rattle.dg_language.specs.Variables.{add_number}
 use Rattle.dg_language.proofs.TouchLemmas.{in-use}
 use Rattle.dg_machine.proofs.VariableLemmas.{ready-runs, runs-as, incr-of, added-in-use}
@@ -11,9 +12,9 @@ returns-in-Some-value_in_use c =
     let v = c.in-Some-value_in_use.value.now in
     let got = rw c.in-Some-value_in_use.is at c.value_in_use.ensures in
     let used = rw c.as_slice.ensures at (in-use c.as_slice.result.now c.args.self.now.state v (sym got)) in
-    let went = rw (c.as_slice-in-Some-value_in_use.ensures, c.in_ok-old.ensures) at c.in_ok-add_to.ensures in
-    runs-as _ _ _ _ _ (added-in-use n by v _ _ _ used.0 used.1 went)
-    (incr-of _ _ _ c.in-Some.ensures by (sym c.in-Some-addend.ensures))
+    let went = rw (c.as_slice-in-Some-value_in_use.ensures, c.in_ok-old.ensures) at c.add_to.ensures in
+    IfOk-weaker c.add_to.result _ _
+    (λ p h. runs-as _ _ _ _ p (added-in-use n by v _ _ p used.0 used.1 h) (incr-of _ _ _ c.in-Some.ensures by (sym c.in-Some-addend.ensures))) went
 
 pub returns : goal.returns
 returns c =

@@ -1,4 +1,5 @@
 use Rattle.std.proofs.Common.{sym}
+use Rattle.std.proofs.lemmas.Result.{IfOk-weaker}
 use Rattle.dg_machine.proofs.SessionLemmas.{spawn_id-waits, spawn_id-none, spawn_id-names}
 use Rattle.dg_machine.proofs.machine.Machine.session_of_spawn_id.Goals as goal
 
@@ -18,5 +19,6 @@ pub returns : goal.returns
 returns c =
     let ready = rw (c.in_default.is, c.as_slice.ensures) at c.in_ok-pace.ensures in
     let some = sym (rw c.as_slice-2.ensures at c.in-Some-value_of.ensures) in
-    let went = rw (c.as_slice-3.ensures, c.in_ok-id.ensures) at c.in_ok-session_named.ensures in
-    spawn_id-names c.args.fit c.in_ok-name.name c.args.self.now c.ready.new.self c.in_ok-name.ensures ready c.session_named.new.self _ c.in_ok-session_named.field-0 some went
+    let went = rw (c.as_slice-3.ensures, c.in_ok-id.ensures) at c.session_named.ensures in
+    IfOk-weaker c.session_named.result _ _
+    (λ r. spawn_id-names c.args.fit c.in_ok-name.name c.args.self.now c.ready.new.self c.in_ok-name.ensures ready c.session_named.new.self _ r some) went
