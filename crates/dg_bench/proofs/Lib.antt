@@ -1,3 +1,4 @@
+pub mod CellLemmas
 pub mod Places
 pub mod Steps
 pub mod Making

@@ -2,7 +2,7 @@
 use Rattle.std.proofs.Common.{ℕ, ◌≡◌, ◌⊎◌, inl, inr, ◌+◌, ◌<◌, ◌≤◌, Bool, true, false, List, [], ◌∷◌, ◌++◌, length, true≢false, refl, sym, ap, ◌∙◌, subst, arith}
 use Rattle.std.specs.Prelude.{Option, None, Some, MatchOption, option_map, Result, Ok, Err, IfOk, IfErr, OnOk}
 use Rattle.std.proofs.lemmas.List.{append-nil}
-use Rattle.once_cell.specs.declared.race.note.Note.{Note}
+use Rattle.dg_bench.specs.declared.note.PlaceNote.{PlaceNote}
 use Rattle.dg_core.specs.Core.{CoreView, new_core}
 use Rattle.dg_world.specs.World.{WorldView, look}
 use Rattle.dg_world.specs.declared.refusal.Refusal.{Refusal}
@@ -148,7 +148,7 @@ refused_begun cause limit old mid new pass p why same sees run room r =
     told Memory h = (sees, h)
 
 -- what the locked value keeps then
-pub kept_next : (names : List ℕ) (old : Kept) (core next : CoreView) (calls now : List Call) (notes : List (Note Place)) (stopped after : Bool) (entered call : Call)
+pub kept_next : (names : List ℕ) (old : Kept) (core next : CoreView) (calls now : List Call) (notes : List PlaceNote) (stopped after : Bool) (entered call : Call)
     → kept_of core calls stopped ≡ old → (old.stopped ≡ false) × Makes new_core old.calls old.core → entered ≡ call → Steps core call next
     → now ≡ calls ++ entered ∷ [] → KnowsAll names notes now → IsKept names next now notes after
 kept_next names old core next calls now notes stopped after entered call view run same step now_is all =
@@ -157,7 +157,7 @@ kept_next names old core next calls now notes stopped after entered call view ru
     (all, (next, made), λ _. made)
 
 -- and once the bench has stopped
-pub kept_stopped : (names : List ℕ) (next : CoreView) (calls now : List Call) (notes : List (Note Place)) (after : Bool) → IsLegal calls → now ≡ calls → after ≡ true → KnowsAll names notes now
+pub kept_stopped : (names : List ℕ) (next : CoreView) (calls now : List Call) (notes : List PlaceNote) (after : Bool) → IsLegal calls → now ≡ calls → after ≡ true → KnowsAll names notes now
     → IsKept names next now notes after
 kept_stopped names next calls now notes after legal now_is after_is all =
     (all, subst IsLegal (sym now_is) legal, λ running. absurd (true≢false (sym after_is ∙ running)))
@@ -168,7 +168,7 @@ pub stops : (cause : CoreView → Refusal → Type 0) (old : Kept) (core next : 
 stops cause old core next calls now stopped after view now_is after_is = (now_is ∙ ap (λ (k : Kept). k.calls) view, after_is)
 
 -- what the locked value keeps once a call was ended, in either case
-pub kept_finished : {A : Type 0} (names : List ℕ) (old : Kept) (core next : CoreView) (calls mid now : List Call) (notes : List (Note Place)) (stopped after : Bool) (entered call : Call) (r : Result A BenchRefusal)
+pub kept_finished : {A : Type 0} (names : List ℕ) (old : Kept) (core next : CoreView) (calls mid now : List Call) (notes : List PlaceNote) (stopped after : Bool) (entered call : Call) (r : Result A BenchRefusal)
     → kept_of core calls stopped ≡ old → (old.stopped ≡ false) × Makes new_core old.calls old.core → IsLegal calls → mid ≡ calls → entered ≡ call → Steps core call next
     → OnOk r (now ≡ mid ++ entered ∷ []) → IfErr r (λ why. (now ≡ mid) × (after ≡ true) × (why ≡ HistoryFull)) → KnowsAll names notes now → IsKept names next now notes after
 kept_finished names old core next calls mid now notes stopped after entered call (Ok made) view run legal mid_is same step ok err all =

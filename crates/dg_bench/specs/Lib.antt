@@ -1,4 +1,5 @@
 pub mod History
+pub mod Cells
 pub mod Seen
 pub mod Refusals
 pub mod Made

@@ -1,9 +1,10 @@
 -- What a pass, a receipt and the locked value know.
 use Rattle.std.specs.Prelude.{ℕ, ◌≡◌, ◌+◌, Bool, true, false, List, [], ◌∷◌, ◌++◌, length, take, slice_get, Option, None, Some, option_map}
 use mathlib.Core.List.{IsPrefix}
-use Rattle.once_cell.specs.declared.race.note.Note.{Note}
 use Rattle.dg_core.specs.Core.{CoreView, new_core}
+use Rattle.dg_bench.specs.Cells.{Sees}
 use Rattle.dg_bench.specs.declared.call.Call.{Call}
+use Rattle.dg_bench.specs.declared.note.PlaceNote.{PlaceNote}
 use Rattle.dg_bench.specs.declared.place.Place.{Place}
 use Rattle.dg_bench.specs.History.{IsLegal, Makes}
 
@@ -28,47 +29,47 @@ pub record Kept : Type 0 where
 abbrev pub all_of : Place → List Call
 all_of p = p.before.value.items ++ p.call ∷ []
 
-abbrev pub known_of : Option (Note Place) → Option Place
+abbrev pub known_of : Option PlaceNote → Option Place
 known_of None = None
-known_of (Some n) = n.known
+known_of (Some n) = n.place.known
 
 abbrev pub calls_to : Option Place → List Call
 calls_to None = []
 calls_to (Some p) = all_of p
 
-abbrev pub calls_of : Option (Note Place) → List Call
+abbrev pub calls_of : Option PlaceNote → List Call
 calls_of n = calls_to (known_of n)
 
-abbrev pub seen_of : Bool → ℕ → Option (Note Place) → Seen
+abbrev pub seen_of : Bool → ℕ → Option PlaceNote → Seen
 seen_of ours count note = record { ours = ours; count = count; calls = calls_of note }
 
--- the note is of the last cell of so many, and knows what that holds; no note is of none
-abbrev pub Knows : List ℕ → ℕ → Option (Note Place) → Type 0
+-- the note is of the last place of so many, and knows what that holds; no note is of none
+abbrev pub Knows : List ℕ → ℕ → Option PlaceNote → Type 0
 Knows names count None = count ≡ 0
-Knows names count (Some n) = (k : ℕ) × (p : Place) × (count ≡ k + 1) × (slice_get names k ≡ Some n.cell) × (n.known ≡ Some p)
+Knows names count (Some n) = (k : ℕ) × (p : Place) × (count ≡ k + 1) × Sees names k n p
 
 -- a pass of this bench knows the last place that it has seen, and the calls up to there are legal
-abbrev pub IsSeen : List ℕ → Bool → ℕ → Option (Note Place) → Type 0
+abbrev pub IsSeen : List ℕ → Bool → ℕ → Option PlaceNote → Type 0
 IsSeen names ours count note = ours ≡ true → Knows names count note × (count ≡ length (calls_of note)) × IsLegal (calls_of note)
 
--- a note of each cell in use knows the call that stands there, and the calls before it
-pub record KnowsAll (names : List ℕ) (notes : List (Note Place)) (calls : List Call) : Type 0 where
+-- a note of each place in use knows the call that stands there, and the calls before it
+pub record KnowsAll (names : List ℕ) (notes : List PlaceNote) (calls : List Call) : Type 0 where
   pub lengths : length notes ≡ length calls
-  pub each : (i : ℕ) (n : Note Place) → slice_get notes i ≡ Some n → (slice_get names i ≡ Some n.cell) × ((p : Place) × (n.known ≡ Some p) × (slice_get calls i ≡ Some p.call) × (p.before.value.items ≡ take i calls))
+  pub each : (i : ℕ) (n : PlaceNote) → slice_get notes i ≡ Some n → (p : Place) × Sees names i n p × (slice_get calls i ≡ Some p.call) × (p.before.value.items ≡ take i calls)
 
-abbrev pub told_of : ℕ → Option (Note Place) → Told
+abbrev pub told_of : ℕ → Option PlaceNote → Told
 told_of number note = record { number = number; call = option_map (λ (p : Place). p.call) (known_of note) }
 
--- the note of a receipt is of the cell at its number, and knows what that holds
-abbrev pub IsTold : List ℕ → ℕ → Option (Note Place) → Type 0
+-- the note of a receipt is of the place of its number, and knows what that holds
+abbrev pub IsTold : List ℕ → ℕ → Option PlaceNote → Type 0
 IsTold names number None = Unit {0}
-IsTold names number (Some n) = (p : Place) × (slice_get names number ≡ Some n.cell) × (n.known ≡ Some p)
+IsTold names number (Some n) = (p : Place) × Sees names number n p
 
 abbrev pub kept_of : CoreView → List Call → Bool → Kept
 kept_of core calls stopped = record { core = core; calls = calls; stopped = stopped }
 
 -- the calls are legal, and while the bench hasn't stopped they make just this core
-abbrev pub IsKept : List ℕ → CoreView → List Call → List (Note Place) → Bool → Type 0
+abbrev pub IsKept : List ℕ → CoreView → List Call → List PlaceNote → Bool → Type 0
 IsKept names core calls notes stopped = KnowsAll names notes calls × IsLegal calls × (stopped ≡ false → Makes new_core calls core)
 
 -- a pass of this bench that has seen all these calls

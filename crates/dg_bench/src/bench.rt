@@ -1,6 +1,5 @@
 //! The bench that callers share.
 ghost use Rattle.std.specs.Prelude.{◌≡◌, ◌⊎◌, ◌≤◌, [], length, map, Err, Some, None, IfOk, IfErr, OnOk, IfSome, IfNone};
-ghost use Rattle.once_cell.specs.Once.{cell_name};
 ghost use Rattle.dg_core.specs.Core.{edited_core, committed_live};
 ghost use Rattle.dg_bench.specs.History.{IsLegal};
 ghost use Rattle.dg_bench.specs.Seen.{HasSeenBeginningOf, seen_all};
@@ -10,10 +9,10 @@ ghost use Rattle.dg_bench.specs.Work.{IsListed, IsRecalled};
 ghost use Rattle.dg_bench.specs.declared.call.Call.TheVariants.{Edit as edited, Ask as asked, Commit as committed, Live as lived, Report as reported};
 
 use crate::call::Call;
+use crate::cells::Cells;
 use crate::history::History;
 use crate::locked::Locked;
 use crate::pass::Pass;
-use crate::place::Place;
 use crate::receipt::Receipt;
 use crate::refusal::BenchRefusal;
 use crate::room::Room;
@@ -23,7 +22,6 @@ use dg_core::Reply;
 use dg_records::Record;
 use dg_transcript::Transcript;
 use dg_world::{Answer, Edit, Question, TestId};
-use once_cell::race::OnceBox;
 use std::alloc::{AllocError, Global};
 use std::marker::Model;
 use std::sync::{Mutex, Wait};
@@ -32,26 +30,25 @@ use std::sync::{Mutex, Wait};
 /// history may have.
 #[derive(Drop)]
 pub struct Bench<B: Room> {
-    cells: Vec<OnceBox<Place>>,
+    cells: Cells,
     locked: Mutex<Locked<B>>,
 }
 
 impl<B: Room> Model for Bench<B> {
-    ghost use Rattle.std.specs.Prelude.{◌≡◌, ℕ, length, map};
-    ghost use Rattle.once_cell.specs.Once.{cell_name};
+    ghost use Rattle.std.specs.Prelude.{◌≡◌, ℕ};
 
     ghost Value = { ℕ };
 
-    ghost view = { λ b. length b.cells.items };
+    ghost view = { λ b. b.cells.limit };
 
-    ghost invariant = { λ b. map cell_name b.cells.items ≡ B.names };
+    ghost invariant = { λ b. b.cells.names ≡ B.names };
 }
 
 impl<B: Room> Bench<B> {
     /// A bench over these cells, with a new core and no calls.
-    pub(crate) fn over(alloc: Global, cells: Vec<OnceBox<Place>>) -> Result<Bench<B>, AllocError>
-        requires { map cell_name cells.items ≡ B.names }
-        ensures { IfOk result (λ limit. limit ≡ length cells.items) }
+    pub(crate) fn over(alloc: Global, cells: Cells) -> Result<Bench<B>, AllocError>
+        requires { cells.names ≡ B.names }
+        ensures { IfOk result (λ limit. limit ≡ cells.limit) }
     {
         Ok(Bench {
             locked: Mutex::new(Locked::new(alloc)?),
@@ -78,9 +75,7 @@ impl<B: Room> Bench<B> {
         ensures ok { IfOk result (λ r. IsMade pass r.0 r.1 (edited edit)) }
         ensures refused { IfErr result (λ r. IsRefused (λ core why. edited_core core edit ≡ Err why) pass r.0 r.1) }
     {
-        self.locked
-            .lock(rt)
-            .edit(alloc, self.cells.as_slice(), pass, edit)
+        self.locked.lock(rt).edit(alloc, &self.cells, pass, edit)
     }
 
     /// The answer to a question. The first question for a pattern is a call of the history, as an edit is. Any other is a
@@ -95,9 +90,7 @@ impl<B: Room> Bench<B> {
         ensures ok { IfOk result (λ r. IsMade pass r.0 r.1 (asked question.now r.2) ⊎ IsLook pass r.0 r.1 question.now r.2) }
         ensures refused { IfErr result (λ r. IsRefused never pass r.0 r.1) }
     {
-        self.locked
-            .lock(rt)
-            .ask(alloc, self.cells.as_slice(), pass, question)
+        self.locked.lock(rt).ask(alloc, &self.cells, pass, question)
     }
 
     /// Keeps a record in the place of the one that its test had, as an edit is made. A record that isn't kept comes back.
@@ -114,7 +107,7 @@ impl<B: Room> Bench<B> {
     {
         self.locked
             .lock(rt)
-            .commit(alloc, self.cells.as_slice(), pass, newest)
+            .commit(alloc, &self.cells, pass, newest)
     }
 
     /// Keeps a live run: its record, and its transcript as that of its test, as an edit is made. Where they aren't kept both
@@ -134,7 +127,7 @@ impl<B: Room> Bench<B> {
     {
         self.locked
             .lock(rt)
-            .commit_live(alloc, self.cells.as_slice(), pass, newest, transcript)
+            .commit_live(alloc, &self.cells, pass, newest, transcript)
     }
 
     /// Reports, as an edit is made. What it answers is what the calls before it give: the sum, or the pending tests.
@@ -147,9 +140,7 @@ impl<B: Room> Bench<B> {
         ensures ok { IfOk result (λ r. IsMade pass r.0 r.1 (reported r.2)) }
         ensures refused { IfErr result (λ r. IsRefused never pass r.0 r.1) }
     {
-        self.locked
-            .lock(rt)
-            .report(alloc, self.cells.as_slice(), pass)
+        self.locked.lock(rt).report(alloc, &self.cells, pass)
     }
 
     /// The tests that workers judge: those of the world which the calls make that the pass has then seen. It is no call of
@@ -192,10 +183,7 @@ impl<B: Room> Bench<B> {
         let Some(note) = &mut receipt.note else {
             return None;
         };
-        match self.cells[number].get_as(note) {
-            Some(place) => Some(&place.call),
-            None => unreachable!(),
-        }
+        Some(&self.cells.place(number, note).call)
     }
 
     /// The history: a legal list of calls, which begins with what the pass has seen. The bench comes back where the pass has

@@ -4,11 +4,13 @@
 
 mod bench;
 mod call;
+mod cells;
 mod client;
 mod history;
 mod law;
 mod locked;
 mod make_gate;
+mod note;
 mod notes;
 mod opened;
 mod pass;
@@ -23,10 +25,12 @@ mod workers;
 
 pub use crate::bench::Bench;
 pub use crate::call::Call;
+pub use crate::cells::{BLOCK, Block, Cells};
 pub use crate::history::History;
 pub use crate::law::{histories_are_runs, sums_are_from_scratch};
 pub use crate::locked::Locked;
 pub use crate::make_gate::{MakeGate, RunTests};
+pub use crate::note::PlaceNote;
 pub use crate::opened::Opened;
 pub use crate::pass::Pass;
 pub use crate::place::Place;

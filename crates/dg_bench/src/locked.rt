@@ -1,6 +1,5 @@
 //! What is under the lock.
 ghost use Rattle.std.specs.Prelude.{ℕ, ◌≡◌, ◌≢◌, ◌<◌, ◌≤◌, [], length, map, false, Ok, Err, Some, None, IfOk, IfErr, OnOk, OnErr, IsSome, MatchOption};
-ghost use Rattle.once_cell.specs.Once.{cell_name};
 ghost use Rattle.dg_core.specs.Core.{new_core, edited_core, committed_live, IsAskedOf};
 ghost use Rattle.dg_core.specs.Reply.{Replies};
 ghost use Rattle.dg_world.specs.World.{look, transcript_of};
@@ -14,10 +13,11 @@ ghost use Rattle.dg_bench.specs.Work.{Lists, Recalls, tests_of};
 ghost use Rattle.dg_bench.specs.declared.call.Call.TheVariants.{Edit as edited, Ask as asked, Commit as committed, Live as lived, Report as reported};
 
 use crate::call::Call;
+use crate::cells::Cells;
 use crate::history::History;
+use crate::note::PlaceNote;
 use crate::notes::{agree, conclude, finish, prepare, whole};
 use crate::pass::Pass;
-use crate::place::Place;
 use crate::receipt::Receipt;
 use crate::refusal::BenchRefusal;
 use crate::room::Room;
@@ -28,7 +28,6 @@ use dg_match::Reading;
 use dg_records::Record;
 use dg_transcript::Transcript;
 use dg_world::{Answer, Edit, Question, Refusal, TestId};
-use once_cell::race::{Note, OnceBox};
 use std::alloc::{AllocError, Global};
 use std::marker::{Model, PhantomData};
 
@@ -37,7 +36,7 @@ use std::marker::{Model, PhantomData};
 pub struct Locked<B: Room> {
     core: Core,
     calls: Vec<Call>,
-    notes: Vec<Note<Place>>,
+    notes: Vec<PlaceNote>,
     stopped: bool,
     of: PhantomData<B>,
 }
@@ -119,18 +118,18 @@ impl<B: Room> Locked<B> {
     }
 
     /// Lets a pass see all calls, or refuses it: also where the history has as many calls as it may have.
-    fn begin(&mut self, limit: usize, pass: Pass<B>) -> Result<Pass<B>, (Pass<B>, BenchRefusal)>
+    fn begin(&mut self, cells: &Cells, pass: Pass<B>) -> Result<Pass<B>, (Pass<B>, BenchRefusal)>
         ensures same { self.new ≡ self.old }
         ensures seen { IfOk result (λ p. SeesAll self.old pass p) }
         ensures running { OnOk result ((self.old.stopped ≡ false) × Makes new_core self.old.calls self.old.core) }
-        ensures room { OnOk result (length self.old.calls < limit) }
-        ensures refused { IfErr result (λ r. Refuses never limit self.old self.new pass r.0 r.1) }
+        ensures room { OnOk result (length self.old.calls < cells.now.limit) }
+        ensures refused { IfErr result (λ r. Refuses never cells.now.limit self.old self.new pass r.0 r.1) }
     {
         let pass = match self.admit(pass) {
             Ok(pass) => pass,
             Err(refused) => return Err(refused),
         };
-        if self.len() >= limit {
+        if self.len() >= cells.limit() {
             return Err((pass, BenchRefusal::HistoryFull));
         }
         Ok(pass)
@@ -142,16 +141,16 @@ impl<B: Room> Locked<B> {
     pub fn edit(
         &mut self,
         alloc: Global,
-        cells: &[OnceBox<Place>],
+        cells: &Cells,
         pass: Pass<B>,
         edit: Edit,
     ) -> Result<(Pass<B>, Receipt<B>), (Pass<B>, BenchRefusal)>
-        requires { map cell_name cells.now ≡ B.names }
-        ensures ok { IfOk result (λ r. Enters (length cells.now) self.old self.new pass r.0 r.1 (edited edit)) }
+        requires { cells.now.names ≡ B.names }
+        ensures ok { IfOk result (λ r. Enters cells.now.limit self.old self.new pass r.0 r.1 (edited edit)) }
         ensures refused { IfErr result
-            (λ r. Refuses (λ core why. edited_core core edit ≡ Err why) (length cells.now) self.old self.new pass r.0 r.1) }
+            (λ r. Refuses (λ core why. edited_core core edit ≡ Err why) cells.now.limit self.old self.new pass r.0 r.1) }
     {
-        let pass = match self.begin(cells.len(), pass) {
+        let pass = match self.begin(cells, pass) {
             Ok(pass) => pass,
             Err(refused) => return Err(refused),
         };
@@ -165,14 +164,14 @@ impl<B: Room> Locked<B> {
     fn make_edit(
         &mut self,
         alloc: Global,
-        cells: &[OnceBox<Place>],
+        cells: &Cells,
         edit: Edit,
     ) -> Result<(Pass<B>, Receipt<B>), BenchRefusal>
-        requires cells { map cell_name cells.now ≡ B.names }
+        requires cells { cells.now.names ≡ B.names }
         requires running { (self.old.stopped ≡ false) × Makes new_core self.old.calls self.old.core }
-        requires room { length self.old.calls < length cells.now }
+        requires room { length self.old.calls < cells.now.limit }
         ensures ok { IfOk result
-            (λ r. Enters (length cells.now) self.old self.new (seen_all self.old.calls) r.0 r.1 (edited edit)) }
+            (λ r. Enters cells.now.limit self.old self.new (seen_all self.old.calls) r.0 r.1 (edited edit)) }
         ensures refused { IfErr result (RefusesBegun (λ core why. edited_core core edit ≡ Err why) self.old self.new) }
     {
         let Ok(call) = Call::of_edit(alloc, &edit) else {
@@ -185,7 +184,7 @@ impl<B: Room> Locked<B> {
             stopped,
             of: _,
         } = self;
-        let Ok(prepared) = prepare(alloc, calls, notes, call) else {
+        let Ok(prepared) = prepare(alloc, cells, calls, notes, call) else {
             return Err(BenchRefusal::Memory);
         };
         match core.edit(alloc, edit) {
@@ -199,14 +198,14 @@ impl<B: Room> Locked<B> {
     pub fn report(
         &mut self,
         alloc: Global,
-        cells: &[OnceBox<Place>],
+        cells: &Cells,
         pass: Pass<B>,
     ) -> Result<(Pass<B>, Receipt<B>, Reply), (Pass<B>, BenchRefusal)>
-        requires { map cell_name cells.now ≡ B.names }
-        ensures ok { IfOk result (λ r. Enters (length cells.now) self.old self.new pass r.0 r.1 (reported r.2)) }
-        ensures refused { IfErr result (λ r. Refuses never (length cells.now) self.old self.new pass r.0 r.1) }
+        requires { cells.now.names ≡ B.names }
+        ensures ok { IfOk result (λ r. Enters cells.now.limit self.old self.new pass r.0 r.1 (reported r.2)) }
+        ensures refused { IfErr result (λ r. Refuses never cells.now.limit self.old self.new pass r.0 r.1) }
     {
-        let pass = match self.begin(cells.len(), pass) {
+        let pass = match self.begin(cells, pass) {
             Ok(pass) => pass,
             Err(refused) => return Err(refused),
         };
@@ -220,13 +219,13 @@ impl<B: Room> Locked<B> {
     fn make_report(
         &mut self,
         alloc: Global,
-        cells: &[OnceBox<Place>],
+        cells: &Cells,
     ) -> Result<(Pass<B>, Receipt<B>, Reply), BenchRefusal>
-        requires cells { map cell_name cells.now ≡ B.names }
+        requires cells { cells.now.names ≡ B.names }
         requires running { (self.old.stopped ≡ false) × Makes new_core self.old.calls self.old.core }
-        requires room { length self.old.calls < length cells.now }
+        requires room { length self.old.calls < cells.now.limit }
         ensures ok { IfOk result
-            (λ r. Enters (length cells.now) self.old self.new (seen_all self.old.calls) r.0 r.1 (reported r.2)) }
+            (λ r. Enters cells.now.limit self.old self.new (seen_all self.old.calls) r.0 r.1 (reported r.2)) }
         ensures refused { IfErr result (RefusesBegun never self.old self.new) }
     {
         let Ok((call, reply)) = self.reply(alloc) else {
@@ -253,14 +252,14 @@ impl<B: Room> Locked<B> {
     fn enter(
         &mut self,
         alloc: Global,
-        cells: &[OnceBox<Place>],
+        cells: &Cells,
         call: Call,
     ) -> Result<(Pass<B>, Receipt<B>), BenchRefusal>
-        requires cells { map cell_name cells.now ≡ B.names }
+        requires cells { cells.now.names ≡ B.names }
         requires running { (self.old.stopped ≡ false) × Makes new_core self.old.calls self.old.core }
-        requires room { length self.old.calls < length cells.now }
+        requires room { length self.old.calls < cells.now.limit }
         requires step { Steps self.old.core call self.old.core }
-        ensures ok { IfOk result (λ r. Enters (length cells.now) self.old self.new (seen_all self.old.calls) r.0 r.1 call) }
+        ensures ok { IfOk result (λ r. Enters cells.now.limit self.old self.new (seen_all self.old.calls) r.0 r.1 call) }
         ensures refused { IfErr result (RefusesBegun never self.old self.new) }
     {
         let Locked {
@@ -270,7 +269,7 @@ impl<B: Room> Locked<B> {
             stopped,
             of: _,
         } = self;
-        let Ok(prepared) = prepare(alloc, calls, notes, call) else {
+        let Ok(prepared) = prepare(alloc, cells, calls, notes, call) else {
             return Err(BenchRefusal::Memory);
         };
         finish(calls, notes, stopped, cells, prepared)
@@ -280,16 +279,16 @@ impl<B: Room> Locked<B> {
     pub fn commit(
         &mut self,
         alloc: Global,
-        cells: &[OnceBox<Place>],
+        cells: &Cells,
         pass: Pass<B>,
         newest: Record,
     ) -> Result<(Pass<B>, Receipt<B>), (Pass<B>, Record, BenchRefusal)>
-        requires { map cell_name cells.now ≡ B.names }
-        ensures ok { IfOk result (λ r. Enters (length cells.now) self.old self.new pass r.0 r.1 (committed newest)) }
-        ensures refused { IfErr result (λ r. Refuses never (length cells.now) self.old self.new pass r.0 r.2) }
+        requires { cells.now.names ≡ B.names }
+        ensures ok { IfOk result (λ r. Enters cells.now.limit self.old self.new pass r.0 r.1 (committed newest)) }
+        ensures refused { IfErr result (λ r. Refuses never cells.now.limit self.old self.new pass r.0 r.2) }
         ensures back { IfErr result (λ r. r.1 ≡ newest) }
     {
-        let pass = match self.begin(cells.len(), pass) {
+        let pass = match self.begin(cells, pass) {
             Ok(pass) => pass,
             Err((pass, refusal)) => return Err((pass, newest, refusal)),
         };
@@ -303,14 +302,14 @@ impl<B: Room> Locked<B> {
     fn make_commit(
         &mut self,
         alloc: Global,
-        cells: &[OnceBox<Place>],
+        cells: &Cells,
         newest: Record,
     ) -> Result<(Pass<B>, Receipt<B>), (Record, BenchRefusal)>
-        requires cells { map cell_name cells.now ≡ B.names }
+        requires cells { cells.now.names ≡ B.names }
         requires running { (self.old.stopped ≡ false) × Makes new_core self.old.calls self.old.core }
-        requires room { length self.old.calls < length cells.now }
+        requires room { length self.old.calls < cells.now.limit }
         ensures ok { IfOk result
-            (λ r. Enters (length cells.now) self.old self.new (seen_all self.old.calls) r.0 r.1 (committed newest)) }
+            (λ r. Enters cells.now.limit self.old self.new (seen_all self.old.calls) r.0 r.1 (committed newest)) }
         ensures refused { IfErr result (λ r. RefusesBegun never self.old self.new r.1) }
         ensures back { IfErr result (λ r. r.0 ≡ newest) }
     {
@@ -326,7 +325,7 @@ impl<B: Room> Locked<B> {
             stopped,
             of: _,
         } = self;
-        let Ok(prepared) = prepare(alloc, calls, notes, call) else {
+        let Ok(prepared) = prepare(alloc, cells, calls, notes, call) else {
             return Err((newest, BenchRefusal::Memory));
         };
         match core.commit(alloc, newest) {
@@ -344,18 +343,18 @@ impl<B: Room> Locked<B> {
     pub fn commit_live(
         &mut self,
         alloc: Global,
-        cells: &[OnceBox<Place>],
+        cells: &Cells,
         pass: Pass<B>,
         newest: Record,
         transcript: Transcript,
     ) -> Result<(Pass<B>, Receipt<B>), (Pass<B>, Record, Transcript, BenchRefusal)>
-        requires { map cell_name cells.now ≡ B.names }
-        ensures ok { IfOk result (λ r. Enters (length cells.now) self.old self.new pass r.0 r.1 (lived newest transcript)) }
+        requires { cells.now.names ≡ B.names }
+        ensures ok { IfOk result (λ r. Enters cells.now.limit self.old self.new pass r.0 r.1 (lived newest transcript)) }
         ensures refused { IfErr result (λ r. Refuses (λ core why. committed_live core newest transcript ≡ Err why)
-            (length cells.now) self.old self.new pass r.0 r.3) }
+            cells.now.limit self.old self.new pass r.0 r.3) }
         ensures back { IfErr result (λ r. (r.1 ≡ newest) × (r.2 ≡ transcript)) }
     {
-        let pass = match self.begin(cells.len(), pass) {
+        let pass = match self.begin(cells, pass) {
             Ok(pass) => pass,
             Err((pass, refusal)) => return Err((pass, newest, transcript, refusal)),
         };
@@ -369,15 +368,15 @@ impl<B: Room> Locked<B> {
     fn make_live(
         &mut self,
         alloc: Global,
-        cells: &[OnceBox<Place>],
+        cells: &Cells,
         newest: Record,
         transcript: Transcript,
     ) -> Result<(Pass<B>, Receipt<B>), (Record, Transcript, BenchRefusal)>
-        requires cells { map cell_name cells.now ≡ B.names }
+        requires cells { cells.now.names ≡ B.names }
         requires running { (self.old.stopped ≡ false) × Makes new_core self.old.calls self.old.core }
-        requires room { length self.old.calls < length cells.now }
+        requires room { length self.old.calls < cells.now.limit }
         ensures ok { IfOk result
-            (λ r. Enters (length cells.now) self.old self.new (seen_all self.old.calls) r.0 r.1 (lived newest transcript)) }
+            (λ r. Enters cells.now.limit self.old self.new (seen_all self.old.calls) r.0 r.1 (lived newest transcript)) }
         ensures refused { IfErr result
             (λ r. RefusesBegun (λ core why. committed_live core newest transcript ≡ Err why) self.old self.new r.2) }
         ensures back { IfErr result (λ r. (r.0 ≡ newest) × (r.1 ≡ transcript)) }
@@ -394,7 +393,7 @@ impl<B: Room> Locked<B> {
             stopped,
             of: _,
         } = self;
-        let Ok(prepared) = prepare(alloc, calls, notes, call) else {
+        let Ok(prepared) = prepare(alloc, cells, calls, notes, call) else {
             return Err((newest, transcript, BenchRefusal::Memory));
         };
         match core.commit_live(alloc, newest, transcript) {
@@ -428,15 +427,15 @@ impl<B: Room> Locked<B> {
     pub fn ask(
         &mut self,
         alloc: Global,
-        cells: &[OnceBox<Place>],
+        cells: &Cells,
         pass: Pass<B>,
         question: &Question,
     ) -> Result<(Pass<B>, Receipt<B>, Answer), (Pass<B>, BenchRefusal)>
-        requires { map cell_name cells.now ≡ B.names }
+        requires { cells.now.names ≡ B.names }
         ensures ok { IfOk result (λ r. MatchOption (look self.old.core.world question.now)
-            (Enters (length cells.now) self.old self.new pass r.0 r.1 (asked question.now r.2))
+            (Enters cells.now.limit self.old self.new pass r.0 r.1 (asked question.now r.2))
             (λ _. Looks self.old self.new pass r.0 r.1 question.now r.2)) }
-        ensures refused { IfErr result (λ r. Refuses never (length cells.now) self.old self.new pass r.0 r.1) }
+        ensures refused { IfErr result (λ r. Refuses never cells.now.limit self.old self.new pass r.0 r.1) }
         ensures not_full { IfErr result
             (λ r. IsSome (look self.old.core.world question.now) → self.old.stopped ≡ false → r.1 ≢ HistoryFull) }
     {
@@ -521,16 +520,16 @@ impl<B: Room> Locked<B> {
     fn ask_first(
         &mut self,
         alloc: Global,
-        cells: &[OnceBox<Place>],
+        cells: &Cells,
         pass: Pass<B>,
         question: &Question,
     ) -> Result<(Pass<B>, Receipt<B>, Answer), (Pass<B>, BenchRefusal)>
-        requires cells { map cell_name cells.now ≡ B.names }
+        requires cells { cells.now.names ≡ B.names }
         requires first { look self.old.core.world question.now ≡ None }
-        ensures ok { IfOk result (λ r. Enters (length cells.now) self.old self.new pass r.0 r.1 (asked question.now r.2)) }
-        ensures refused { IfErr result (λ r. Refuses never (length cells.now) self.old self.new pass r.0 r.1) }
+        ensures ok { IfOk result (λ r. Enters cells.now.limit self.old self.new pass r.0 r.1 (asked question.now r.2)) }
+        ensures refused { IfErr result (λ r. Refuses never cells.now.limit self.old self.new pass r.0 r.1) }
     {
-        let pass = match self.begin(cells.len(), pass) {
+        let pass = match self.begin(cells, pass) {
             Ok(pass) => pass,
             Err(refused) => return Err(refused),
         };
@@ -544,14 +543,14 @@ impl<B: Room> Locked<B> {
     fn make_ask(
         &mut self,
         alloc: Global,
-        cells: &[OnceBox<Place>],
+        cells: &Cells,
         question: &Question,
     ) -> Result<(Pass<B>, Receipt<B>, Reading), BenchRefusal>
-        requires cells { map cell_name cells.now ≡ B.names }
+        requires cells { cells.now.names ≡ B.names }
         requires running { (self.old.stopped ≡ false) × Makes new_core self.old.calls self.old.core }
-        requires room { length self.old.calls < length cells.now }
+        requires room { length self.old.calls < cells.now.limit }
         requires first { look self.old.core.world question.now ≡ None }
-        ensures ok { IfOk result (λ r. Enters (length cells.now) self.old self.new (seen_all self.old.calls) r.0 r.1
+        ensures ok { IfOk result (λ r. Enters cells.now.limit self.old self.new (seen_all self.old.calls) r.0 r.1
             (asked question.now (read_as r.2))) }
         ensures refused { IfErr result (RefusesBegun never self.old self.new) }
     {
@@ -565,7 +564,7 @@ impl<B: Room> Locked<B> {
             stopped,
             of: _,
         } = self;
-        let Ok(mut prepared) = prepare(alloc, calls, notes, call) else {
+        let Ok(mut prepared) = prepare(alloc, cells, calls, notes, call) else {
             return Err(BenchRefusal::Memory);
         };
         let Ok(reading) = read_first(core, alloc, question) else {

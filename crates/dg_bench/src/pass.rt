@@ -2,9 +2,8 @@
 ghost use Rattle.std.specs.Prelude.{◌≡◌, [], length, true, false};
 ghost use Rattle.dg_bench.specs.Seen.{seen_of, IsSeen};
 
-use crate::place::Place;
+use crate::note::PlaceNote;
 use crate::room::Room;
-use once_cell::race::Note;
 use std::marker::{Model, PhantomData};
 
 /// A beginning of the history that was seen. Contracts see it as a `Seen`: the calls, how many they are, and whether it is
@@ -13,7 +12,7 @@ use std::marker::{Model, PhantomData};
 pub struct Pass<B: Room> {
     pub(crate) count: usize,
     pub(crate) ours: bool,
-    pub(crate) note: Option<Note<Place>>,
+    pub(crate) note: Option<PlaceNote>,
     pub(crate) of: PhantomData<B>,
 }
 
@@ -29,7 +28,7 @@ impl<B: Room> Model for Pass<B> {
 
 impl<B: Room> Pass<B> {
     /// A pass of this bench that has seen so many calls, of which a note knows the last.
-    pub(crate) fn of_note(count: usize, note: Option<Note<Place>>) -> Pass<B>
+    pub(crate) fn of_note(count: usize, note: Option<PlaceNote>) -> Pass<B>
         requires { IsSeen B.names true count note }
         ensures { result ≡ seen_of true count note }
     {
@@ -76,7 +75,7 @@ impl<B: Room> Pass<B> {
 }
 
 /// Another note that knows the same.
-fn again(note: &mut Option<Note<Place>>) -> Option<Note<Place>>
+fn again(note: &mut Option<PlaceNote>) -> Option<PlaceNote>
     ensures { (note.new ≡ note.old) × (result ≡ note.old) }
 {
     match note {

@@ -6,8 +6,10 @@ ghost use Rattle.dg_world.specs.declared.question.Answer.{Answer as Answered};
 ghost use Rattle.dg_world.specs.declared.question.Answer.TheVariants.{Reading as read_as};
 
 use crate::call::Call;
+use crate::cells::Block;
 use crate::place::Place;
 use dg_match::Reading;
+use once_cell::race::Note;
 use std::alloc::{AllocError, Global};
 use std::snapshot::Snapshot;
 
@@ -15,11 +17,16 @@ use std::snapshot::Snapshot;
 pub(crate) struct Prepared {
     pub(crate) call: Call,
     pub(crate) place: Box<Place>,
+    pub(crate) block: Note<Block>,
 }
 
 impl Drop for Prepared {
     fn drop(self) {
-        let Prepared { call: _, place: _ } = self;
+        let Prepared {
+            call: _,
+            place: _,
+            block: _,
+        } = self;
     }
 }
 
@@ -40,27 +47,29 @@ fn place_of(
 }
 
 impl Prepared {
-    /// A call, and a place for it behind these calls.
+    /// A call, and what goes into its place behind these calls, which stands in this block.
     pub(crate) fn of(
         alloc: Global,
         call: Call,
         before: Snapshot<Vec<Call>>,
+        block: Note<Block>,
     ) -> Result<Prepared, AllocError>
         ensures call { IfOk result (λ p. (p.call ≡ call) × (p.place.value.call ≡ call)) }
         ensures before { IfOk result (λ p. p.place.value.before ≡ before) }
+        ensures block { IfOk result (λ p. p.block ≡ block) }
     {
         match place_of(alloc, &call, before) {
-            Ok(place) => Ok(Prepared { call, place }),
+            Ok(place) => Ok(Prepared { call, place, block }),
             Err(_) => Err(AllocError),
         }
     }
 
-    /// The call, and what goes into its place.
-    pub(crate) fn into_parts(self) -> (Call, Box<Place>)
-        ensures { (result.0 ≡ self.call) × (result.1 ≡ self.place) }
+    /// The call, what goes into its place, and the note of the block.
+    pub(crate) fn into_parts(self) -> (Call, Box<Place>, Note<Block>)
+        ensures { (result.0 ≡ self.call) × (result.1 ≡ self.place) × (result.2 ≡ self.block) }
     {
-        let Prepared { call, place } = self;
-        (call, place)
+        let Prepared { call, place, block } = self;
+        (call, place, block)
     }
 
     /// Writes how a pattern is read into the call that asks for it, and into its place.
@@ -71,6 +80,7 @@ impl Prepared {
             asked question (read_as reading) }
         ensures place { self.new.place.value.call ≡ self.new.call }
         ensures before { self.new.place.value.before ≡ self.old.place.value.before }
+        ensures block { self.new.block ≡ self.old.block }
     {
         self.call.tell(reading);
         self.place.call.tell(reading);

@@ -2,9 +2,8 @@
 ghost use Rattle.std.specs.Prelude.{◌≡◌, Some};
 ghost use Rattle.dg_bench.specs.Seen.{told_of, IsTold, front};
 
-use crate::place::Place;
+use crate::note::PlaceNote;
 use crate::room::Room;
-use once_cell::race::Note;
 use std::marker::{Model, PhantomData};
 
 /// The place of a call, or how many calls there were at a look. Contracts see it as a `Told`: the number, and the call that
@@ -12,7 +11,7 @@ use std::marker::{Model, PhantomData};
 #[derive(Drop)]
 pub struct Receipt<B: Room> {
     pub(crate) number: usize,
-    pub(crate) note: Option<Note<Place>>,
+    pub(crate) note: Option<PlaceNote>,
     pub(crate) of: PhantomData<B>,
 }
 
@@ -28,7 +27,7 @@ impl<B: Room> Model for Receipt<B> {
 
 impl<B: Room> Receipt<B> {
     /// Of a call at this place, which a note knows.
-    pub(crate) fn of_note(number: usize, note: Note<Place>) -> Receipt<B>
+    pub(crate) fn of_note(number: usize, note: PlaceNote) -> Receipt<B>
         requires { IsTold B.names number (Some note) }
         ensures { result ≡ told_of number (Some note) }
     {

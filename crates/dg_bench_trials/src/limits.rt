@@ -1,10 +1,9 @@
 //! A bench at its limit, and a pass of another bench.
-ghost use Rattle.std.specs.Prelude.{◌≡◌, map};
-ghost use Rattle.once_cell.specs.Once.{cell_name};
+ghost use Rattle.std.specs.Prelude.{◌≡◌};
 
 use crate::replies::{of_file, put};
 use crate::twins::judge;
-use dg_bench::{Bench, BenchRefusal, Opened, Pass, Room};
+use dg_bench::{Bench, BenchRefusal, Call, Opened, Pass, Room};
 use dg_bytes::Bytes;
 use dg_world::{Answer, Edit, Refusal};
 use std::alloc::Global;
@@ -66,6 +65,41 @@ pub fn is_full<B: Room, R: Wait>(rt: &R, alloc: Global, bench: Bench<B>) -> Opti
     )
 }
 
+/// The pass, where a file that is put is the call of this number, and its receipt tells it.
+fn is_told<B: Room, R: Wait>(
+    rt: &R,
+    alloc: Global,
+    bench: &Bench<B>,
+    pass: Pass<B>,
+    number: u32,
+) -> Option<Pass<B>> {
+    let text = number.to_be_bytes();
+    let edit = put(alloc, b"t/a.exp", &text).ok()?;
+    let (pass, mut receipt) = bench.edit(rt, alloc, pass, edit).ok()?;
+    let Some(Call::Edit(Edit::PutFile(_, told))) = bench.call_at(&mut receipt) else {
+        return None;
+    };
+    if told.as_slice() == text.as_slice() && receipt.number() == number as usize {
+        Some(pass)
+    } else {
+        None
+    }
+}
+
+/// How many calls fill two blocks of a history, and a part of the third.
+pub const SOME_BLOCKS: usize = 1_100;
+
+/// Whether a bench with room for so many calls takes each of them, whose receipt tells it, and no more.
+pub fn fills_blocks<B: Room, R: Wait>(rt: &R, alloc: Global, bench: Bench<B>) -> Option<bool> {
+    let mut pass = bench.pass();
+    for number in 0..SOME_BLOCKS as u32 {
+        pass = is_told(rt, alloc, &bench, pass, number)?;
+    }
+    let mut pass = refused(rt, alloc, &bench, pass, BenchRefusal::HistoryFull)?;
+    let history = bench.into_history(&mut pass).ok()?;
+    Some(history.calls().len() == SOME_BLOCKS)
+}
+
 /// Whether a pass that has seen more calls than there are is refused, and comes back as it was.
 pub fn is_shorter<A: Room, B: Room, R: Wait>(
     rt: &R,
@@ -73,8 +107,8 @@ pub fn is_shorter<A: Room, B: Room, R: Wait>(
     one: Opened,
     other: Opened,
 ) -> Option<bool>
-    requires one { map cell_name one.cells.items ≡ A.names }
-    requires other { map cell_name other.cells.items ≡ B.names }
+    requires one { one.cells.names ≡ A.names }
+    requires other { other.cells.names ≡ B.names }
 {
     let here = one.named::<A>(alloc).ok()?;
     let there = other.named::<B>(alloc).ok()?;

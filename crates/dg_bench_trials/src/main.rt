@@ -2,8 +2,7 @@
 //! it has to. No line depends on how threads run.
 #![tactic(auto)]
 
-ghost use Rattle.std.specs.Prelude.{◌≡◌, ◌<◌, ◌≤◌, map};
-ghost use Rattle.once_cell.specs.Once.{cell_name};
+ghost use Rattle.std.specs.Prelude.{◌≡◌, ◌<◌, ◌≤◌};
 
 mod callers;
 mod edits;
@@ -15,6 +14,7 @@ mod turns;
 mod twins;
 mod working;
 
+use crate::limits::SOME_BLOCKS;
 use anyhow::Result;
 use dg_bench::{Opened, Room};
 use std::alloc::Global;
@@ -34,6 +34,8 @@ enum Case {
     Three,
     /// A bench is full.
     Full,
+    /// A history fills several blocks of cells.
+    Blocks,
     /// Workers judge what is pending, and then there is nothing to do.
     Rejudge,
     /// Workers run all tests over gates that answer from lists.
@@ -47,11 +49,12 @@ enum Case {
 }
 
 /// The cases, each with its name.
-const CASES: [(&str, Case); 10] = [
+const CASES: [(&str, Case); 11] = [
     ("edits", Case::Edits),
     ("twin", Case::Twin),
     ("callers and workers", Case::Three),
     ("full", Case::Full),
+    ("blocks", Case::Blocks),
     ("rejudge", Case::Rejudge),
     ("live", Case::Live),
     ("a failed send", Case::Failing),
@@ -68,6 +71,7 @@ impl Case {
         match self {
             Case::Edits => 200,
             Case::Full => 2,
+            Case::Blocks => SOME_BLOCKS,
             _ => 64,
         }
     }
@@ -89,7 +93,7 @@ fn try_case<B: Room + Send + Sync, R: Threads + Wait + Clock + Sync>(
     case: Case,
     seed: u64,
 ) -> Option<bool>
-    requires { map cell_name opened.cells.items ≡ B.names }
+    requires { opened.cells.names ≡ B.names }
 {
     let bench = opened.named::<B>(alloc).ok()?;
     match case {
@@ -97,6 +101,7 @@ fn try_case<B: Room + Send + Sync, R: Threads + Wait + Clock + Sync>(
         Case::Twin => twins::is_reported(rt, alloc, bench),
         Case::Three => callers::are_told(rt, alloc, bench, seed),
         Case::Full => limits::is_full(rt, alloc, bench),
+        Case::Blocks => limits::fills_blocks(rt, alloc, bench),
         Case::Rejudge => working::rejudges(rt, alloc, bench),
         Case::Live => working::runs_live(rt, alloc, bench),
         Case::Failing => working::keeps_failures(rt, alloc, bench),

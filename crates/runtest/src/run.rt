@@ -1,6 +1,5 @@
 //! A run over a suite's folders.
-ghost use Rattle.std.specs.Prelude.{◌≡◌, map, IfOk, OnOk};
-ghost use Rattle.once_cell.specs.Once.{cell_name};
+ghost use Rattle.std.specs.Prelude.{◌≡◌, IfOk, OnOk};
 ghost use Rattle.dg_core.specs.declared.reply.Reply.TheVariants.{Sum};
 ghost use Rattle.dg_bench.specs.Work.{IsReported};
 ghost use Rattle.runtest.specs.Runs.{HasSelected, KeepsSelected, IsRun};
@@ -246,7 +245,7 @@ where
         + Send
         + Sync
         + 'static,
-    requires { map cell_name opened.cells.items ≡ B.names }
+    requires { opened.cells.names ≡ B.names }
     ensures { IfOk result (λ o. IsRun plan.selection o.report o.status) }
 {
     let alloc = rt.alloc();

@@ -1,8 +1,14 @@
 use Rattle.std.proofs.Common.{◌≤◌, length, ◌≡◌, ◌-◌, refl, sym, ap, ◌∙◌, subst, true}
 use mathlib.Core.List.{IsPrefix}
 use Rattle.dg_bench.specs.Seen.{calls_of, Seen, IsSeen}
-use Rattle.dg_bench.proofs.Places.{agreed}
+use Rattle.dg_bench.proofs.Places.{agreed, seen_by_both}
 use Rattle.dg_bench.proofs.notes.agree.Goals as goal
+
+pub compare_at-requires-clause-known : goal.compare_at-requires-clause-known
+compare_at-requires-clause-known g c =
+    let mine : c.pass.inside.ours ≡ true = c.if-not-ours.false in
+    let seen = subst (λ n. IsSeen g.B.Room.names c.pass.inside.ours c.pass.inside.count n) c.in-Some.is c.pass.invariant mine in
+    seen_by_both g.B.Room.names c.args.notes.now.items c.args.calls.now.items c.pass.inside.count c.in-Some.note (c.pass.inside.count - 1) c.requires.all seen.0 refl
 
 pub returns-in-Some-clause-begins : goal.returns-in-Some-clause-begins
 returns-in-Some-clause-begins g c ours =

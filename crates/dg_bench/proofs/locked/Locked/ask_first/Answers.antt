@@ -1,4 +1,4 @@
-use Rattle.std.proofs.Common.{◌≡◌, false, length, sym, subst}
+use Rattle.std.proofs.Common.{◌≡◌, false, sym, subst}
 use Rattle.dg_core.specs.Core.{new_core}
 use Rattle.dg_world.specs.World.{look}
 use Rattle.dg_world.specs.declared.question.Answer.TheVariants.{Reading as read_as}
@@ -19,10 +19,10 @@ make_ask-requires-clause-first g c = subst (λ (k : Kept). look k.core.world c.a
 
 pub returns-in-Ok-make_ask-clause-ok : goal.returns-in-Ok-make_ask-clause-ok
 returns-in-Ok-make_ask-clause-ok g c =
-    entered_later (length c.args.cells.now) c.args.self.now c.begin.new.self c.make_ask.new.self c.args.pass c.in-Ok.pass c.in-Ok-make_ask.seen c.in-Ok-make_ask.receipt (asked c.args.question.now (read_as c.in-Ok-make_ask.reading)) c.begin.ensures.same
+    entered_later c.args.cells.now.limit c.args.self.now c.begin.new.self c.make_ask.new.self c.args.pass c.in-Ok.pass c.in-Ok-make_ask.seen c.in-Ok-make_ask.receipt (asked c.args.question.now (read_as c.in-Ok-make_ask.reading)) c.begin.ensures.same
     c.in-Ok.ensures.seen c.in-Ok-make_ask.ensures.ok
 
 pub returns-in-Err-make_ask-clause-refused : goal.returns-in-Err-make_ask-clause-refused
 returns-in-Err-make_ask-clause-refused g c =
-    refused_begun never (length c.args.cells.now) c.args.self.now c.begin.new.self c.make_ask.new.self c.args.pass c.in-Ok.pass c.in-Err-make_ask.refusal
+    refused_begun never c.args.cells.now.limit c.args.self.now c.begin.new.self c.make_ask.new.self c.args.pass c.in-Ok.pass c.in-Err-make_ask.refusal
     c.begin.ensures.same c.in-Ok.ensures.seen c.in-Ok.ensures.running c.in-Ok.ensures.room c.in-Err-make_ask.ensures.refused

@@ -1,4 +1,4 @@
-use Rattle.std.proofs.Common.{◌≡◌, false, length, sym, subst}
+use Rattle.std.proofs.Common.{◌≡◌, false, sym, subst}
 use Rattle.dg_core.specs.Core.{new_core}
 use Rattle.dg_bench.specs.declared.call.Call.TheVariants.{Commit as committed}
 use Rattle.dg_bench.specs.History.{Makes}
@@ -13,10 +13,10 @@ make_commit-requires-clause-running g c =
 
 pub returns-in-Ok-make_commit-clause-ok : goal.returns-in-Ok-make_commit-clause-ok
 returns-in-Ok-make_commit-clause-ok g c =
-    entered_later (length c.args.cells.now) c.args.self.now c.begin.new.self c.make_commit.new.self c.args.pass c.in-Ok.pass c.in-Ok-make_commit.made.0 c.in-Ok-make_commit.made.1 (committed c.args.newest) c.begin.ensures.same
+    entered_later c.args.cells.now.limit c.args.self.now c.begin.new.self c.make_commit.new.self c.args.pass c.in-Ok.pass c.in-Ok-make_commit.made.0 c.in-Ok-make_commit.made.1 (committed c.args.newest) c.begin.ensures.same
     c.in-Ok.ensures.seen c.in-Ok-make_commit.ensures.ok
 
 pub returns-in-Err-make_commit-clause-refused : goal.returns-in-Err-make_commit-clause-refused
 returns-in-Err-make_commit-clause-refused g c =
-    refused_begun never (length c.args.cells.now) c.args.self.now c.begin.new.self c.make_commit.new.self c.args.pass c.in-Ok.pass c.in-Err-make_commit.refusal
+    refused_begun never c.args.cells.now.limit c.args.self.now c.begin.new.self c.make_commit.new.self c.args.pass c.in-Ok.pass c.in-Err-make_commit.refusal
     c.begin.ensures.same c.in-Ok.ensures.seen c.in-Ok.ensures.running c.in-Ok.ensures.room c.in-Err-make_commit.ensures.refused

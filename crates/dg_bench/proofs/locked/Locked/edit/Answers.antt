@@ -1,4 +1,4 @@
-use Rattle.std.proofs.Common.{◌≡◌, false, length, sym, subst}
+use Rattle.std.proofs.Common.{◌≡◌, false, sym, subst}
 use Rattle.std.specs.Prelude.{Err}
 use Rattle.dg_core.specs.Core.{new_core, edited_core}
 use Rattle.dg_bench.specs.declared.call.Call.TheVariants.{Edit as edited}
@@ -13,10 +13,10 @@ make_edit-requires-clause-running g c =
 
 pub returns-in-Ok-make_edit-clause-ok : goal.returns-in-Ok-make_edit-clause-ok
 returns-in-Ok-make_edit-clause-ok g c =
-    entered_later (length c.args.cells.now) c.args.self.now c.begin.new.self c.make_edit.new.self c.args.pass c.in-Ok.pass c.in-Ok-make_edit.made.0 c.in-Ok-make_edit.made.1 (edited c.args.edit) c.begin.ensures.same
+    entered_later c.args.cells.now.limit c.args.self.now c.begin.new.self c.make_edit.new.self c.args.pass c.in-Ok.pass c.in-Ok-make_edit.made.0 c.in-Ok-make_edit.made.1 (edited c.args.edit) c.begin.ensures.same
     c.in-Ok.ensures.seen c.in-Ok-make_edit.ensures.ok
 
 pub returns-in-Err-make_edit-clause-refused : goal.returns-in-Err-make_edit-clause-refused
 returns-in-Err-make_edit-clause-refused g c =
-    refused_begun (λ core why. edited_core core c.args.edit ≡ Err why) (length c.args.cells.now) c.args.self.now c.begin.new.self c.make_edit.new.self c.args.pass c.in-Ok.pass c.in-Err-make_edit.refusal
+    refused_begun (λ core why. edited_core core c.args.edit ≡ Err why) c.args.cells.now.limit c.args.self.now c.begin.new.self c.make_edit.new.self c.args.pass c.in-Ok.pass c.in-Err-make_edit.refusal
     c.begin.ensures.same c.in-Ok.ensures.seen c.in-Ok.ensures.running c.in-Ok.ensures.room c.in-Err-make_edit.ensures.refused

@@ -1,4 +1,4 @@
-use Rattle.std.proofs.Common.{◌≡◌, length, sym, subst}
+use Rattle.std.proofs.Common.{◌≡◌, sym, subst}
 use Rattle.dg_bench.specs.History.{Steps}
 use Rattle.dg_bench.specs.Seen.{Kept}
 use Rattle.dg_bench.specs.Refusals.{never}
@@ -19,7 +19,7 @@ invariant_of-self-2 g c =
 
 pub returns-clause-ok : goal.returns-clause-ok
 returns-clause-ok g c =
-    enters_finished (length c.args.cells.now) c.args.self.now c.self.inside.core c.self.inside.core c.self.inside.calls.items c.prepare.new.calls.items c.finish.new.calls.items c.self.inside.stopped
+    enters_finished c.args.cells.now.limit c.args.self.now c.self.inside.core c.self.inside.core c.self.inside.calls.items c.prepare.new.calls.items c.finish.new.calls.items c.self.inside.stopped
     c.finish.new.stopped c.in-Ok.prepared.call c.args.call c.finish.result c.self.view_is c.requires.running c.requires.room c.in-Ok.ensures.calls (c.in-Ok.ensures.call.0) (subst (λ (k : Kept). Steps k.core c.args.call k.core) (sym c.self.view_is) c.requires.step)
     c.finish.ensures.calls c.finish.ensures.pass c.finish.ensures.receipt c.finish.ensures.running
 

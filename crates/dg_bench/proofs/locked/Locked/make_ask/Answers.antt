@@ -31,7 +31,7 @@ pub returns-in-Ok-finish-clause-ok : goal.returns-in-Ok-finish-clause-ok
 returns-in-Ok-finish-clause-ok g c =
     let same : c.tell.new.self.call ≡ asked c.args.question.now (read_as c.in-Ok-read_first.reading) = c.tell.ensures.call c.args.question.now Absent (c.in-Ok-prepare.ensures.call.0 ∙ c.in-Ok.ensures) in
     let none : look c.self.inside.core.world c.args.question.now ≡ None = ap (λ (k : Kept). look k.core.world c.args.question.now) c.self.view_is ∙ c.requires.first in
-    enters (length c.args.cells.now) c.args.self.now c.self.inside.core c.read_first.new.core c.self.inside.calls.items c.finish.new.calls.items c.self.inside.stopped c.finish.new.stopped c.in-Ok-finish.pass c.in-Ok-finish.receipt c.tell.new.self.call (asked c.args.question.now (read_as c.in-Ok-read_first.reading))
+    enters c.args.cells.now.limit c.args.self.now c.self.inside.core c.read_first.new.core c.self.inside.calls.items c.finish.new.calls.items c.self.inside.stopped c.finish.new.stopped c.in-Ok-finish.pass c.in-Ok-finish.receipt c.tell.new.self.call (asked c.args.question.now (read_as c.in-Ok-read_first.reading))
     c.self.view_is c.requires.running c.requires.room same (none, c.in-Ok-read_first.ensures.ok) (c.in-Ok-finish.ensures.calls ∙ ap (λ xs. xs ++ c.tell.new.self.call ∷ []) c.in-Ok-prepare.ensures.calls)
     (c.in-Ok-finish.ensures.pass ∙ ap (λ xs. seen_all (xs ++ c.tell.new.self.call ∷ [])) c.in-Ok-prepare.ensures.calls) (c.in-Ok-finish.ensures.receipt ∙ ap (λ xs. called (length xs) c.tell.new.self.call) c.in-Ok-prepare.ensures.calls) c.in-Ok-finish.ensures.running
 

@@ -25,7 +25,7 @@ invariant_of-self-in-Err-conclude g c =
 pub returns-in-Ok-conclude-clause-ok : goal.returns-in-Ok-conclude-clause-ok
 returns-in-Ok-conclude-clause-ok g c =
     let same : c.in-Ok-prepare.prepared.call ≡ committed c.args.newest = c.in-Ok-prepare.ensures.call.0 ∙ c.in-Ok.ensures in
-    enters (length c.args.cells.now) c.args.self.now c.self.inside.core c.commit.new.self c.self.inside.calls.items c.conclude.new.calls.items c.self.inside.stopped c.conclude.new.stopped c.in-Ok-conclude.made.0 c.in-Ok-conclude.made.1 c.in-Ok-prepare.prepared.call (committed c.args.newest)
+    enters c.args.cells.now.limit c.args.self.now c.self.inside.core c.commit.new.self c.self.inside.calls.items c.conclude.new.calls.items c.self.inside.stopped c.conclude.new.stopped c.in-Ok-conclude.made.0 c.in-Ok-conclude.made.1 c.in-Ok-prepare.prepared.call (committed c.args.newest)
     c.self.view_is c.requires.running c.requires.room same (c.verdict-lines.ensures.is_true, c.in-Ok-commit.ensures.ok) (c.in-Ok-conclude.ensures.calls ∙ ap (λ xs. xs ++ c.in-Ok-prepare.prepared.call ∷ []) c.in-Ok-prepare.ensures.calls)
     (c.in-Ok-conclude.ensures.pass ∙ ap (λ xs. seen_all (xs ++ c.in-Ok-prepare.prepared.call ∷ [])) c.in-Ok-prepare.ensures.calls) (c.in-Ok-conclude.ensures.receipt ∙ ap (λ xs. called (length xs) c.in-Ok-prepare.prepared.call) c.in-Ok-prepare.ensures.calls) c.in-Ok-conclude.ensures.running
 

@@ -1,4 +1,4 @@
-use Rattle.std.proofs.Common.{◌≡◌, length, ◌∙◌}
+use Rattle.std.proofs.Common.{◌≡◌, ◌∙◌}
 use Rattle.std.specs.Prelude.{Err}
 use Rattle.dg_core.specs.Core.{edited_core}
 use Rattle.dg_bench.specs.declared.call.Call.TheVariants.{Edit as edited}
@@ -19,7 +19,7 @@ invariant_of-self-in-Ok-edit g c =
 
 pub returns-in-Ok-edit-clause-ok : goal.returns-in-Ok-edit-clause-ok
 returns-in-Ok-edit-clause-ok g c =
-    enters_finished (length c.args.cells.now) c.args.self.now c.self.inside.core c.edit.new.self c.self.inside.calls.items c.prepare.new.calls.items c.finish.new.calls.items c.self.inside.stopped
+    enters_finished c.args.cells.now.limit c.args.self.now c.self.inside.core c.edit.new.self c.self.inside.calls.items c.prepare.new.calls.items c.finish.new.calls.items c.self.inside.stopped
     c.finish.new.stopped c.in-Ok-prepare.prepared.call (edited c.args.edit) c.finish.result c.self.view_is c.requires.running c.requires.room c.in-Ok-prepare.ensures.calls (c.in-Ok-prepare.ensures.call.0 ∙ c.in-Ok.ensures) c.in-Ok-edit.ensures.ok
     c.finish.ensures.calls c.finish.ensures.pass c.finish.ensures.receipt c.finish.ensures.running
 

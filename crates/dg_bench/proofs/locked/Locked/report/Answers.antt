@@ -1,4 +1,4 @@
-use Rattle.std.proofs.Common.{◌≡◌, false, length, sym, subst}
+use Rattle.std.proofs.Common.{◌≡◌, false, sym, subst}
 use Rattle.dg_core.specs.Core.{new_core}
 use Rattle.dg_bench.specs.declared.call.Call.TheVariants.{Report as reported}
 use Rattle.dg_bench.specs.History.{Makes}
@@ -13,10 +13,10 @@ make_report-requires-clause-running g c =
 
 pub returns-in-Ok-make_report-clause-ok : goal.returns-in-Ok-make_report-clause-ok
 returns-in-Ok-make_report-clause-ok g c =
-    entered_later (length c.args.cells.now) c.args.self.now c.begin.new.self c.make_report.new.self c.args.pass c.in-Ok.pass c.in-Ok-make_report.made.0 c.in-Ok-make_report.made.1 (reported c.in-Ok-make_report.made.2) c.begin.ensures.same
+    entered_later c.args.cells.now.limit c.args.self.now c.begin.new.self c.make_report.new.self c.args.pass c.in-Ok.pass c.in-Ok-make_report.made.0 c.in-Ok-make_report.made.1 (reported c.in-Ok-make_report.made.2) c.begin.ensures.same
     c.in-Ok.ensures.seen c.in-Ok-make_report.ensures.ok
 
 pub returns-in-Err-make_report-clause-refused : goal.returns-in-Err-make_report-clause-refused
 returns-in-Err-make_report-clause-refused g c =
-    refused_begun never (length c.args.cells.now) c.args.self.now c.begin.new.self c.make_report.new.self c.args.pass c.in-Ok.pass c.in-Err-make_report.refusal
+    refused_begun never c.args.cells.now.limit c.args.self.now c.begin.new.self c.make_report.new.self c.args.pass c.in-Ok.pass c.in-Err-make_report.refusal
     c.begin.ensures.same c.in-Ok.ensures.seen c.in-Ok.ensures.running c.in-Ok.ensures.room c.in-Err-make_report.ensures.refused
