@@ -21,3 +21,5 @@ pub mod LimitLemmas
 pub mod PatternLemmas
 pub mod WholeLemmas
 pub mod ResultLemmas
+pub mod BothLemmas
+pub mod SendLemmas

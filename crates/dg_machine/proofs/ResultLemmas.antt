@@ -11,6 +11,7 @@ use Rattle.dg_machine.specs.declared.machine.Machine.{Machine}
 use Rattle.dg_machine.specs.Meaning.{all_back, weight_of, Comes, Goes, Opens, Tries}
 use Rattle.dg_machine.proofs.MachineLemmas.{Goes-along, Goes-comes}
 use Rattle.dg_machine.proofs.LoopLemmas.{Goes-on}
+use Rattle.dg_machine.proofs.GatherLemmas.{Comes-along}
 use Rattle.dg_machine.proofs.StepLemmas.{Goes-runs}
 use Rattle.dg_machine.proofs.OpeningLemmas.{Goes-opens}
 
@@ -22,6 +23,10 @@ module _ {E : Type 0} (r : Result Pace E) where
   pub Goes-comes-ok : (play play' : Play Ending) (known : List Read) (w w' : ℕ) (m : Machine) → IfOk r (Goes play known w m)
       → play' ≡ play → w ≤ w' → IfOk r (Comes play' known w' m)
   Goes-comes-ok play play' known w w' m h e l = IfOk-weaker r _ _ (λ p g. Goes-comes p play play' known w w' m g e l) h
+
+  pub Comes-along-ok : (play play' : Play Ending) (known : List Read) (w w' : ℕ) (m : Machine) → IfOk r (Comes play known w m)
+      → play' ≡ play → w ≤ w' → IfOk r (Comes play' known w' m)
+  Comes-along-ok play play' known w w' m h e l = IfOk-weaker r _ _ (λ p g. Comes-along p play play' known w w' m g e l) h
 
   pub Goes-on-ok : (play play' : Play Ending) (known known' : List Read) (w w' : ℕ) (m : Machine) → IfOk r (Goes play known w m)
       → play' ≡ play → known ≡ known' → w ≤ w' → IfOk r (Comes play' known' w' m)

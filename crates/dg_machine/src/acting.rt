@@ -158,7 +158,7 @@ impl Machine {
     {
         if entry.is_failure() {
             let message = cannot_execute(alloc, program_of(words))?;
-            return Ok(self.fail(alloc, message)?);
+            return self.fail(alloc, message);
         }
         self.stack.push(Frame::Naming { session })?;
         Ok(Pace::Moved)
@@ -173,7 +173,7 @@ impl Machine {
         if entry.is_failure() {
             let id = id_of(alloc, session)?;
             let message = not_open(alloc, id.as_slice())?;
-            return Ok(self.fail(alloc, message)?);
+            return self.fail(alloc, message);
         }
         self.end(Code::Done, Bytes::new(alloc));
         Ok(Pace::Moved)

@@ -52,7 +52,7 @@ impl Machine {
             self.old.state.known (weight_of self.old + 2 ^ 140 + 2 ^ 140 * length left) self.new p) }
     {
         let Some(clause) = left.next() else {
-            return Ok(self.otherwise(alloc, otherwise, depth)?);
+            return self.otherwise(alloc, otherwise, depth);
         };
         let Clause { condition, body } = clause;
         let choice = Choice {
@@ -63,17 +63,17 @@ impl Machine {
         };
         let formula = self.shelves.formulas.reading(alloc, &condition)?;
         let Some(mut calculation) = Calculation::of(alloc, formula, depth) else {
-            return Ok(self.no_expression(alloc, &condition)?);
+            return self.no_expression(alloc, &condition);
         };
         match compute_on(alloc, &self.state, &mut calculation)? {
-            Computed::Value(value) => Ok(self.decide_now(alloc, choice, value)?),
+            Computed::Value(value) => self.decide_now(alloc, choice, value),
             Computed::Whole(number) => {
                 let value = decimal(alloc, number)?;
-                Ok(self.decide_now(alloc, choice, value)?)
+                self.decide_now(alloc, choice, value)
             }
             computed => {
                 self.stack.push(Frame::Choosing { choice })?;
-                Ok(self.come_to(alloc, calculation, computed)?)
+                self.come_to(alloc, calculation, computed)
             }
         }
     }
@@ -91,7 +91,7 @@ impl Machine {
             self.old.state.known (weight_of self.old + 2 + 2 ^ 140 + 2 ^ 140 * length choice.left) self.new p) }
     {
         match truth_in(alloc, value.as_slice())? {
-            Ok(true) => Ok(self.enter(alloc, choice.body, choice.depth)?),
+            Ok(true) => self.enter(alloc, choice.body, choice.depth),
             Ok(false) => {
                 if choice.left.len() == 0 {
                     return self.otherwise(alloc, choice.otherwise, choice.depth);
@@ -100,7 +100,7 @@ impl Machine {
                 self.end(Code::Done, value);
                 Ok(Pace::Moved)
             }
-            Err(message) => Ok(self.fail(alloc, message)?),
+            Err(message) => self.fail(alloc, message),
         }
     }
 
@@ -111,9 +111,9 @@ impl Machine {
             self.old.state.known (weight_of self.old + 2 ^ 140 + 2 ^ 140 * length choice.left) self.new p) }
     {
         match truth_in(alloc, value.as_slice())? {
-            Ok(true) => Ok(self.enter(alloc, choice.body, choice.depth)?),
-            Ok(false) => Ok(self.choose(alloc, choice.left, choice.otherwise, choice.depth)?),
-            Err(message) => Ok(self.fail(alloc, message)?),
+            Ok(true) => self.enter(alloc, choice.body, choice.depth),
+            Ok(false) => self.choose(alloc, choice.left, choice.otherwise, choice.depth),
+            Err(message) => self.fail(alloc, message),
         }
     }
 
@@ -130,7 +130,7 @@ impl Machine {
             self.old.state.known (weight_of self.old + 2 ^ 140 + 2 ^ 140 * length choice.left) self.new p) }
     {
         match code {
-            Code::Done => Ok(self.decide(alloc, choice, value)?),
+            Code::Done => self.decide(alloc, choice, value),
             Code::Failed | Code::Returned | Code::Broken | Code::Continued | Code::ExpContinued => {
                 Ok(self.go_up(code, value))
             }
@@ -144,12 +144,12 @@ impl Machine {
         ensures { IfOk result (GoesAs (do_if (evaluate depth) args.now) (2 ^ 249) self.old self.new) }
     {
         let Some(clauses) = clauses_of(alloc, args)? else {
-            return Ok(self.wrong_count(alloc, b"if")?);
+            return self.wrong_count(alloc, b"if");
         };
         let Clauses { tested, otherwise } = clauses;
         // The call shows the proof that the length is a `usize`.
         let _count = tested.len();
-        Ok(self.choose(alloc, tested, otherwise, depth)?)
+        self.choose(alloc, tested, otherwise, depth)
     }
 
     /// `switch`: the body that it takes runs.

@@ -44,8 +44,7 @@ impl Machine {
         };
         self.stack.push(Frame::Catching { name })?;
         let script = script.copy(alloc)?;
-        let pace = self.enter(alloc, script, depth)?;
-        Ok(pace)
+        self.enter(alloc, script, depth)
     }
 
     /// What was caught: the value goes to the name, and the code is the value.
@@ -75,10 +74,7 @@ impl Machine {
             Some(Pace::Over(closing)) => Ok(Pace::Over(closing)),
             Some(Pace::Moved) => Ok(Pace::Moved),
             Some(Pace::Lost) => Ok(Pace::Lost),
-            None => {
-                let pace = self.keep_caught(alloc, name.as_slice(), code, value)?;
-                Ok(pace)
-            }
+            None => self.keep_caught(alloc, name.as_slice(), code, value),
         }
     }
 
@@ -113,20 +109,20 @@ impl Machine {
         ensures { IfOk result (GoesAs (do_foreach (evaluate depth) args.now) 9 self.old self.new) }
     {
         let Some((names, values, body)) = three(args) else {
-            return Ok(self.wrong_count(alloc, b"foreach")?);
+            return self.wrong_count(alloc, b"foreach");
         };
         let names = match elements_in(alloc, names.as_slice())? {
             Ok(names) => names,
-            Err(message) => return Ok(self.fail(alloc, message)?),
+            Err(message) => return self.fail(alloc, message),
         };
         if names.is_empty() {
             let message = Bytes::from_slice(alloc, b"foreach varlist is empty")?;
-            return Ok(self.fail(alloc, message)?);
+            return self.fail(alloc, message);
         }
         let values = with_elements(alloc, &mut self.shelves.lists, values.copy(alloc)?)?;
         let values = match elements_held(alloc, &values)? {
             Ok(values) => Queue::new(values.into_vec()),
-            Err(message) => return Ok(self.fail(alloc, message)?),
+            Err(message) => return self.fail(alloc, message),
         };
         let rounds = Rounds {
             names,

@@ -52,12 +52,12 @@ impl Machine {
     {
         match which {
             Builtin::Immediate(which) => self.immediate(alloc, which, args),
-            Builtin::Variable(which) => Ok(self.variable(alloc, which, args)?),
+            Builtin::Variable(which) => self.variable(alloc, which, args),
             Builtin::Control(which) => self.control(alloc, which, args, depth),
             Builtin::Choice(which) => self.choice(alloc, which, args, depth),
-            Builtin::Target(which) => Ok(self.target(alloc, which, args)?),
+            Builtin::Target(which) => self.target(alloc, which, args),
             Builtin::Flag(which) => self.flag(alloc, which, args),
-            Builtin::Session(which) => Ok(self.session(alloc, which, args)?),
+            Builtin::Session(which) => self.session(alloc, which, args),
             Builtin::LoadLib => self.load_lib(alloc, args, depth),
             Builtin::Expect => self.expect(alloc, args, depth),
             Builtin::Regexp => self.regexp(alloc, args),
@@ -102,9 +102,9 @@ impl Machine {
             self.old self.new) }
     {
         match find_builtin(self.state.is_on_board(), name) {
-            Some(Builtin::Variable(which)) => Ok(self.variable(alloc, which, args)?),
-            Some(which) => Ok(self.builtin(alloc, which, args, depth)?),
-            None => Ok(self.pure(alloc, name, args)?),
+            Some(Builtin::Variable(which)) => self.variable(alloc, which, args),
+            Some(which) => self.builtin(alloc, which, args, depth),
+            None => self.pure(alloc, name, args),
         }
     }
 
@@ -119,12 +119,11 @@ impl Machine {
             return Ok(Pace::Moved);
         };
         let Some(procedure) = self.state.procedure(name.as_slice()) else {
-            return Ok(self.known_command(alloc, name.as_slice(), args, depth)?);
+            return self.known_command(alloc, name.as_slice(), args, depth);
         };
         let bindings = bindings(alloc, procedure.parameters.as_slice(), args)?;
         let body = procedure.body.copy(alloc)?;
-        let pace = self.call(alloc, bindings, name.as_slice(), body, depth)?;
-        Ok(pace)
+        self.call(alloc, bindings, name.as_slice(), body, depth)
     }
 
     /// The command of these words runs, or waits for the answer to a question.
@@ -161,7 +160,7 @@ impl Machine {
             self.old.state.known (weight_of self.old + budget making.purpose + 4) self.new p) }
     {
         match making.purpose {
-            Purpose::Run => Ok(self.run_command(alloc, making.made, depth)?),
+            Purpose::Run => self.run_command(alloc, making.made, depth),
             Purpose::Expect => {
                 let words = making.made;
                 self.stack.push(Frame::Expecting { words, depth })?;

@@ -249,7 +249,7 @@ impl Machine {
             }
             Known::OneUnread => {
                 let message = Bytes::from_slice(alloc, CANNOT_COMPILE)?;
-                Ok(self.fail(alloc, message)?)
+                self.fail(alloc, message)
             }
             Known::AllRead => self.first_round(alloc, compiling),
         }

@@ -70,12 +70,10 @@ impl Machine {
     {
         let Some(value) = self.state.value_of(name) else {
             let message = cannot_read(alloc, name)?;
-            let pace = self.fail(alloc, message)?;
-            return Ok(pace);
+            return self.fail(alloc, message);
         };
         let value = value.copy(alloc)?;
-        let pace = self.add_value(alloc, making, value, depth)?;
-        Ok(pace)
+        self.add_value(alloc, making, value, depth)
     }
 
     /// The value of a variable is added.
@@ -169,8 +167,7 @@ impl Machine {
             self.stack.push(Frame::Gathering { making, depth })?;
             return Ok(Pace::Moved);
         };
-        let pace = self.gather_element(alloc, making, name, before, depth)?;
-        Ok(pace)
+        self.gather_element(alloc, making, name, before, depth)
     }
 
     /// A word ends.
@@ -208,10 +205,7 @@ impl Machine {
     {
         let elements = match elements_in(alloc, making.text.as_slice())? {
             Ok(elements) => elements,
-            Err(message) => {
-                let pace = self.fail(alloc, message)?;
-                return Ok(pace);
-            }
+            Err(message) => return self.fail(alloc, message),
         };
         push_all(alloc, &mut making.made, elements.as_slice())?;
         making.text = Bytes::new(alloc);
@@ -233,12 +227,12 @@ impl Machine {
             self.old.state.known (weight_of self.old + budget making.purpose + 5 + 4 * length making.left) self.new p) }
     {
         if !has_room(&making.text, &value) {
-            return Ok(self.add_value(alloc, making, value, depth)?);
+            return self.add_value(alloc, making, value, depth);
         }
         add_text(&mut making.text, value)?;
         make_texts(alloc, &self.state, &mut making)?;
         if making.left.len() == 0 {
-            return Ok(self.use_words(alloc, making, depth)?);
+            return self.use_words(alloc, making, depth);
         }
         self.stack.push(Frame::Gathering { making, depth })?;
         Ok(Pace::Moved)
@@ -259,11 +253,10 @@ impl Machine {
             self.old.state.known (weight_of self.old + budget making.purpose + 8 + 4 * length making.left) self.new p) }
     {
         if let Some(value) = self.value_of_script(alloc, &script, depth)? {
-            return Ok(self.add_and_use(alloc, making, value, depth)?);
+            return self.add_and_use(alloc, making, value, depth);
         }
         self.stack.push(Frame::Gathering { making, depth })?;
-        let pace = self.enter(alloc, script, depth)?;
-        Ok(pace)
+        self.enter(alloc, script, depth)
     }
 
     /// The words go on being made, by this step.
@@ -280,13 +273,13 @@ impl Machine {
             self.old.state.known (weight_of self.old + budget making.purpose + 8 + 4 * length making.left) self.new p) }
     {
         match step {
-            Substitution::Literal(text) => Ok(self.add_value(alloc, making, text, depth)?),
-            Substitution::Variable(name) => Ok(self.gather_variable(alloc, making, name, depth)?),
-            Substitution::IndexBegins(name) => Ok(self.begin_index(alloc, making, name, depth)?),
-            Substitution::IndexEnds => Ok(self.end_index(alloc, making, depth)?),
-            Substitution::Script(script) => Ok(self.run_script(alloc, making, script, depth)?),
-            Substitution::WordEnds => Ok(self.end_word(alloc, making, depth)?),
-            Substitution::ListEnds => Ok(self.end_list(alloc, making, depth)?),
+            Substitution::Literal(text) => self.add_value(alloc, making, text, depth),
+            Substitution::Variable(name) => self.gather_variable(alloc, making, name, depth),
+            Substitution::IndexBegins(name) => self.begin_index(alloc, making, name, depth),
+            Substitution::IndexEnds => self.end_index(alloc, making, depth),
+            Substitution::Script(script) => self.run_script(alloc, making, script, depth),
+            Substitution::WordEnds => self.end_word(alloc, making, depth),
+            Substitution::ListEnds => self.end_list(alloc, making, depth),
         }
     }
 
@@ -303,11 +296,11 @@ impl Machine {
     {
         make_texts(alloc, &self.state, &mut making)?;
         match making.left.next() {
-            None => Ok(self.use_words(alloc, making, depth)?),
+            None => self.use_words(alloc, making, depth),
             Some(Substitution::Variable(name)) => {
-                Ok(self.gather_variable(alloc, making, name, depth)?)
+                self.gather_variable(alloc, making, name, depth)
             }
-            Some(step) => Ok(self.gather_step(alloc, making, step, depth)?),
+            Some(step) => self.gather_step(alloc, making, step, depth),
         }
     }
 
@@ -323,9 +316,9 @@ impl Machine {
             self.old.state.known (weight_of self.old + budget making.purpose + 4 + 4 * length making.left) self.new p) }
     {
         if making.left.len() == 0 {
-            return Ok(self.use_words(alloc, making, depth)?);
+            return self.use_words(alloc, making, depth);
         }
-        Ok(self.gather(alloc, making, depth)?)
+        self.gather(alloc, making, depth)
     }
 
     /// A value is added to what is made of a word, and the words go on being made at once.
@@ -341,9 +334,9 @@ impl Machine {
             self.old.state.known (weight_of self.old + budget making.purpose + 5 + 4 * length making.left) self.new p) }
     {
         if !has_room(&making.text, &value) {
-            return Ok(self.add_value(alloc, making, value, depth)?);
+            return self.add_value(alloc, making, value, depth);
         }
         add_text(&mut making.text, value)?;
-        Ok(self.gather(alloc, making, depth)?)
+        self.gather(alloc, making, depth)
     }
 }

@@ -74,7 +74,7 @@ impl Machine {
         };
         let file = library_file(alloc, library.as_slice())?;
         if !is_name(file.as_slice()) {
-            return Ok(self.miss_library(alloc, library.as_slice())?);
+            return self.miss_library(alloc, library.as_slice());
         }
         self.load_library(alloc, library.as_slice(), &Name::from_valid(file), depth)
     }

@@ -131,8 +131,7 @@ impl Machine {
         ensures { IfOk result (GoesAs (fail (wrong_count name.now)) 2 self.old self.new) }
     {
         let message = wrong_count(alloc, name)?;
-        let pace = self.fail(alloc, message)?;
-        Ok(pace)
+        self.fail(alloc, message)
     }
 
     /// A variable is about to be used.
@@ -192,11 +191,10 @@ impl Machine {
         // The call shows the proof that the length is a `usize`.
         let _count = making.left.len();
         if commands.is_over() {
-            return Ok(self.go_on(alloc, making, depth)?);
+            return self.go_on(alloc, making, depth);
         }
         self.stack.push(Frame::Sequence { commands, depth })?;
-        let pace = self.go_on(alloc, making, depth)?;
-        Ok(pace)
+        self.go_on(alloc, making, depth)
     }
 
     /// The words of the next command are made, or the value of the last is that of all.
@@ -219,8 +217,7 @@ impl Machine {
             }
             Some(Begun::Unreadable(fault)) => {
                 let message = Bytes::from_slice(alloc, fault_text(fault))?;
-                let pace = self.fail(alloc, message)?;
-                Ok(pace)
+                self.fail(alloc, message)
             }
             Some(Begun::Words(steps)) => {
                 if !self.state.has_step() {
@@ -229,8 +226,7 @@ impl Machine {
                 }
                 self.state.take_step();
                 let making = steps.begun(alloc, &self.state)?;
-                let pace = self.begin_command(alloc, commands, making, depth)?;
-                Ok(pace)
+                self.begin_command(alloc, commands, making, depth)
             }
         }
     }
@@ -252,9 +248,9 @@ impl Machine {
         match commands.into_kept() {
             Ok((all, first)) => {
                 let at = self.settle_from(alloc, &all, first, &mut value, depth)?;
-                Ok(self.next_at(alloc, all, at, value, depth)?)
+                self.next_at(alloc, all, at, value, depth)
             }
-            Err(commands) => Ok(self.next_command(alloc, commands, value, depth)?),
+            Err(commands) => self.next_command(alloc, commands, value, depth),
         }
     }
 
@@ -281,7 +277,7 @@ impl Machine {
             }
             None => {
                 let commands = Script::kept_from(all, at);
-                Ok(self.next_command(alloc, commands, value, depth)?)
+                self.next_command(alloc, commands, value, depth)
             }
         }
     }
@@ -373,9 +369,9 @@ impl Machine {
             self.new p) }
     {
         if depth == 0 {
-            return Ok(self.begin(alloc, commands, depth)?);
+            return self.begin(alloc, commands, depth);
         }
-        Ok(self.sequence(alloc, commands, Bytes::new(alloc), depth - 1)?)
+        self.sequence(alloc, commands, Bytes::new(alloc), depth - 1)
     }
 
     /// The commands of a text. Unless it is long they are read once, as long as they are kept.

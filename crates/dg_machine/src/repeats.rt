@@ -46,7 +46,7 @@ impl Machine {
         }
         self.state.take_step();
         repetition.begin_test();
-        Ok(self.test(alloc, repetition)?)
+        self.test(alloc, repetition)
     }
 
     /// The test of a loop is computed, and its body begins if the condition holds.
@@ -61,19 +61,17 @@ impl Machine {
         let looped = repetition.get();
         let formula = looped.test.formula(alloc, &mut self.shelves.formulas)?;
         let Some(mut calculation) = Calculation::of(alloc, formula, looped.depth) else {
-            return Ok(self.no_expression(alloc, looped.test.text())?);
+            return self.no_expression(alloc, looped.test.text());
         };
         match compute_on(alloc, &self.state, &mut calculation)? {
-            Computed::Value(value) => {
-                Ok(self.behind_test(alloc, repetition, Code::Done, value)?)
-            }
+            Computed::Value(value) => self.behind_test(alloc, repetition, Code::Done, value),
             Computed::Whole(number) => {
                 let holds = whole_truth(number);
-                Ok(self.repeat_if(alloc, repetition, holds)?)
+                self.repeat_if(alloc, repetition, holds)
             }
             computed => {
                 self.stack.push(Frame::Repeating { repetition })?;
-                Ok(self.come_to(alloc, calculation, computed)?)
+                self.come_to(alloc, calculation, computed)
             }
         }
     }
@@ -95,7 +93,7 @@ impl Machine {
             return Ok(Pace::Moved);
         }
         repetition.set_stage(LoopPart::Body);
-        Ok(self.run_body(alloc, repetition)?)
+        self.run_body(alloc, repetition)
     }
 
     /// The body of a loop runs. Where all of it runs where it stands, no frame stands around it.
@@ -117,10 +115,10 @@ impl Machine {
         let mut value = Bytes::new(alloc);
         let left = self.settle(alloc, commands, &mut value, depth - 1)?;
         if left.is_over() {
-            return Ok(self.end_body(alloc, repetition, value)?);
+            return self.end_body(alloc, repetition, value);
         }
         self.stack.push(Frame::Repeating { repetition })?;
-        Ok(self.next_command(alloc, left, value, depth - 1)?)
+        self.next_command(alloc, left, value, depth - 1)
     }
 
     /// The body of a loop has run where it stands: the third script of `for` begins, or the loop goes on at its next move.
@@ -143,7 +141,7 @@ impl Machine {
             return Ok(Pace::Moved);
         };
         let commands = next.script(alloc)?;
-        Ok(self.begin_next(alloc, repetition, commands)?)
+        self.begin_next(alloc, repetition, commands)
     }
 
     /// The third script of `for` begins, whose commands these are.
@@ -173,7 +171,7 @@ impl Machine {
             self.end(Code::Done, value);
             return Ok(Pace::Moved);
         }
-        Ok(self.next_command(alloc, left, value, depth - 1)?)
+        self.next_command(alloc, left, value, depth - 1)
     }
 
     /// What comes behind the body of a loop: the third script of `for`, or the next test.
@@ -209,7 +207,7 @@ impl Machine {
             self.old.state.known (weight_of self.old + 8) self.new p) }
     {
         match code {
-            Code::Done => Ok(self.next_test(alloc, repetition)?),
+            Code::Done => self.next_test(alloc, repetition),
             Code::Failed | Code::Returned | Code::Broken | Code::Continued | Code::ExpContinued => {
                 Ok(self.go_up(code, value))
             }
@@ -232,8 +230,8 @@ impl Machine {
     {
         match code {
             Code::Done => match truth_in(alloc, value.as_slice())? {
-                Ok(holds) => Ok(self.repeat_if(alloc, repetition, holds)?),
-                Err(message) => Ok(self.fail(alloc, message)?),
+                Ok(holds) => self.repeat_if(alloc, repetition, holds),
+                Err(message) => self.fail(alloc, message),
             },
             Code::Failed | Code::Returned | Code::Broken | Code::Continued | Code::ExpContinued => {
                 Ok(self.go_up(code, value))
@@ -256,7 +254,7 @@ impl Machine {
             self.old.state.known (weight_of self.old + 16) self.new p) }
     {
         match code {
-            Code::Done | Code::Continued => Ok(self.next_script(alloc, repetition)?),
+            Code::Done | Code::Continued => self.next_script(alloc, repetition),
             Code::Broken => Ok(self.go_up(Code::Done, Bytes::new(alloc))),
             Code::Failed | Code::Returned | Code::ExpContinued => Ok(self.go_up(code, value)),
         }
@@ -277,7 +275,7 @@ impl Machine {
             self.old.state.known (weight_of self.old + 8) self.new p) }
     {
         match code {
-            Code::Done => Ok(self.next_test(alloc, repetition)?),
+            Code::Done => self.next_test(alloc, repetition),
             Code::Broken => Ok(self.go_up(Code::Done, Bytes::new(alloc))),
             Code::Failed | Code::Returned | Code::Continued | Code::ExpContinued => {
                 Ok(self.go_up(code, value))

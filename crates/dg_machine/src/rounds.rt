@@ -38,7 +38,7 @@ impl Machine {
         let _count = rounds.names.len();
         rounds.left -= 1;
         rounds.given = Some(0);
-        Ok(self.give_next(alloc, rounds, 0)?)
+        self.give_next(alloc, rounds, 0)
     }
 
     /// The body of a loop begins.
@@ -52,8 +52,7 @@ impl Machine {
         let commands = rounds.body.script(alloc)?;
         let depth = rounds.depth;
         self.stack.push(Frame::Looping { rounds })?;
-        let pace = self.begin_now(alloc, commands, depth)?;
-        Ok(pace)
+        self.begin_now(alloc, commands, depth)
     }
 
     /// A name, whose variable can be used, gets its value.
@@ -80,7 +79,7 @@ impl Machine {
         }
         self.state.assign(alloc, name, value)?;
         if at + 1 >= rounds.names.len() {
-            return Ok(self.begin_body(alloc, rounds)?);
+            return self.begin_body(alloc, rounds);
         }
         rounds.given = Some(at + 1);
         self.stack.push(Frame::Looping { rounds })?;
@@ -101,8 +100,7 @@ impl Machine {
             self.old.state.known (weight_of self.old + 9 + 4 * (length rounds.names - at)) self.new p) }
     {
         if at >= rounds.names.len() {
-            let pace = self.begin_body(alloc, rounds)?;
-            return Ok(pace);
+            return self.begin_body(alloc, rounds);
         }
         let name = name_at(alloc, &rounds.names, at)?;
         match self.ready(alloc, name.as_slice())? {
@@ -113,10 +111,7 @@ impl Machine {
             Some(Pace::Over(closing)) => Ok(Pace::Over(closing)),
             Some(Pace::Moved) => Ok(Pace::Moved),
             Some(Pace::Lost) => Ok(Pace::Lost),
-            None => {
-                let pace = self.give_value(alloc, rounds, at, name.as_slice())?;
-                Ok(pace)
-            }
+            None => self.give_value(alloc, rounds, at, name.as_slice()),
         }
     }
 }

@@ -118,11 +118,11 @@ impl Machine {
     {
         if words.len() > MOST_WORDS {
             let message = Bytes::from_slice(alloc, b"too many words")?;
-            return Ok(self.fail(alloc, message)?);
+            return self.fail(alloc, message);
         }
         if self.state.sessions().len() >= MAX_SESSIONS {
             let message = Bytes::from_slice(alloc, b"too many sessions")?;
-            return Ok(self.fail(alloc, message)?);
+            return self.fail(alloc, message);
         }
         let session = self.state.begin_session(alloc)?;
         let mut copies = Seq::new(alloc);
@@ -180,7 +180,7 @@ impl Machine {
             self.end(Code::Done, Bytes::new(alloc));
             return Ok(Pace::Moved);
         }
-        Ok(self.begin_action(session, Action::Send(text), After::Reported)?)
+        self.begin_action(session, Action::Send(text), After::Reported)
     }
 
     /// `send text`.

@@ -3,12 +3,12 @@ use Rattle.dg_language.proofs.TouchLemmas.{within-short}
 use Rattle.dg_compiled.proofs.ComputingLemmas.{nothing}
 use Rattle.dg_compiled.proofs.GatherLemmas.{gather-none}
 use Rattle.dg_machine.specs.Meaning.{all_back, budget, go, rest}
-use Rattle.dg_machine.proofs.MachineLemmas.{Goes-comes, weight-cons}
-use Rattle.dg_machine.proofs.GatherLemmas.{Comes-along}
+use Rattle.dg_machine.proofs.MachineLemmas.{weight-cons}
+use Rattle.dg_machine.proofs.ResultLemmas.{Comes-along-ok, Goes-comes-ok}
 use Rattle.dg_machine.proofs.machine.Machine.add_and_use.Goals as goal
 
 pub returns-then-not-has_room : goal.returns-then-not-has_room
-returns-then-not-has_room c = Goes-comes _ _ _ _ _ _ _ c.in_ok-add_value.ensures refl (omega arith)
+returns-then-not-has_room c = Goes-comes-ok _ _ _ _ _ _ _ c.add_value.ensures refl (omega arith)
 
 pub returns-then-len-eq0 : goal.returns-then-len-eq0
 returns-then-len-eq0 c =
@@ -17,7 +17,7 @@ returns-then-len-eq0 c =
     let same = made.same c.args.depth (all_back c.args.self.now.stack) in
     let fewer = made.fewer in
     let paid = ap budget made.purpose in
-    Comes-along _ _ _ _ _ _ _ c.in_ok-use_words.ensures
+    Comes-along-ok _ _ _ _ _ _ _ c.use_words.ensures
     (within-short _ _ _ short ∙ sym same ∙ gather-none _ _ _ _ _ _ _ _ (nothing c.make_texts.new.making.left (omega (arith, c.len.ensures, c.if-len-eq0.true)))) (omega (arith, fewer, paid))
 
 pub returns : goal.returns

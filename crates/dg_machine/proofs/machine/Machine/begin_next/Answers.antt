@@ -1,4 +1,5 @@
 use Rattle.std.proofs.Common.{◌-◌, ◌∙◌, ap, refl, sym, arith}
+use Rattle.std.proofs.lemmas.Result.{IfOk-weaker}
 use Rattle.dg_language.specs.Evaluation.{Then}
 use Rattle.dg_language.specs.Language.{evaluate, sequence}
 use Rattle.dg_language.specs.declared.code.Code.TheVariants.{Done}
@@ -33,16 +34,19 @@ returns-then-is_over c text e =
     (ap (λ (j : Then). j Done v t) (next-back c.args.repetition old.stack) ∙ sym goes, settled.asks.0, rw (c.requires, weight-ended, weight-cons) (omega (arith, less)))
 
 pub returns : goal.returns
-returns c text e =
+returns c =
     let old = c.args.self.now in
     let settled = rw c.get.ensures at c.in_ok-left.ensures in
     let deep = rw c.get.ensures at c.if-depth-eq0.false in
     let stack = ap (λ (m : Machine). m.stack) settled.same in
     let control = ap (λ (m : Machine). m.control) settled.same in
     let less = weight-settled Go old.stack old.state c.settle.new.self.state settled.asks in
-    let went = rw (c.in_ok-push.ensures, c.set_stage.ensures, stack, control, c.get.ensures) at c.in_ok-next_command.ensures in
-    Comes-along _ _ _ _ _ _ _ (Comes-known _ _ _ _ _ _ went settled.asks.0)
+    let went = rw (c.in_ok-push.ensures, c.set_stage.ensures, stack, control, c.get.ensures) at c.next_command.ensures in
+    IfOk-weaker c.next_command.result _ _
+    (λ p h text e.
+    Comes-along p _ _ _ _ _ _ (Comes-known p _ _ _ _ _ h settled.asks.0)
     (text-settled _ _ _ _ _ _ _ _ _ deep e c.new-value.ensures settled.goes_on
     ∙ ap (λ (k : Then). sequence (evaluate (c.args.repetition.depth - 1)) c.in_ok-left.left c.settle.new.value c.settle.new.self.state k)
     (sym (next-back c.args.repetition old.stack)))
-    (rw c.requires (rw weight-cons (omega (arith, less))))
+    (rw c.requires (rw weight-cons (omega (arith, less)))))
+    went

@@ -1,7 +1,8 @@
 use Rattle.std.proofs.Common.{◌∙◌, refl, sym, arith}
 use Rattle.dg_machine.specs.Meaning.{go, rest, all_back}
-use Rattle.dg_machine.proofs.GatherLemmas.{Comes-along, weight-gathering}
+use Rattle.dg_machine.proofs.GatherLemmas.{weight-gathering}
 use Rattle.dg_compiled.proofs.GatherLemmas.{index-none, index-ends}
+use Rattle.dg_machine.proofs.ResultLemmas.{Comes-along-ok}
 use Rattle.dg_machine.proofs.machine.Machine.end_index.Goals as goal
 
 pub returns-in_default : goal.returns-in_default
@@ -14,6 +15,6 @@ returns-in_default c =
 pub returns : goal.returns
 returns c =
     let m = c.args.making in
-    Comes-along _ _ _ _ _ _ _ c.in_ok-pace.ensures
+    Comes-along-ok _ _ _ _ _ _ _ c.gather_element.ensures
     (index-ends c.args.depth _ m.made m.outer m.text m.left c.args.self.now.state (all_back c.args.self.now.stack) c.in-Some.name c.in-Some.before c.pop.new.self c.in-Some.ensures)
     (omega arith)

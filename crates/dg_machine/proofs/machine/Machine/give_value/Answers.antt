@@ -1,4 +1,5 @@
 use Rattle.std.proofs.Common.{◌+◌, ◌<◌, ◌≤◌, ◌∙◌, refl, sym, ap, subst, length, arith}
+use Rattle.std.proofs.lemmas.Result.{IfOk-weaker}
 use Rattle.dg_machine.specs.Meaning.{rest, go}
 use Rattle.dg_language.proofs.TouchLemmas.{within-short, within-long}
 use Rattle.dg_machine.proofs.MachineLemmas.{Comes-known}
@@ -16,10 +17,13 @@ returns-then-at-len c =
     let count = c.len.ensures ∙ ap length c.take_first-value.ensures.first in
     let short = subst (λ n. n ≤ 1048576) count c.if-len-gt-LONGEST_VALUE.false in
     let past : length c.args.rounds.names ≤ c.args.at + 1 = omega (arith, c.len-2.ensures, c.if-at-len.true) in
-    let went = rw (c.in_ok-assign.ensures, c.take_first-value.ensures.first, c.take_first-value.ensures.others, c.requires.go) at c.in_ok-begin_body.ensures in
+    let went = rw (c.in_ok-assign.ensures, c.take_first-value.ensures.first, c.take_first-value.ensures.others, c.requires.go) at c.begin_body.ensures in
     rw c.requires.go
-    (Comes-along _ _ _ _ _ _ _ (Comes-known _ _ _ _ _ _ went (known-assigned _ _ _)) (within-short _ _ _ short ∙ give-done _ _ _ _ _ past)
+    (IfOk-weaker c.begin_body.result _ _
+    (λ p h.
+    Comes-along p _ _ _ _ _ _ (Comes-known p _ _ _ _ _ h (known-assigned _ _ _)) (within-short _ _ _ short ∙ give-done _ _ _ _ _ past)
     (rw weight-given (omega arith)))
+    went)
 
 pub returns : goal.returns
 unfolding rest go

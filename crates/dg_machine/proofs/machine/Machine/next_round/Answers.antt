@@ -1,4 +1,5 @@
 use Rattle.std.proofs.Common.{◌≡◌, ◌≤◌, ◌<◌, ◌⊎◌, inl, inr, ◌∙◌, refl, sym, length, arith}
+use Rattle.std.proofs.lemmas.Result.{IfOk-weaker}
 use Rattle.dg_machine.specs.Meaning.{rest, weight}
 use Rattle.dg_machine.proofs.MachineLemmas.{Comes-known, known-stepped, no-step, step-left}
 use Rattle.dg_machine.proofs.GatherLemmas.{Comes-along}
@@ -26,7 +27,10 @@ pub returns : goal.returns
 returns c =
     let some : 0 < length c.args.rounds.values = omega (arith, c.len.ensures, c.if-len-eq0.false) in
     let h = step-left c.args.self.now.state _ c.has_step.ensures c.if-not-has_step.false in
-    let went = rw (c.take_step.ensures, c.requires) at c.in_ok-give_next.ensures in
+    let went = rw (c.take_step.ensures, c.requires) at c.give_next.ensures in
     rw c.requires
-    (Comes-along _ _ _ _ _ _ _ (Comes-known _ _ _ _ _ _ went (known-stepped _)) (sym (each-next _ _ _ _ _ _ _ some c.if-rounds-eq0.false h))
+    (IfOk-weaker c.give_next.result _ _
+    (λ p g.
+    Comes-along p _ _ _ _ _ _ (Comes-known p _ _ _ _ _ g (known-stepped _)) (sym (each-next _ _ _ _ _ _ _ some c.if-rounds-eq0.false h))
     (weight-round _ _ _ h (rw (← c.len-count.ensures) (omega arith))))
+    went)

@@ -1,4 +1,5 @@
 use Rattle.std.proofs.Common.{◌≡◌, ◌≤◌, ◌⊎◌, inl, inr, ◌∙◌, refl, arith}
+use Rattle.std.proofs.lemmas.Result.{IfOk-weaker}
 use Rattle.dg_machine.proofs.MachineLemmas.{Comes-known, known-stepped, no-step, step-left, weight-tick}
 use Rattle.dg_machine.proofs.GatherLemmas.{Comes-along}
 use Rattle.dg_machine.proofs.ChoiceLemmas.{repeat-cut, repeat-next}
@@ -17,7 +18,8 @@ returns-then-get-eq0 c =
 pub returns : goal.returns
 returns c =
     let h = step-left c.args.self.now.state _ c.has_step.ensures c.if-not-has_step.false in
-    let went = rw (c.take_step.ensures, c.begin_test.ensures, c.requires) at c.in_ok-test.ensures in
+    let went = rw (c.take_step.ensures, c.begin_test.ensures, c.requires) at c.test.ensures in
     let more = rw c.get.ensures at c.if-get-eq0.false in
     rw c.requires
-    (Comes-along _ _ _ _ _ _ _ (Comes-known _ _ _ _ _ _ went (known-stepped _)) (repeat-next _ _ _ _ _ _ _ more h) (weight-tick _ _ _ h (omega arith)))
+    (IfOk-weaker c.test.result _ _
+    (λ p g. Comes-along p _ _ _ _ _ _ (Comes-known p _ _ _ _ _ g (known-stepped _)) (repeat-next _ _ _ _ _ _ _ more h) (weight-tick _ _ _ h (omega arith))) went)

@@ -1,4 +1,5 @@
 use Rattle.std.proofs.Common.{◌-◌, ◌∙◌, ap, refl, sym, arith}
+use Rattle.std.proofs.lemmas.Result.{IfOk-weaker}
 use Rattle.dg_language.specs.Evaluation.{Then}
 use Rattle.dg_language.specs.Language.{evaluate, sequence}
 use Rattle.dg_machine.specs.Choosing.{stage_weight}
@@ -23,10 +24,13 @@ returns-then-is_over c =
     let stack = ap (λ (m : Machine). m.stack) settled.same in
     let control = ap (λ (m : Machine). m.control) settled.same in
     let less = weight-settled old.control old.stack old.state c.settle.new.self.state settled.asks in
-    let went = rw (stack, control) at c.in_ok-end_body.ensures in
-    Comes-along _ _ _ _ _ _ _ (Comes-known _ _ _ _ _ _ went settled.asks.0)
+    let went = rw (stack, control) at c.end_body.ensures in
+    IfOk-weaker c.end_body.result _ _
+    (λ p h.
+    Comes-along p _ _ _ _ _ _ (Comes-known p _ _ _ _ _ h settled.asks.0)
     (text-settled _ _ _ _ _ _ _ _ _ deep read c.new-value.ensures settled.goes_on ∙ sequence-done _ _ _ _ _ none)
-    (omega (arith, less))
+    (omega (arith, less)))
+    went
 
 pub returns : goal.returns
 returns c =
@@ -38,9 +42,12 @@ returns c =
     let control = ap (λ (m : Machine). m.control) settled.same in
     let less = weight-settled Go old.stack old.state c.settle.new.self.state settled.asks in
     let stage = ap stage_weight c.requires.stage in
-    let went = rw (c.in_ok-push.ensures, stack, control, c.get-looped.ensures) at c.in_ok-next_command.ensures in
-    Comes-along _ _ _ _ _ _ _ (Comes-known _ _ _ _ _ _ went settled.asks.0)
+    let went = rw (c.in_ok-push.ensures, stack, control, c.get-looped.ensures) at c.next_command.ensures in
+    IfOk-weaker c.next_command.result _ _
+    (λ p h.
+    Comes-along p _ _ _ _ _ _ (Comes-known p _ _ _ _ _ h settled.asks.0)
     (text-settled _ _ _ _ _ _ _ _ _ deep read c.new-value.ensures settled.goes_on
     ∙ ap (λ (k : Then). sequence (evaluate (c.args.repetition.depth - 1)) c.in_ok-left.left c.settle.new.value c.settle.new.self.state k)
     (sym (body-back c.args.repetition old.stack c.requires.stage)))
-    (rw c.requires.go (rw weight-cons (omega (arith, less, stage))))
+    (rw c.requires.go (rw weight-cons (omega (arith, less, stage)))))
+    went
