@@ -1,5 +1,5 @@
 //! The cells of the places of a history, in blocks that are made as they are needed.
-ghost use Rattle.std.specs.Prelude.{ℕ, ◌≡◌, ◌≤◌, ◌<◌, ◌/◌, Some, IfOk, IfSome, length, slice_get};
+ghost use Rattle.std.specs.Prelude.{ℕ, ◌≡◌, ◌<◌, ◌/◌, Some, IfOk, IfSome, slice_get};
 ghost use Rattle.once_cell.specs.Once.{cell_name};
 ghost use Rattle.dg_bench.specs.declared.place.Place.{Place as Held};
 ghost use Rattle.dg_bench.specs.declared.cells.TheConstants.{BLOCK};
@@ -71,8 +71,7 @@ impl Model for Cells {
 
 impl Cells {
     /// Empty cells of so many places.
-    pub fn new(alloc: Global, limit: usize) -> Result<Cells, AllocError>
-        requires { (0 < limit) × (limit ≤ 262144) }
+    pub(crate) fn new(alloc: Global, limit: usize) -> Result<Cells, AllocError>
         ensures { IfOk result (λ c. c.limit ≡ limit) }
     {
         let mut blocks = Vec::new(alloc);
@@ -81,7 +80,7 @@ impl Cells {
     }
 
     /// How many places there are.
-    pub fn limit(&self) -> usize
+    pub(crate) fn limit(&self) -> usize
         ensures { result ≡ self.now.limit }
     {
         self.limit
