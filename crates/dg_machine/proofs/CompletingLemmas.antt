@@ -1,15 +1,19 @@
 -- What a command changes that evaluates nothing inside: neither the answers, nor the steps, nor the entries that were used.
 use Rattle.std.proofs.Common.{◌≡◌, ℕ, Bool, true, false, List, [], ◌∷◌, ◌++◌, refl}
 use Rattle.std.specs.Prelude.{is_some}
+use Rattle.dg_results.specs.declared.call.ResultCall.{ResultCall}
 use Rattle.dg_language.specs.declared.completion.Change.{Change}
 use Rattle.dg_language.specs.declared.completion.Change.TheVariants.{Nothing, Calls, Sets, Unsets, Defines}
 use Rattle.dg_language.specs.declared.procedure.Procedure.{Procedure}
-use Rattle.dg_language.specs.State.{State, setting_of, with_setting, without_setting, defined}
+use Rattle.dg_language.specs.State.{State, setting_of, with_call, with_setting, without_setting, defined}
 use Rattle.dg_language.specs.Completing.{performed}
 use Rattle.dg_machine.specs.declared.frame.Control.{Control}
 use Rattle.dg_machine.specs.declared.frame.Frame.{Frame}
 use Rattle.dg_machine.specs.Meaning.{weight}
-use Rattle.dg_machine.proofs.BoardLemmas.{known-called, weight-called}
+
+known-called : (c : ResultCall) (s : State) → (with_call c s).known ≡ s.known
+unfolding with_call
+known-called c s = refl
 
 -- a state that has one more setting, or is as it was
 abbrev pub set_if : Bool → List ℕ → List ℕ → State → State
@@ -39,6 +43,10 @@ known-performed (Unsets key) s = known-unset key s
 known-performed (Defines name p) s = known-defined name p s
 
 module _ (o : Control) (fs : List Frame) where
+  weight-called : (c : ResultCall) (s : State) → weight o (with_call c s) fs ≡ weight o s fs
+  unfolding with_call weight
+  weight-called c s = refl
+
   weight-set_if : (has : Bool) (key value : List ℕ) (s : State) → weight o (set_if has key value s) fs ≡ weight o s fs
   unfolding weight
   weight-set_if true key value s = refl
@@ -58,7 +66,7 @@ module _ (o : Control) (fs : List Frame) where
 
   pub weight-performed : (e : Change) (s : State) → weight o (performed e s) fs ≡ weight o s fs
   weight-performed Nothing s = refl
-  weight-performed (Calls c) s = weight-called o c s fs
+  weight-performed (Calls c) s = weight-called c s
   weight-performed (Sets key value) s = weight-set key value s
   weight-performed (Unsets key) s = weight-unset key s
   weight-performed (Defines name p) s = weight-defined name p s

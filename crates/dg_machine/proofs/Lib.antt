@@ -2,14 +2,13 @@ pub mod MachineLemmas
 pub mod GatherLemmas
 pub mod ProcedureLemmas
 pub mod LoopLemmas
-pub mod ReadyLemmas
 pub mod StepLemmas
-pub mod VariableLemmas
+pub mod AttemptLemmas
 pub mod ExpressionLemmas
 pub mod SettlingLemmas
 pub mod ChoiceLemmas
 pub mod OpeningLemmas
-pub mod BoardLemmas
+pub mod LibraryLemmas
 pub mod CompletingLemmas
 pub mod EvaluationLemmas
 pub mod AlongLemmas

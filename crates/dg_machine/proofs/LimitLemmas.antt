@@ -7,11 +7,12 @@ use Rattle.dg_words.specs.declared.word.Word.{Word}
 use Rattle.dg_expr.specs.Number.{number_of}
 use Rattle.dg_scope.specs.Scopes.{value_of}
 use Rattle.dg_sessions.specs.Phases.{is_open}
+use Rattle.dg_world.specs.declared.question.Question.{Question}
 use Rattle.dg_language.specs.declared.ask.Ask.{Ask}
 use Rattle.dg_language.specs.declared.expect.Expectation.{Expectation}
 use Rattle.dg_language.specs.declared.expect.Pair.{Pair}
 use Rattle.dg_language.specs.declared.substitution.Purpose.TheVariants.{Expect}
-use Rattle.dg_language.specs.Play.{Play, Asks}
+use Rattle.dg_language.specs.Play.{Play, Asks, plain, lookup}
 use Rattle.dg_language.specs.State.{State, learn, with_begun}
 use Rattle.dg_language.specs.Evaluation.{Ending, Then, Nested, fail}
 use Rattle.dg_language.specs.Variables.{touch}
@@ -19,6 +20,12 @@ use Rattle.dg_language.specs.Sessions.{on_session, on_words, seek, sought}
 use Rattle.dg_language.specs.ExpectWords.{expect_words, listed}
 use Rattle.dg_language.specs.Expecting.{do_expect, expect_args, expect_list, expect_with, milliseconds, or_ten, with_limit, with_number}
 use Rattle.dg_language.specs.Language.{evaluate}
+use Rattle.dg_asking.specs.declared.attempt.Outcome.{Outcome}
+use Rattle.dg_asking.specs.declared.attempt.Attempt.TheVariants.{Ends as IsOver, Asks as NeedsAnswer}
+use Rattle.dg_asking.specs.declared.seeking.Fit.TheVariants.{Open}
+use Rattle.dg_asking.specs.Attempts.{EndsAs}
+use Rattle.dg_asking.specs.Seeking.{Seeks}
+use Rattle.dg_asking.proofs.AttemptLemmas.{ends-on, kept}
 use Rattle.dg_machine.specs.declared.frame.Frame.{Frame}
 use Rattle.dg_machine.specs.declared.frame.Frame.TheVariants.{Gathering}
 use Rattle.dg_machine.specs.declared.frame.Control.TheVariants.{Go}
@@ -27,15 +34,10 @@ use Rattle.dg_compiled.specs.declared.making.Making.{Making}
 use Rattle.dg_compiled.specs.declared.word_lists.WordList.{WordList}
 use Rattle.dg_compiled.proofs.WordParts.{words-made}
 use Rattle.dg_compiled.specs.WordLists.{steps_for, word_list_in, words_on}
-use Rattle.dg_machine.specs.declared.frame.Closing.{Closing}
-use Rattle.dg_machine.specs.declared.frame.Fit.TheVariants.{Open}
 use Rattle.dg_machine.specs.declared.frame.Pace.{Pace}
-use Rattle.dg_machine.specs.declared.frame.Pace.TheVariants.{Moved, Stands, Over}
-use Rattle.dg_machine.specs.declared.frame.Sought.TheVariants.{Session, Instead}
-use Rattle.dg_machine.specs.Seeking.{Seeks}
 use Rattle.dg_machine.specs.declared.machine.Machine.{Machine}
 use Rattle.dg_machine.specs.Acting.{compiled_with, limiting}
-use Rattle.dg_machine.specs.Meaning.{all_back, budget, ends_with, rest, stack_weight, weight, weight_of, Comes, Goes, Readies}
+use Rattle.dg_machine.specs.Meaning.{all_back, budget, stack_weight, weight, weight_of, Comes, Goes, Readies}
 use Rattle.dg_machine.proofs.GatherLemmas.{weight-same}
 use Rattle.dg_machine.proofs.LoopLemmas.{Goes-on}
 
@@ -114,42 +116,29 @@ pub read-parts : (words : List (List ℕ)) (p : Option (List ℕ) × Option (Lis
     → Ok e ≡ expect_words None None words → Ok (whole p) ≡ expect_words None None words
 read-parts words p e h r = ap (λ (q : Option (List ℕ) × Option (List ℕ) × List Pair). Ok (whole q)) h ∙ r
 
--- the session is found, a question stands, or something comes instead
-module _ (words : List (List ℕ)) (d : ℕ) (e : Expectation) (read : Ok e ≡ expect_words None None words) (old mid : Machine) where
+-- the session is found, a question stands, or `expect` has ended
+module _ (words : List (List ℕ)) (d : ℕ) (e : Expectation) (read : Ok e ≡ expect_words None None words) (old mid : State) where
   -- what is done with the session
-  abbrev pub with_session : ℕ → State → Then → Play Ending
+  abbrev with_session : ℕ → State → Then → Play Ending
   with_session n t k = limiting (of_words e n d) t k
 
-  pub session-found : (n : ℕ) → Seeks Open e.id old mid (Session n)
-      → limiting (of_words e n d) mid.state (all_back mid.stack) ≡ expect_with (evaluate d) words old.state (all_back old.stack)
-  session-found n h =
-      ap (λ (fs : List Frame). limiting (of_words e n d) mid.state (all_back fs)) (ap (λ (m : Machine). m.stack) h.1)
-      ∙ sym (h.0 (all_back old.stack) (λ m t. limiting (of_words e m d) t (all_back old.stack)))
-      ∙ sym (expects words d old.state (all_back old.stack) e read)
+  pub session-found : (n : ℕ) (k : Then) → Seeks Open e.id old mid (Ok n) → limiting (of_words e n d) mid k ≡ expect_with (evaluate d) words old k
+  session-found n k h = sym (h.0 k (λ m t. with_session m t k)) ∙ sym (expects words d old k e read)
 
-  pub weight-found : (n : ℕ) → Seeks Open e.id old mid (Session n) → weight_of mid ≡ weight_of old
-  weight-found n h =
-      weight-same mid.control old.control mid.state old.state mid.stack old.stack
-      (ap (λ (m : Machine). m.control) h.1) (ap (λ (m : Machine). m.state) h.1) (ap (λ (m : Machine). m.stack) h.1)
+  pub session-asks : (q : Question) (k : Then) → Seeks Open e.id old mid (Err (NeedsAnswer q))
+      → (expect_with (evaluate d) words old k ≡ Asks (plain q) (λ a. expect_with (evaluate d) words (learn q a mid) k)) × (mid ≡ with_begun old mid)
+      × (lookup q old.known ≡ None)
+  session-asks q k h =
+      let asks = h with_session in (
+        expects words d old k e read ∙ asks.0 k ∙ ap (Asks (plain q)) (λ i a. (sym (expects words d (learn q a mid) k e read)) i),
+        asks.1,
+        asks.2,
+      )
 
-  pub session-asks : (q : Ask) → Seeks Open e.id old mid (Instead (Stands q))
-      → expect_with (evaluate d) words old.state (all_back old.stack)
-      ≡ Asks q (λ a. expect_with (evaluate d) words (learn q.question a mid.state) (all_back mid.stack))
-  session-asks q h =
-      let asks = h with_session in
-      let stack = ap (λ (m : Machine). m.stack) asks.1 in
-      expects words d old.state (all_back old.stack) e read
-      ∙ asks.0
-      ∙ ap (Asks q)
-      (λ i a.
-      (sym (expects words d (learn q.question a mid.state) (all_back old.stack) e read)
-      ∙ ap (λ (fs : List Frame). expect_with (evaluate d) words (learn q.question a mid.state) (all_back fs)) (sym stack)) i)
-
-  pub session-over : (c : Closing) → Seeks Open e.id old mid (Instead (Over c)) → expect_with (evaluate d) words old.state (all_back old.stack) ≡ ends_with c mid.state
-  session-over c h = expects words d old.state (all_back old.stack) e read ∙ (h with_session).0
-
-  pub session-moves : Seeks Open e.id old mid (Instead Moved) → rest mid ≡ expect_with (evaluate d) words old.state (all_back old.stack)
-  session-moves h = (h with_session).0 ∙ sym (expects words d old.state (all_back old.stack) e read)
+  pub session-ends : (o : Outcome) → Seeks Open e.id old mid (Err (IsOver o)) → EndsAs (expect_with (evaluate d) words) old mid o
+  session-ends o h =
+      ends-on (expect_with (evaluate d) words) (λ s k. on_session is_open e.id s k (λ n t. with_session n t k)) old old mid o
+      (λ k. expects words d old k e read) (kept old) (h with_session)
 
 module _ (nested : Nested) (args : List (List ℕ)) (s : State) (k : Then) where
   pub expect-given : None ≡ listed args → do_expect nested args s k ≡ expect_with nested args s k

@@ -33,6 +33,10 @@ Goes-runs (Stands q) play play' again known w old new h e f l = absurd h
 Goes-runs (Over v) play play' again known w old new h e f l = (e ∙ h.0, h.1 ∙ f)
 Goes-runs Lost play play' again known w old new h e f l = subst HasReadPattern f h
 
+-- a command that is another one has run as it
+pub runs-as : (old new : Machine) (f g : State → Then → Play Ending) (p : Pace) → RunsAs g old new p → f ≡ g → RunsAs f old new p
+runs-as old new f g p h e = subst (λ x. RunsAs x old new p) (sym e) h
+
 -- how an end reads outside
 pub outside-reads : (k : Then) (c : Code) (v : List ℕ) (s : State) → outside k c v s ≡ k (outside_code c) (outside_value c v) s
 outside-reads k Done v s = refl

@@ -7,6 +7,5 @@ pub mod Giving
 pub mod Acting
 pub mod Meaning
 pub mod Performing
-pub mod Seeking
 pub mod Evaluating
 pub mod Arriving

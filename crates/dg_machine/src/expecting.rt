@@ -13,13 +13,13 @@ ghost use Rattle.dg_machine.specs.Patterns.{AreRead};
 ghost use Rattle.dg_machine.specs.Acting.{again, awaiting, limit_in, limiting, reach_weight, waiting_of};
 ghost use Rattle.dg_machine.specs.Meaning.{all_back, weight_of, Comes, Goes, GoesAs};
 
-use crate::frame::{Came, Compiling, Fit, Frame, Limiting, Pace, Reach, Sought, Wait, plain_ask};
+use crate::frame::{Came, Compiling, Frame, Limiting, Pace, Reach, Wait, plain_ask};
+use crate::gather::push_all;
 use crate::machine::Machine;
 use crate::matches::{find_match, keep_end, keep_match};
 use crate::patterns::{Known, Prepared, readings_of};
 use crate::regexp::CANNOT_COMPILE;
-use crate::sessions::sought;
-use crate::variables::push_all;
+use dg_asking::{Attempt, Fit, has_session, seek_session, sought};
 use dg_bytes::{Bytes, Seq, TryCopy};
 use dg_forms::{
     action_at, end_action, expect_words, expected_integer, limit_of, listed, not_open, regexes_in,
@@ -182,7 +182,7 @@ impl Machine {
         self.state.leave_action();
         match code {
             Code::ExpContinued => {
-                if !self.has_session(Fit::Open, wait.session) {
+                if !has_session(&self.state, Fit::Open, wait.session) {
                     let id = id_of(alloc, wait.session)?;
                     let message = not_open(alloc, id.as_slice())?;
                     return self.fail(alloc, message);
@@ -336,8 +336,8 @@ impl Machine {
             Err(message) => return self.fail(alloc, message),
         };
         let (timeout, id, pairs) = expectation.into_parts();
-        match self.session_for(alloc, Fit::Open, id)? {
-            Sought::Session(session) => {
+        match seek_session(alloc, &mut self.state, Fit::Open, id)? {
+            Ok(session) => {
                 let limiting = Limiting {
                     timeout,
                     session,
@@ -347,13 +347,12 @@ impl Machine {
                 self.stack.push(Frame::Limiting { limiting })?;
                 Ok(Pace::Moved)
             }
-            Sought::Instead(Pace::Stands(ask)) => {
+            Err(Attempt::Ends(outcome)) => self.end_as(alloc, outcome),
+            Err(Attempt::Asks(question)) => {
                 self.stack.push(Frame::Expecting { words, depth })?;
+                let ask = plain_ask(alloc, question)?;
                 Ok(Pace::Stands(ask))
             }
-            Sought::Instead(Pace::Over(closing)) => Ok(Pace::Over(closing)),
-            Sought::Instead(Pace::Moved) => Ok(Pace::Moved),
-            Sought::Instead(Pace::Lost) => Ok(Pace::Lost),
         }
     }
 

@@ -127,26 +127,6 @@ pub(crate) struct Compiling {
     pub depth: u32,
 }
 
-/// What a session has to be for a call.
-#[derive(Clone, Copy, Debug, PartialEq, Eq)]
-pub(crate) enum Fit {
-    /// Neither closed nor ended.
-    Open,
-    /// Started.
-    Started,
-    /// Started, and not waited for.
-    Waitable,
-}
-
-/// The session of a command.
-#[derive(Drop)]
-pub(crate) enum Sought {
-    /// The session of this number.
-    Session(u32),
-    /// There is none, or a question stands: this comes instead.
-    Instead(Pace),
-}
-
 /// What an action on a session comes to at its next entry.
 #[derive(Drop)]
 pub(crate) enum Came {

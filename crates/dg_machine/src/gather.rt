@@ -1,5 +1,5 @@
 //! How the words of a command are made, a step at a time.
-ghost use Rattle.std.specs.Prelude.{◌≡◌, ◌+◌, ◌*◌, ◌<◌, ◌∷◌, ◌++◌, [], IfOk, length};
+ghost use Rattle.std.specs.Prelude.{◌≡◌, ◌+◌, ◌*◌, ◌<◌, ◌∷◌, ◌++◌, [], IfOk, OnOk, length};
 ghost use Rattle.dg_language.specs.Evaluation.{if_done, list_in};
 ghost use Rattle.dg_language.specs.Variables.{touch};
 ghost use Rattle.dg_language.specs.Language.{used, evaluate};
@@ -11,8 +11,7 @@ ghost use Rattle.dg_compiled.specs.Making.{making_on};
 
 use crate::frame::{Frame, Pace};
 use crate::machine::Machine;
-use crate::variables::push_all;
-use dg_bytes::{Bytes, TryCopy};
+use dg_bytes::{Bytes, Seq, TryCopy};
 use dg_compiled::{Making, add_text, has_room, make_texts};
 use dg_forms::{cannot_read, elements_in};
 use dg_language::Substitution;
@@ -30,6 +29,20 @@ fn element(alloc: Global, name: &[u8], index: &[u8]) -> Result<Bytes, AllocError
     element.extend(index)?;
     element.extend(b")")?;
     Ok(element)
+}
+
+/// Copies texts behind others.
+pub(crate) fn push_all(
+    alloc: Global,
+    list: &mut Seq<Bytes>,
+    values: &[Bytes],
+) -> Result<(), AllocError>
+    ensures { OnOk result (list.new ≡ list.old ++ values.now) }
+{
+    for value in values {
+        list.push(value.copy(alloc)?)?;
+    }
+    Ok(())
 }
 
 impl Machine {

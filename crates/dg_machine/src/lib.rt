@@ -3,6 +3,7 @@
 
 mod acting;
 mod answers;
+mod attempting;
 mod boxed;
 mod choices;
 mod control;
@@ -18,7 +19,6 @@ mod matches;
 mod opening;
 mod patterns;
 mod procedures;
-mod reading;
 mod readings;
 mod regexp;
 mod repeats;
@@ -26,8 +26,6 @@ mod rounds;
 mod sessions;
 mod settling;
 mod step;
-mod targets;
-mod variables;
 
 pub use crate::answers::Answers;
 pub use crate::evaluation::{Arrival, Asking, Ended, Evaluation};

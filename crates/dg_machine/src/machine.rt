@@ -3,7 +3,6 @@ ghost use Rattle.std.specs.Prelude.{◌≡◌, ◌+◌, ◌*◌, ◌^◌, ◌<�
 ghost use Rattle.std.specs.Arc.{arc_value};
 ghost use Rattle.dg_language.specs.Evaluation.{cut, out_of_steps, fail, wrong_count};
 ghost use Rattle.dg_language.specs.Play.{Ends};
-ghost use Rattle.dg_language.specs.Variables.{store};
 ghost use Rattle.dg_language.specs.Language.{commands_at, sequence, evaluate};
 ghost use Rattle.dg_machine.specs.declared.frame.Control.{Control};
 ghost use Rattle.dg_machine.specs.declared.frame.Frame.{Frame};
@@ -150,26 +149,6 @@ impl Machine {
                 Ok(Some(Pace::Over(closing)))
             }
         }
-    }
-
-    /// A variable gets a value, which is the command's too.
-    #[tactic(auto, unfolding(dg_language::specs::Variables::store, crate::specs::Meaning::rest, crate::specs::Meaning::weight))]
-    pub(crate) fn store(
-        &mut self,
-        alloc: Global,
-        name: &[u8],
-        value: Bytes,
-    ) -> Result<Pace, AllocError>
-        requires { self.old.control ≡ Control.Go }
-        ensures { IfOk result (GoesAs (store name.now value) 2 self.old self.new) }
-    {
-        if value.len() > LONGEST_VALUE {
-            let closing = self.cut(alloc, b"value too long")?;
-            return Ok(Pace::Over(closing));
-        }
-        self.state.assign(alloc, name, value.copy(alloc)?)?;
-        self.end(Code::Done, value);
-        Ok(Pace::Moved)
     }
 
     /// The words of a command are made, in front of the commands that are left, if any are.

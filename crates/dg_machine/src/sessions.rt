@@ -1,115 +1,25 @@
 //! The commands on sessions: spawn, send, close, wait and match_max.
-ghost use Rattle.std.specs.Prelude.{◌≡◌, ◌+◌, ◌<◌, IfOk, is_some, decimal, None};
-ghost use Rattle.dg_sessions.specs.Views.{session_at};
-ghost use Rattle.dg_language.specs.Sessions.{close_and_wait, do_close, do_match_max, do_send, do_session, do_spawn, do_wait, if_fit, later_limit, send_to, session_limit, sought, start};
+ghost use Rattle.std.specs.Prelude.{◌≡◌, ◌+◌, ◌<◌, IfOk};
+ghost use Rattle.dg_language.specs.Sessions.{close_and_wait, do_close, do_match_max, do_send, do_session, do_spawn, do_wait, send_to, start};
 ghost use Rattle.dg_machine.specs.declared.frame.Control.{Control};
 ghost use Rattle.dg_machine.specs.Acting.{acting, after_weight};
 ghost use Rattle.dg_machine.specs.Meaning.{all_back, weight_of, Goes, RunsAs, GoesAs};
-ghost use Rattle.dg_machine.specs.Seeking.{fit_of, Seeks, SeeksNamed};
 
-use crate::frame::{Acting, After, Fit, Frame, Pace, Sought};
+use crate::frame::{Acting, After, Frame, Pace};
+use crate::gather::push_all;
 use crate::machine::Machine;
-use crate::variables::push_all;
+use dg_asking::{Fit, has_session, run_match_max, seek_session};
 use dg_bytes::{Bytes, Seq, TryCopy};
-use dg_forms::{cannot_read, id_words, kept_limit, match_words, not_open, send_words, spawn_words};
-use dg_language::{Code, SessionCommand, State};
-use dg_sessions::{MAX_SESSIONS, Phase};
+use dg_forms::{id_words, send_words, spawn_words};
+use dg_language::{Code, SessionCommand};
+use dg_sessions::MAX_SESSIONS;
 use dg_transcript::Action;
 use std::alloc::{AllocError, Global};
 
 /// The most words of `spawn`.
 const MOST_WORDS: usize = 64;
 
-/// Whether a session in this phase is fit for a call.
-fn is_fit(fit: Fit, phase: Phase) -> bool
-    ensures { result ≡ fit_of fit phase }
-{
-    match fit {
-        Fit::Open => phase.is_open(),
-        Fit::Started => phase.has_started(),
-        Fit::Waitable => phase.can_wait(),
-    }
-}
-
-/// The name by which a variable is read that is sought locally, then globally.
-pub(crate) fn sought(alloc: Global, state: &State, name: &[u8]) -> Result<Bytes, AllocError>
-    ensures { IfOk result (λ n. n ≡ sought name.now state.now) }
-{
-    if state.is_set(name) {
-        return Bytes::from_slice(alloc, name);
-    }
-    let mut global = Bytes::from_slice(alloc, b"::")?;
-    global.extend(name)?;
-    Ok(global)
-}
-
-/// A number in decimal.
-fn decimal(alloc: Global, number: usize) -> Result<Bytes, AllocError>
-    ensures { IfOk result (λ b. b ≡ decimal number) }
-{
-    Bytes::from_slice(alloc, number.to_string(alloc)?.as_bytes())
-}
-
 impl Machine {
-    /// Whether there is a session of this number that is fit for a call.
-    pub(crate) fn has_session(&self, fit: Fit, number: u32) -> bool
-        ensures { result ≡ is_some (if_fit (fit_of fit) number (session_at number self.now.state.sessions)) }
-    {
-        match self.state.session(number) {
-            Some(session) => is_fit(fit, session.phase()),
-            None => false,
-        }
-    }
-
-    /// The session of this name, if it is fit for a call.
-    fn session_named(&mut self, alloc: Global, fit: Fit, id: &[u8]) -> Result<Sought, AllocError>
-        requires { self.old.control ≡ Control.Go }
-        ensures { IfOk result (SeeksNamed fit id.now self.old self.new) }
-    {
-        if let Some(number) = self.state.sessions().find(id) {
-            if self.has_session(fit, number) {
-                return Ok(Sought::Session(number));
-            }
-        }
-        let message = not_open(alloc, id)?;
-        let pace = self.fail(alloc, message)?;
-        Ok(Sought::Instead(pace))
-    }
-
-    /// The session that `spawn_id` names, if it is fit for a call.
-    fn session_of_spawn_id(&mut self, alloc: Global, fit: Fit) -> Result<Sought, AllocError>
-        requires { self.old.control ≡ Control.Go }
-        ensures { IfOk result (Seeks fit None self.old self.new) }
-    {
-        let name = sought(alloc, &self.state, b"spawn_id")?;
-        if let Some(pace) = self.ready(alloc, name.as_slice())? {
-            return Ok(Sought::Instead(pace));
-        }
-        let Some(value) = self.state.value_of(name.as_slice()) else {
-            let message = cannot_read(alloc, b"spawn_id")?;
-            let pace = self.fail(alloc, message)?;
-            return Ok(Sought::Instead(pace));
-        };
-        let id = value.copy(alloc)?;
-        self.session_named(alloc, fit, id.as_slice())
-    }
-
-    /// The session that a flag names, or else the one of `spawn_id`.
-    pub(crate) fn session_for(
-        &mut self,
-        alloc: Global,
-        fit: Fit,
-        id: Option<Bytes>,
-    ) -> Result<Sought, AllocError>
-        requires { self.old.control ≡ Control.Go }
-        ensures { IfOk result (Seeks fit id self.old self.new) }
-    {
-        match id {
-            Some(id) => self.session_named(alloc, fit, id.as_slice()),
-            None => self.session_of_spawn_id(alloc, fit),
-        }
-    }
-
     /// The next session is started by these words.
     #[tactic(auto, unfolding(dg_language::specs::Sessions::start, crate::specs::Meaning::rest, crate::specs::Meaning::go, crate::specs::Meaning::weight, crate::specs::Meaning::stack_weight))]
     fn start(&mut self, alloc: Global, words: &[Bytes]) -> Result<Pace, AllocError>
@@ -189,9 +99,9 @@ impl Machine {
         ensures { IfOk result (RunsAs (do_send args.now) self.old self.new) }
     {
         match send_words(alloc, args)? {
-            Ok((id, text)) => match self.session_for(alloc, Fit::Open, id)? {
-                Sought::Session(session) => self.send_to(alloc, session, text),
-                Sought::Instead(pace) => Ok(pace),
+            Ok((id, text)) => match seek_session(alloc, &mut self.state, Fit::Open, id)? {
+                Ok(session) => self.send_to(alloc, session, text),
+                Err(attempt) => self.come_of(alloc, attempt),
             },
             Err(message) => self.fail(alloc, message),
         }
@@ -203,11 +113,9 @@ impl Machine {
         ensures { IfOk result (RunsAs (do_close args.now) self.old self.new) }
     {
         match id_words(alloc, b"close", args)? {
-            Ok(id) => match self.session_for(alloc, Fit::Open, id)? {
-                Sought::Session(session) => {
-                    self.begin_action(session, Action::Close, After::Reported)
-                }
-                Sought::Instead(pace) => Ok(pace),
+            Ok(id) => match seek_session(alloc, &mut self.state, Fit::Open, id)? {
+                Ok(session) => self.begin_action(session, Action::Close, After::Reported),
+                Err(attempt) => self.come_of(alloc, attempt),
             },
             Err(message) => self.fail(alloc, message),
         }
@@ -219,7 +127,7 @@ impl Machine {
         requires { self.old.control ≡ Control.Go }
         ensures { IfOk result (GoesAs (close_and_wait session) 30 self.old self.new) }
     {
-        if self.has_session(Fit::Open, session) {
+        if has_session(&self.state, Fit::Open, session) {
             return self.begin_action(session, Action::Close, After::ToWait);
         }
         self.begin_action(session, Action::Wait, After::Waited)
@@ -231,63 +139,12 @@ impl Machine {
         ensures { IfOk result (RunsAs (do_wait args.now) self.old self.new) }
     {
         match id_words(alloc, b"wait", args)? {
-            Ok(id) => match self.session_for(alloc, Fit::Waitable, id)? {
-                Sought::Session(session) => self.close_and_wait(session),
-                Sought::Instead(pace) => Ok(pace),
+            Ok(id) => match seek_session(alloc, &mut self.state, Fit::Waitable, id)? {
+                Ok(session) => self.close_and_wait(session),
+                Err(attempt) => self.come_of(alloc, attempt),
             },
             Err(message) => self.fail(alloc, message),
         }
-    }
-
-    /// The limit of later sessions is read, or set.
-    #[tactic(auto, unfolding(dg_language::specs::Sessions::later_limit, crate::specs::Meaning::rest, crate::specs::Meaning::weight))]
-    fn later_limit(&mut self, alloc: Global, text: Option<Bytes>) -> Result<Pace, AllocError>
-        requires { self.old.control ≡ Control.Go }
-        ensures { IfOk result (GoesAs (later_limit text) 2 self.old self.new) }
-    {
-        let Some(text) = text else {
-            let value = decimal(alloc, self.state.sessions().later_max())?;
-            self.end(Code::Done, value);
-            return Ok(Pace::Moved);
-        };
-        let Some(max) = kept_limit(text.as_slice()) else {
-            let message = Bytes::from_slice(alloc, b"bad match_max")?;
-            return self.fail(alloc, message);
-        };
-        self.state.set_later_limit(max);
-        self.end(Code::Done, Bytes::new(alloc));
-        Ok(Pace::Moved)
-    }
-
-    /// The limit of a session is read, or set.
-    #[tactic(auto, unfolding(dg_language::specs::Sessions::session_limit, crate::specs::Meaning::rest, crate::specs::Meaning::weight))]
-    fn session_limit(
-        &mut self,
-        alloc: Global,
-        number: u32,
-        text: Option<Bytes>,
-    ) -> Result<Pace, AllocError>
-        requires { self.old.control ≡ Control.Go }
-        ensures { IfOk result (GoesAs (session_limit number text) 2 self.old self.new) }
-    {
-        let Some(text) = text else {
-            let max = match self.state.session(number) {
-                Some(session) => session.max(),
-                None => 0,
-            };
-            let value = decimal(alloc, max)?;
-            self.end(Code::Done, value);
-            return Ok(Pace::Moved);
-        };
-        let Some(max) = kept_limit(text.as_slice()) else {
-            let message = Bytes::from_slice(alloc, b"bad match_max")?;
-            return self.fail(alloc, message);
-        };
-        if self.state.session(number).is_some() {
-            self.state.set_session_limit(number, max);
-        }
-        self.end(Code::Done, Bytes::new(alloc));
-        Ok(Pace::Moved)
     }
 
     /// `match_max`.
@@ -295,17 +152,8 @@ impl Machine {
         requires { self.old.control ≡ Control.Go }
         ensures { IfOk result (RunsAs (do_match_max args.now) self.old self.new) }
     {
-        let (later, text) = match match_words(alloc, args)? {
-            Ok(words) => words,
-            Err(message) => return self.fail(alloc, message),
-        };
-        if later {
-            return self.later_limit(alloc, text);
-        }
-        match self.session_for(alloc, Fit::Started, None)? {
-            Sought::Session(session) => self.session_limit(alloc, session, text),
-            Sought::Instead(pace) => Ok(pace),
-        }
+        let attempt = run_match_max(alloc, &mut self.state, args)?;
+        self.come_of(alloc, attempt)
     }
 
     /// A command on a session.

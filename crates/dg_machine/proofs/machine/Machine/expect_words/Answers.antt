@@ -1,8 +1,13 @@
-use Rattle.std.proofs.Common.{◌∙◌, ap, sym, arith}
-use Rattle.dg_machine.specs.declared.machine.Machine.{Machine}
-use Rattle.dg_machine.specs.Meaning.{go, rest}
-use Rattle.dg_machine.proofs.MachineLemmas.{weight-cons}
-use Rattle.dg_machine.proofs.LimitLemmas.{expects-not, read-parts, session-asks, session-found, session-moves, session-over, weight-found, whole, with_session}
+use Rattle.std.proofs.Common.{◌∙◌, ap, sym, refl, arith}
+use Rattle.std.proofs.lemmas.Result.{IfOk-weaker}
+use Rattle.dg_language.specs.State.{State}
+use Rattle.dg_language.specs.Expecting.{expect_with}
+use Rattle.dg_language.specs.Language.{evaluate}
+use Rattle.dg_machine.specs.declared.frame.Control.TheVariants.{Go}
+use Rattle.dg_machine.specs.Meaning.{all_back, go, rest}
+use Rattle.dg_machine.proofs.AttemptLemmas.{weight-kept}
+use Rattle.dg_machine.proofs.MachineLemmas.{weight-cons, Goes-comes}
+use Rattle.dg_machine.proofs.LimitLemmas.{expects-not, read-parts, session-asks, session-ends, session-found, whole}
 use Rattle.dg_machine.proofs.ResultLemmas.{Goes-comes-ok}
 use Rattle.dg_machine.proofs.machine.Machine.expect_words.Goals as goal
 
@@ -11,53 +16,35 @@ returns-in-Err c =
     let read = sym c.in-Err.is ∙ (rw c.as_slice.ensures at c.in_ok-expectation.ensures) in
     Goes-comes-ok _ _ _ _ _ _ _ c.fail.ensures (expects-not _ _ _ _ _ read) (omega arith)
 
-pub returns-in_ok-push-in-Session : goal.returns-in_ok-push-in-Session
+pub returns-in_ok-push-in-Ok-2 : goal.returns-in_ok-push-in-Ok-2
 unfolding rest go
-returns-in_ok-push-in-Session c =
+returns-in_ok-push-in-Ok-2 c =
     let e = whole c.into_parts-timeout.result in
     let read = read-parts c.args.words c.into_parts-timeout.result c.in-Ok.expectation c.into_parts-timeout.ensures (sym c.in-Ok.is ∙ (rw c.as_slice.ensures at c.in_ok-expectation.ensures)) in
-    let found = rw c.in-Session.is at c.in_ok-session.ensures in
-    let goes = ap (λ (m : Machine). m.control) found.1 ∙ c.requires in
-    let same = rw goes at (weight-found c.args.words c.args.depth e read c.args.self.now c.session_for.new.self c.in-Session.session found) in
-    rw (c.in_ok-push-in-Session.ensures, goes) (
-      session-found c.args.words c.args.depth e read c.args.self.now c.session_for.new.self c.in-Session.session found,
-      ap (λ (m : Machine). m.state.known) found.1,
-      (rw weight-cons (omega (arith, same))),
+    let found = rw c.in-Ok-2.is at c.in_ok-session.ensures in
+    let k = all_back c.args.self.now.stack in
+    rw (c.in_ok-push-in-Ok-2.ensures, c.requires) (
+      session-found c.args.words c.args.depth e read _ _ c.in-Ok-2.session k found,
+      found.1.0,
+      (rw (weight-cons, weight-kept Go c.args.self.now.state c.seek_session.new.state c.args.self.now.stack found.1) (omega arith)),
     )
 
-pub returns-in_ok-push-in-Instead-Stands : goal.returns-in_ok-push-in-Instead-Stands
+pub returns-in-Err-Ends : goal.returns-in-Err-Ends
+returns-in-Err-Ends c =
+    let e = whole c.into_parts-timeout.result in
+    let read = read-parts c.args.words c.into_parts-timeout.result c.in-Ok.expectation c.into_parts-timeout.ensures (sym c.in-Ok.is ∙ (rw c.as_slice.ensures at c.in_ok-expectation.ensures)) in
+    let ended = rw c.in-Err-Ends.field-0-is at (rw c.in-Err-Ends.is at c.in_ok-session.ensures) in
+    IfOk-weaker c.end_as.result _ _ (λ p h.
+    Goes-comes p _ _ _ _ _ _
+    (h (expect_with (evaluate c.args.depth) c.args.words) c.args.self.now.state (session-ends c.args.words c.args.depth e read _ _ c.in-Err-Ends.outcome ended))
+    refl (rw c.requires (omega arith))) c.end_as.ensures
+
+pub returns-in_ok-ask-in-Err-Asks : goal.returns-in_ok-ask-in-Err-Asks
 unfolding rest go
-returns-in_ok-push-in-Instead-Stands c =
+returns-in_ok-ask-in-Err-Asks c =
     let e = whole c.into_parts-timeout.result in
     let read = read-parts c.args.words c.into_parts-timeout.result c.in-Ok.expectation c.into_parts-timeout.ensures (sym c.in-Ok.is ∙ (rw c.as_slice.ensures at c.in_ok-expectation.ensures)) in
-    let asks = rw c.in-Instead-Stands.field-0-is at (rw c.in-Instead-Stands.is at c.in_ok-session.ensures) in
-    let at_once = asks (with_session c.args.words c.args.depth e read c.args.self.now c.session_for.new.self) in
-    let goes = ap (λ (m : Machine). m.control) at_once.1 ∙ c.requires in
-    rw (c.in_ok-push-in-Instead-Stands.ensures, goes) (
-      session-asks c.args.words c.args.depth e read c.args.self.now c.session_for.new.self c.in-Instead-Stands.ask asks,
-      ap (λ (m : Machine). m.state.known) at_once.1,
-      at_once.2,
-    )
-
-pub returns-in-Instead-Over : goal.returns-in-Instead-Over
-returns-in-Instead-Over c =
-    let e = whole c.into_parts-timeout.result in
-    let read = read-parts c.args.words c.into_parts-timeout.result c.in-Ok.expectation c.into_parts-timeout.ensures (sym c.in-Ok.is ∙ (rw c.as_slice.ensures at c.in_ok-expectation.ensures)) in
-    let over = rw c.in-Instead-Over.field-0-is at (rw c.in-Instead-Over.is at c.in_ok-session.ensures) in
-    let at_once = over (with_session c.args.words c.args.depth e read c.args.self.now c.session_for.new.self) in
-    (session-over c.args.words c.args.depth e read c.args.self.now c.session_for.new.self c.in-Instead-Over.closing over, at_once.1)
-
-pub returns-in-Instead-Moved : goal.returns-in-Instead-Moved
-returns-in-Instead-Moved c =
-    let e = whole c.into_parts-timeout.result in
-    let read = read-parts c.args.words c.into_parts-timeout.result c.in-Ok.expectation c.into_parts-timeout.ensures (sym c.in-Ok.is ∙ (rw c.as_slice.ensures at c.in_ok-expectation.ensures)) in
-    let moved = rw c.in-Instead-Moved.field-0-is at (rw c.in-Instead-Moved.is at c.in_ok-session.ensures) in
-    let at_once = moved (with_session c.args.words c.args.depth e read c.args.self.now c.session_for.new.self) in
-    (session-moves c.args.words c.args.depth e read c.args.self.now c.session_for.new.self moved, at_once.1, omega (arith, at_once.2))
-
-pub returns-in-Instead-Lost : goal.returns-in-Instead-Lost
-returns-in-Instead-Lost c =
-    let e = whole c.into_parts-timeout.result in
-    let read = read-parts c.args.words c.into_parts-timeout.result c.in-Ok.expectation c.into_parts-timeout.ensures (sym c.in-Ok.is ∙ (rw c.as_slice.ensures at c.in_ok-expectation.ensures)) in
-    let lost = rw c.in-Instead-Lost.field-0-is at (rw c.in-Instead-Lost.is at c.in_ok-session.ensures) in
-    lost (with_session c.args.words c.args.depth e read c.args.self.now c.session_for.new.self)
+    let asks = rw c.in-Err-Asks.field-0-is at (rw c.in-Err-Asks.is at c.in_ok-session.ensures) in
+    let at_once = session-asks c.args.words c.args.depth e read _ _ c.in-Err-Asks.question (all_back c.args.self.now.stack) asks in
+    rw (c.in_ok-ask-in-Err-Asks.ensures, c.in_ok-push-in-Err-Asks.ensures, c.requires)
+    (at_once.0, ap (λ (s : State). s.known) at_once.1, at_once.2)

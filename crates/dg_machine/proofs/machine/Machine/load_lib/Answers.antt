@@ -2,9 +2,9 @@ use Rattle.std.proofs.Common.{◌∙◌, sym, ap, arith}
 use Rattle.std.proofs.lemmas.Result.{IfOk-weaker}
 use Rattle.dg_world.specs.Name.{is_name}
 use Rattle.dg_language.specs.Boards.{library_file, no_library}
-use Rattle.dg_machine.proofs.VariableLemmas.{runs-as}
+use Rattle.dg_machine.proofs.StepLemmas.{runs-as}
 use Rattle.dg_machine.proofs.SessionLemmas.{fault-runs}
-use Rattle.dg_machine.proofs.BoardLemmas.{load_lib-of}
+use Rattle.dg_machine.proofs.LibraryLemmas.{load_lib-of}
 use Rattle.dg_machine.proofs.machine.Machine.load_lib.Goals as goal
 
 pub returns-then-not-is_name : goal.returns-then-not-is_name

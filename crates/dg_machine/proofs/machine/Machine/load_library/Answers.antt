@@ -3,7 +3,7 @@ use Rattle.dg_language.specs.Boards.{load}
 use Rattle.dg_language.specs.Language.{evaluate}
 use Rattle.dg_machine.specs.Meaning.{rest, back, all_back, weight}
 use Rattle.dg_machine.proofs.OpeningLemmas.{known-marked, weight-marked, weight-pushed}
-use Rattle.dg_machine.proofs.BoardLemmas.{load-begun, load-asks, load-known, known-in_library, weight-in_library}
+use Rattle.dg_machine.proofs.LibraryLemmas.{load-begun, load-asks, load-known, known-in_library, weight-in_library}
 use Rattle.dg_machine.proofs.ResultLemmas.{Goes-runs-ok}
 use Rattle.dg_machine.proofs.machine.Machine.load_library.Goals as goal
 

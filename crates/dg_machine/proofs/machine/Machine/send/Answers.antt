@@ -1,28 +1,29 @@
-use Rattle.std.proofs.Common.{sym, arith}
+use Rattle.std.proofs.Common.{sym, refl, arith}
 use Rattle.std.proofs.lemmas.Result.{IfOk-weaker}
-use Rattle.dg_language.specs.Sessions.{send_to}
-use Rattle.dg_machine.specs.declared.frame.Fit.TheVariants.{Open}
-use Rattle.dg_machine.proofs.VariableLemmas.{runs-as}
-use Rattle.dg_machine.proofs.SessionLemmas.{sought-runs, instead-runs, fault-runs, send-of, send-fault}
+use Rattle.dg_language.specs.Sessions.{on_session, send_to}
+use Rattle.dg_asking.specs.declared.seeking.Fit.TheVariants.{Open}
+use Rattle.dg_asking.specs.Seeking.{fit_of}
+use Rattle.dg_machine.proofs.StepLemmas.{runs-as}
+use Rattle.dg_machine.proofs.SessionLemmas.{sought-runs, fault-runs, send-of, send-fault}
 use Rattle.dg_machine.proofs.machine.Machine.send.Goals as goal
 
-pub returns-in-Session : goal.returns-in-Session
-returns-in-Session c =
+pub returns-in-Ok-2 : goal.returns-in-Ok-2
+returns-in-Ok-2 c =
     let words = sym (rw c.in-Ok.is at c.in_ok-id.ensures) in
-    let sought = rw c.in-Session.is at c.in_ok-session-in-Ok.ensures in
+    let sought = rw c.in-Ok-2.is at c.in_ok-session-in-Ok.ensures in
     IfOk-weaker c.send_to.result _ _
-    (λ p h.
-    runs-as _ _ _ _ p (sought-runs Open c.in-Ok.id c.in-Session.session _ (λ n s k. send_to n c.in-Ok.text s k) c.args.self.now c.session_for.new.self _ p sought h (omega arith))
-    (send-of c.args.args.now c.in-Ok.id c.in-Ok.text words))
+    (λ p h. runs-as _ _ _ _ p (sought-runs Open c.in-Ok.id c.in-Ok-2.session _ (λ n s k. send_to n c.in-Ok.text s k) c.args.self.now _ _ p refl sought h (omega arith)) (send-of c.args.args.now c.in-Ok.id c.in-Ok.text words))
     c.send_to.ensures
-
-pub returns-in-Instead : goal.returns-in-Instead
-returns-in-Instead c =
-    let words = sym (rw c.in-Ok.is at c.in_ok-id.ensures) in
-    let sought = rw c.in-Instead.is at c.in_ok-session-in-Ok.ensures in
-    runs-as _ _ _ _ _ (instead-runs Open c.in-Ok.id (λ n s k. send_to n c.in-Ok.text s k) c.args.self.now c.session_for.new.self c.in-Instead.pace sought) (send-of c.args.args.now c.in-Ok.id c.in-Ok.text words)
 
 pub returns-in-Err : goal.returns-in-Err
 returns-in-Err c =
     let words = sym (rw c.in-Err.is at c.in_ok-id.ensures) in
     IfOk-weaker c.fail.result _ _ (λ p h. fault-runs _ c.in-Err.message _ _ p _ h (send-fault c.args.args.now c.in-Err.message words) (omega arith)) c.fail.ensures
+
+pub returns-in-Err-2 : goal.returns-in-Err-2
+returns-in-Err-2 c =
+    let words = sym (rw c.in-Ok.is at c.in_ok-id.ensures) in
+    let instead = rw c.in-Err-2.is at c.in_ok-session-in-Ok.ensures in
+    IfOk-weaker c.come_of.result _ _
+    (λ p h. runs-as _ _ _ _ p (h (λ s k. on_session (fit_of Open) c.in-Ok.id s k (λ n t. send_to n c.in-Ok.text t k)) c.args.self.now refl (instead (λ n s k. send_to n c.in-Ok.text s k))) (send-of c.args.args.now c.in-Ok.id c.in-Ok.text words))
+    c.come_of.ensures

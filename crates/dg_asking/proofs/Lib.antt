@@ -1,0 +1,4 @@
+pub mod AttemptLemmas
+pub mod VariableLemmas
+pub mod TargetLemmas
+pub mod SeekingLemmas

@@ -1,0 +1,15 @@
+//! The commands that evaluate nothing inside and may ask: those on variables, on the systems' triplets, on the flags that these
+//! decide, and on what a session keeps. Each is a function of its words and the state to what comes of it.
+#![tactic(auto)]
+
+mod attempt;
+mod limits;
+mod seeking;
+mod targets;
+mod variables;
+
+pub use crate::attempt::{Attempt, Outcome};
+pub use crate::limits::run_match_max;
+pub use crate::seeking::{Fit, has_session, seek_session, sought};
+pub use crate::targets::{run_flag, run_target};
+pub use crate::variables::{run_variable, unset_name, unset_names};
