@@ -29,7 +29,7 @@ pub(crate) fn read_file<R: Files + AllocGlobal>(
 ) -> io::Result<Bytes> {
     let mut bytes = Vec::new(rt.alloc());
     let file = fs::open(rt, path)?;
-    file.take(limit).read_to_end(&mut bytes)?;
+    io::copy(&mut file.take(limit), &mut bytes)?;
     Ok(Bytes::from_vec(bytes))
 }
 

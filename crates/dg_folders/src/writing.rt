@@ -56,12 +56,8 @@ pub fn write_in_place<R: Files + AllocGlobal>(
     }
 }
 
-/// Whether a file has just these bytes. One of another length isn't read.
+/// Whether a file has just these bytes. Of a longer one no more is read than shows that.
 fn has_bytes<R: Files + AllocGlobal>(rt: &R, path: &str, bytes: &[u8]) -> bool {
-    match fs::metadata(rt, path) {
-        Ok(found) if found.len() == bytes.len() as u64 => {}
-        _ => return false,
-    }
     let most = (bytes.len() as u64).saturating_add(1);
     match read_file(rt, path, most) {
         Ok(found) => found.as_slice() == bytes,
