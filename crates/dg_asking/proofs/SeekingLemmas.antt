@@ -1,5 +1,5 @@
 -- The session of a command, and what it keeps.
-use Rattle.std.proofs.Common.{◌≡◌, ℕ, ℤ, pos, negsuc, ◌&&◌, ◌≤◌, Bool, true, false, List, [], refl, ap, sym, ◌∙◌, arith}
+use Rattle.std.proofs.Common.{◌≡◌, ℕ, ℤ, pos, negsuc, ◌&&◌, ◌≤◌, Bool, true, false, List, [], refl, ap, sym, ◌∙◌, subst, arith}
 use Rattle.std.specs.Prelude.{Option, Some, None, Result, Ok, Err, nat_lt, nat_le, codes}
 use Rattle.std.proofs.lemmas.Bool.Decides.{nat_tests}
 use Rattle.dg_scope.specs.Scopes.{value_of}
@@ -17,13 +17,13 @@ use Rattle.dg_language.specs.Arguments.{on}
 use Rattle.dg_language.specs.Variables.{touch, cannot_read}
 use Rattle.dg_language.specs.Sessions.{by_id, by_spawn_id, fit_session, not_open, on_session, on_words, seek, sought, do_match_max, kept_limit, limit_of_number, match_limit, later_limit, session_limit, set_limit}
 use Rattle.dg_language.specs.SessionWords.{match_words}
-use Rattle.dg_asking.specs.declared.attempt.Outcome.{Outcome}
-use Rattle.dg_asking.specs.declared.attempt.Outcome.TheVariants.{Fails}
+use Rattle.dg_asking.specs.declared.attempt.AttemptEnd.{AttemptEnd}
+use Rattle.dg_asking.specs.declared.attempt.AttemptEnd.TheVariants.{Fails}
 use Rattle.dg_asking.specs.declared.attempt.Attempt.{Attempt}
 use Rattle.dg_asking.specs.declared.attempt.Attempt.TheVariants.{Ends as IsOver, Asks as NeedsAnswer}
 use Rattle.dg_asking.specs.declared.seeking.Fit.{Fit}
 use Rattle.dg_asking.specs.Attempts.{Attempts, EndsAs, Precedes, touched}
-use Rattle.dg_asking.specs.Seeking.{fit_of, Seeks}
+use Rattle.dg_asking.specs.Seeking.{fit_of, FindsFit, Seeks}
 use Rattle.dg_asking.proofs.AttemptLemmas.{ends-on, kept, used-ends}
 
 -- ---- a variable that is sought locally, then globally
@@ -51,7 +51,7 @@ module _ (n : List ℕ) where
         ((λ k. seek-at old m (λ o t. f o t k) e ∙ waits.0 k ∙ ap (Asks (plain q)) (λ i a. again k a i)), waits.1, waits.2)
 
     -- it can be used, and what follows has ended so
-    pub seek-ends : (new : State) (o : Outcome) → Precedes (touched m) old mid None → EndsAs (λ t k. f (value_of t.variables m) t k) mid new o
+    pub seek-ends : (new : State) (o : AttemptEnd) → Precedes (touched m) old mid None → EndsAs (λ t k. f (value_of t.variables m) t k) mid new o
         → EndsAs (λ s k. seek n s (λ x t. f x t k)) old new o
     seek-ends new o h g =
         ends-on (λ s k. seek n s (λ x t. f x t k)) (λ s k. touch m s (λ t. f (value_of t.variables m) t k)) old old new o
@@ -60,23 +60,23 @@ module _ (n : List ℕ) where
 -- ---- the session of a command
 
 module _ (fit : Fit) where
-  by-id-none : (id message : List ℕ) (s : State) (k : Then) (f : ℕ → State → Play Ending) → fit_session (fit_of fit) id s.sessions ≡ None → message ≡ not_open id
-      → by_id (fit_of fit) id s k f ≡ fail message s k
-  by-id-none id message s k f e h = ap (λ o. on o (fail (not_open id) s k) (λ n. f n s)) e ∙ ap (λ m. fail m s k) (sym h)
+  by-id-none : (id : List ℕ) (s : State) (k : Then) (f : ℕ → State → Play Ending) → fit_session (fit_of fit) id s.sessions ≡ None
+      → by_id (fit_of fit) id s k f ≡ fail (not_open id) s k
+  by-id-none id s k f e = ap (λ o. on o (fail (not_open id) s k) (λ n. f n s)) e
 
   by-id-some : (id : List ℕ) (s : State) (k : Then) (f : ℕ → State → Play Ending) (n : ℕ) → fit_session (fit_of fit) id s.sessions ≡ Some n
       → by_id (fit_of fit) id s k f ≡ f n s
   by-id-some id s k f n e = ap (λ o. on o (fail (not_open id) s k) (λ n. f n s)) e
 
-  -- a flag names it
-  pub flag-finds : (id : List ℕ) (s : State) (n : ℕ) → fit_session (fit_of fit) id s.sessions ≡ Some n → Seeks fit (Some id) s s (Ok n)
+  flag-misses : (id : List ℕ) (s : State) → fit_session (fit_of fit) id s.sessions ≡ None → Seeks fit (Some id) s s (Err (IsOver (Fails (not_open id))))
   unfolding on_session
-  flag-finds id s n e = ((λ k f. by-id-some id s k f n e), kept s)
+  flag-misses id s e = λ f. ((λ k. by-id-none id s k (λ n t. f n t k) e), kept s)
 
-  pub flag-misses : (id message : List ℕ) (s : State) → fit_session (fit_of fit) id s.sessions ≡ None → message ≡ not_open id
-      → Seeks fit (Some id) s s (Err (IsOver (Fails message)))
+  -- a flag names it
+  pub flag-seeks : (id : List ℕ) (s : State) (r : Result ℕ Attempt) → FindsFit fit id s r → Seeks fit (Some id) s s r
   unfolding on_session
-  flag-misses id message s e h = λ f. ((λ k. by-id-none id message s k (λ n t. f n t k) e h), kept s)
+  flag-seeks id s (Ok n) e = ((λ k f. by-id-some id s k f n e), kept s)
+  flag-seeks id s (Err a) h = subst (λ x. Seeks fit (Some id) s s (Err x)) (sym h.1) (flag-misses id s h.0)
 
   module _ (m : List ℕ) (old mid : State) (e : m ≡ sought (codes "spawn_id") old) where
     -- `spawn_id` can't be used
@@ -94,29 +94,31 @@ module _ (fit : Fit) where
           seek-ends (codes "spawn_id") (λ o t k. by_spawn_id (fit_of fit) o t k (λ n u. f n u k)) m old mid e mid (Fails message) h
           ((λ k. ap (λ o. by_spawn_id (fit_of fit) o mid k (λ n u. f n u k)) none ∙ ap (λ x. fail x mid k) (sym said)), kept mid)
 
-      -- it names the session
-      pub spawn_id-finds : (id : List ℕ) (n : ℕ) → value_of mid.variables m ≡ Some id → fit_session (fit_of fit) id mid.sessions ≡ Some n
-          → Seeks fit None old mid (Ok n)
-      unfolding on_session
-      spawn_id-finds id n some found = (
-        λ k f. seek-at (codes "spawn_id") old m (λ o t. by_spawn_id (fit_of fit) o t k f) e
-            ∙ h.0 (λ t. by_spawn_id (fit_of fit) (value_of t.variables m) t k f) k
-            ∙ ap (λ o. by_spawn_id (fit_of fit) o mid k f) some ∙ by-id-some id mid k f n found,
-        h.1,
-      )
+      module _ (id : List ℕ) (some : value_of mid.variables m ≡ Some id) where
+        spawn_id-finds : (n : ℕ) → fit_session (fit_of fit) id mid.sessions ≡ Some n → Seeks fit None old mid (Ok n)
+        unfolding on_session
+        spawn_id-finds n found = (
+          λ k f. seek-at (codes "spawn_id") old m (λ o t. by_spawn_id (fit_of fit) o t k f) e
+              ∙ h.0 (λ t. by_spawn_id (fit_of fit) (value_of t.variables m) t k f) k
+              ∙ ap (λ o. by_spawn_id (fit_of fit) o mid k f) some ∙ by-id-some id mid k f n found,
+          h.1,
+        )
 
-      -- it names none that is fit
-      pub spawn_id-misses : (id message : List ℕ) → value_of mid.variables m ≡ Some id → fit_session (fit_of fit) id mid.sessions ≡ None → message ≡ not_open id
-          → Seeks fit None old mid (Err (IsOver (Fails message)))
-      unfolding on_session
-      spawn_id-misses id message some none said = λ f.
-          seek-ends (codes "spawn_id") (λ o t k. by_spawn_id (fit_of fit) o t k (λ n u. f n u k)) m old mid e mid (Fails message) h (
-            (λ k. ap (λ o. by_spawn_id (fit_of fit) o mid k (λ n u. f n u k)) some ∙ by-id-none id message mid k (λ n u. f n u k) none said),
-            kept mid,
-          )
+        spawn_id-misses : fit_session (fit_of fit) id mid.sessions ≡ None → Seeks fit None old mid (Err (IsOver (Fails (not_open id))))
+        unfolding on_session
+        spawn_id-misses none = λ f.
+            seek-ends (codes "spawn_id") (λ o t k. by_spawn_id (fit_of fit) o t k (λ n u. f n u k)) m old mid e mid (Fails (not_open id)) h (
+              (λ k. ap (λ o. by_spawn_id (fit_of fit) o mid k (λ n u. f n u k)) some ∙ by-id-none id mid k (λ n u. f n u k) none),
+              kept mid,
+            )
+
+        -- it names the session, or none that is fit
+        pub spawn_id-seeks : (r : Result ℕ Attempt) → FindsFit fit id mid r → Seeks fit None old mid r
+        spawn_id-seeks (Ok n) found = spawn_id-finds n found
+        spawn_id-seeks (Err a) missed = subst (λ x. Seeks fit None old mid (Err x)) (sym missed.1) (spawn_id-misses missed.0)
 
   -- a command that goes on with a session
-  pub sought-ends : (id : Option (List ℕ)) (n : ℕ) (f : ℕ → State → Then → Play Ending) (old mid new : State) (o : Outcome) → Seeks fit id old mid (Ok n)
+  pub sought-ends : (id : Option (List ℕ)) (n : ℕ) (f : ℕ → State → Then → Play Ending) (old mid new : State) (o : AttemptEnd) → Seeks fit id old mid (Ok n)
       → EndsAs (f n) mid new o → EndsAs (λ s k. on_session (fit_of fit) id s k (λ m t. f m t k)) old new o
   sought-ends id n f old mid new o h g =
       ends-on (λ s k. on_session (fit_of fit) id s k (λ m t. f m t k)) (f n) old mid new o (λ k. h.0 k (λ m t. f m t k)) h.1 g

@@ -19,7 +19,7 @@ use Rattle.dg_language.specs.Arguments.{on, only}
 use Rattle.dg_expr.specs.Truth.{truth_text}
 use Rattle.dg_language.specs.Boards.{do_flag, do_is, do_is_native, flag_call, flagged, is_pattern, triplet_of}
 use Rattle.dg_language.proofs.Asking.{ask-known, ask-asks, lookup-more}
-use Rattle.dg_asking.specs.Attempts.{Keeps}
+use Rattle.dg_asking.specs.Attempts.{SpendsNothing}
 
 -- a command that asks a question first
 module _ (q : Question) (g : Answer → State → Then → Play Ending) (f : State → Then → Play Ending) (e : f ≡ (λ s k. ask q s (λ a t. g a t k))) (s : State) (k : Then) where
@@ -95,7 +95,7 @@ unfolding do_flag
 flag-none c args s k e =
     ap (λ b. elim b as (λ _. Play Ending) [ true ↦ ask (Triplet Target) s (λ a t. flag_on c args a t k) | false ↦ k Done [] s ]) e
 
-pub keeps-called : (c : ResultCall) (s : State) → Keeps s (with_call c s)
+pub keeps-called : (c : ResultCall) (s : State) → SpendsNothing s (with_call c s)
 unfolding with_call
 keeps-called c s = (refl, refl, refl)
 

@@ -16,8 +16,8 @@ use Rattle.dg_language.specs.Evaluation.{Ending, Then, fail, list_in, or_message
 use Rattle.dg_language.specs.Arguments.{on, only}
 use Rattle.dg_language.specs.Variables.{touch, all_linked, unset_one, read_variable, set_of, store, given, cannot_read, cannot_unset, append_elements, add_number, addend, info_of, or_empty, with_appended, do_set, do_append, do_info, do_lappend, do_incr}
 use Rattle.dg_language.proofs.TouchLemmas.{within-short}
-use Rattle.dg_asking.specs.declared.attempt.Outcome.TheVariants.{Value, Fails}
-use Rattle.dg_asking.specs.Attempts.{EndsAs, Keeps}
+use Rattle.dg_asking.specs.declared.attempt.AttemptEnd.TheVariants.{Value, Fails}
+use Rattle.dg_asking.specs.Attempts.{EndsAs, SpendsNothing}
 
 -- ---- the words of the commands
 
@@ -149,7 +149,7 @@ elements-stored n old (v ∷ vs) xs s k some e l =
     ∙ within-short (length (text_of_list (xs ++ v ∷ vs))) s (k Done (text_of_list (xs ++ v ∷ vs)) (assigned n (text_of_list (xs ++ v ∷ vs)) s)) l
 
 -- a value that is given keeps what is left
-pub keeps-assigned : (n v : List ℕ) (s : State) → Keeps s (assigned n v s)
+pub keeps-assigned : (n v : List ℕ) (s : State) → SpendsNothing s (assigned n v s)
 unfolding assigned
 keeps-assigned n v s = (refl, refl, refl)
 
@@ -160,7 +160,7 @@ elements-grown n w vs xs s t some e new same short =
     rw (same, new) ((λ k. elements-stored n (or_empty (value_of s.variables n)) vs xs s k some e short), keeps-assigned n (text_of_list (xs ++ vs)) s)
 
 -- and so do names that are linked
-pub keeps-linked : (ns : List (List ℕ)) (s : State) → Keeps s (all_linked ns s)
+pub keeps-linked : (ns : List (List ℕ)) (s : State) → SpendsNothing s (all_linked ns s)
 unfolding linked
 keeps-linked [] s = (refl, refl, refl)
 keeps-linked (n ∷ ns) s = keeps-linked ns (linked n s)
@@ -183,7 +183,7 @@ module _ (n : List ℕ) (s t : State) where
       ∙ ap (λ b. unset_one true b n s (more k) k) (sym is ∙ w)
       ∙ ap (λ m. fail m s k) (sym e) ∙ ap (λ u. fail message u k) (sym (unset w))
 
-  pub keeps-unset : (was : Bool) → (was ≡ true → t ≡ unassigned n s) → (was ≡ false → t ≡ s) → Keeps s t
+  pub keeps-unset : (was : Bool) → (was ≡ true → t ≡ unassigned n s) → (was ≡ false → t ≡ s) → SpendsNothing s t
   unfolding unassigned
   keeps-unset true set unset =
       (ap (λ (x : State). x.known) (set refl), ap (λ (x : State). x.steps) (set refl), ap (λ (x : State). x.sessions.used) (set refl))

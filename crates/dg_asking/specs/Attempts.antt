@@ -6,20 +6,20 @@ use Rattle.dg_language.specs.Play.{Play, Asks, plain, lookup}
 use Rattle.dg_language.specs.State.{State, learn, with_begun}
 use Rattle.dg_language.specs.Evaluation.{Ending, Then, cut, fail}
 use Rattle.dg_language.specs.Variables.{touch, unset_one}
-use Rattle.dg_asking.specs.declared.attempt.Outcome.{Outcome}
-use Rattle.dg_asking.specs.declared.attempt.Outcome.TheVariants.{Value, Fails, TooLong}
+use Rattle.dg_asking.specs.declared.attempt.AttemptEnd.{AttemptEnd}
+use Rattle.dg_asking.specs.declared.attempt.AttemptEnd.TheVariants.{Value, Fails, TooLong}
 use Rattle.dg_asking.specs.declared.attempt.Attempt.{Attempt}
 use Rattle.dg_asking.specs.declared.attempt.Attempt.TheVariants.{Ends as IsOver, Asks as NeedsAnswer}
 
--- the same answers are known, and as much is left of the steps and of the entries that may be used
-abbrev pub Keeps : State → State → Type 0
-Keeps old new = (new.known ≡ old.known) × (new.steps ≡ old.steps) × (new.sessions.used ≡ old.sessions.used)
+-- no answer more is known, and as much is left of the steps and of the entries that may be used
+abbrev pub SpendsNothing : State → State → Type 0
+SpendsNothing old new = (new.known ≡ old.known) × (new.steps ≡ old.steps) × (new.sessions.used ≡ old.sessions.used)
 
 -- a command in this state has ended so, in that one
-abbrev pub EndsAs : (State → Then → Play Ending) → State → State → Outcome → Type 0
-EndsAs f old new (Value v) = ((k : Then) → f old k ≡ k Done v new) × Keeps old new
-EndsAs f old new (Fails message) = ((k : Then) → f old k ≡ fail message new k) × Keeps old new
-EndsAs f old new TooLong = ((k : Then) → f old k ≡ cut (codes "value too long") new) × Keeps old new
+abbrev pub EndsAs : (State → Then → Play Ending) → State → State → AttemptEnd → Type 0
+EndsAs f old new (Value v) = ((k : Then) → f old k ≡ k Done v new) × SpendsNothing old new
+EndsAs f old new (Fails message) = ((k : Then) → f old k ≡ fail message new k) × SpendsNothing old new
+EndsAs f old new TooLong = ((k : Then) → f old k ≡ cut (codes "value too long") new) × SpendsNothing old new
 
 -- A command in this state has ended so, or it asks. Then globals may have begun, and nothing else has changed: with the answer
 -- the command goes on from there, from its first word.
@@ -30,7 +30,7 @@ Attempts f old new (NeedsAnswer q) =
 
 -- What stands before the rest of a command: it is over, and the rest follows; or the command is as it was attempted here.
 abbrev pub Precedes : ((State → Play Ending) → State → Then → Play Ending) → State → State → Option Attempt → Type 0
-Precedes f old new None = ((more : State → Play Ending) (k : Then) → f more old k ≡ more new) × Keeps old new
+Precedes f old new None = ((more : State → Play Ending) (k : Then) → f more old k ≡ more new) × SpendsNothing old new
 Precedes f old new (Some attempt) =
     (more : State → Then → Play Ending) → Attempts (λ s k. f (λ t. more t k) s k) old new attempt
 

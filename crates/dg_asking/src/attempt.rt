@@ -14,7 +14,7 @@ use std::alloc::{AllocError, Global};
 
 /// How a command ends that evaluates nothing inside.
 #[derive(Drop)]
-pub enum Outcome {
+pub enum AttemptEnd {
     /// It ends well, with this value.
     Value(Bytes),
     /// It fails with this message.
@@ -27,7 +27,7 @@ pub enum Outcome {
 #[derive(Drop)]
 pub enum Attempt {
     /// It ends so.
-    Ends(Outcome),
+    Ends(AttemptEnd),
     /// It needs the answer to this question first.
     Asks(Question),
 }
@@ -37,7 +37,7 @@ pub(crate) fn miscounted(alloc: Global, name: &[u8]) -> Result<Attempt, AllocErr
     ensures { IfOk result (λ a. (s : State) → Attempts (fail (wrong_count name.now)) s s a) }
 {
     let message = wrong_count(alloc, name)?;
-    Ok(Attempt::Ends(Outcome::Fails(message)))
+    Ok(Attempt::Ends(AttemptEnd::Fails(message)))
 }
 
 /// A variable gets a value, which is the command's too.
@@ -47,14 +47,14 @@ pub(crate) fn store(
     state: &mut State,
     name: &[u8],
     value: Bytes,
-) -> Result<Outcome, AllocError>
+) -> Result<AttemptEnd, AllocError>
     ensures { IfOk result (EndsAs (store name.now value) state.old state.new) }
 {
     if value.len() > LONGEST_VALUE {
-        return Ok(Outcome::TooLong);
+        return Ok(AttemptEnd::TooLong);
     }
     state.assign(alloc, name, value.copy(alloc)?)?;
-    Ok(Outcome::Value(value))
+    Ok(AttemptEnd::Value(value))
 }
 
 /// A variable is about to be used. None, if it can be, and has begun by now.
@@ -69,6 +69,6 @@ pub(crate) fn before_use(
     match state.touch(alloc, name)? {
         Touch::Ready => Ok(None),
         Touch::Asking(question) => Ok(Some(Attempt::Asks(question))),
-        Touch::TooLong => Ok(Some(Attempt::Ends(Outcome::TooLong))),
+        Touch::TooLong => Ok(Some(Attempt::Ends(AttemptEnd::TooLong))),
     }
 }

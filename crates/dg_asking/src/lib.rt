@@ -8,7 +8,7 @@ mod seeking;
 mod targets;
 mod variables;
 
-pub use crate::attempt::{Attempt, Outcome};
+pub use crate::attempt::{Attempt, AttemptEnd};
 pub use crate::limits::run_match_max;
 pub use crate::seeking::{Fit, has_session, seek_session, sought};
 pub use crate::targets::{run_flag, run_target};

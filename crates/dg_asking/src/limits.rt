@@ -3,7 +3,7 @@ ghost use Rattle.std.specs.Prelude.{◌≡◌, IfOk, decimal};
 ghost use Rattle.dg_language.specs.Sessions.{do_match_max, later_limit, session_limit};
 ghost use Rattle.dg_asking.specs.Attempts.{Attempts, EndsAs};
 
-use crate::attempt::{Attempt, Outcome};
+use crate::attempt::{Attempt, AttemptEnd};
 use crate::seeking::{Fit, seek_session};
 use dg_bytes::Bytes;
 use dg_forms::{kept_limit, match_words};
@@ -19,19 +19,23 @@ fn decimal(alloc: Global, number: usize) -> Result<Bytes, AllocError>
 
 /// The limit of later sessions is read, or set.
 #[tactic(auto, unfolding(dg_language::specs::Sessions::later_limit))]
-fn later_limit(alloc: Global, state: &mut State, text: Option<Bytes>) -> Result<Outcome, AllocError>
+fn later_limit(
+    alloc: Global,
+    state: &mut State,
+    text: Option<Bytes>,
+) -> Result<AttemptEnd, AllocError>
     ensures { IfOk result (EndsAs (later_limit text) state.old state.new) }
 {
     let Some(text) = text else {
         let value = decimal(alloc, state.sessions().later_max())?;
-        return Ok(Outcome::Value(value));
+        return Ok(AttemptEnd::Value(value));
     };
     let Some(max) = kept_limit(text.as_slice()) else {
         let message = Bytes::from_slice(alloc, b"bad match_max")?;
-        return Ok(Outcome::Fails(message));
+        return Ok(AttemptEnd::Fails(message));
     };
     state.set_later_limit(max);
-    Ok(Outcome::Value(Bytes::new(alloc)))
+    Ok(AttemptEnd::Value(Bytes::new(alloc)))
 }
 
 /// The limit of a session is read, or set.
@@ -41,7 +45,7 @@ fn session_limit(
     state: &mut State,
     number: u32,
     text: Option<Bytes>,
-) -> Result<Outcome, AllocError>
+) -> Result<AttemptEnd, AllocError>
     ensures { IfOk result (EndsAs (session_limit number text) state.old state.new) }
 {
     let Some(text) = text else {
@@ -50,16 +54,16 @@ fn session_limit(
             None => 0,
         };
         let value = decimal(alloc, max)?;
-        return Ok(Outcome::Value(value));
+        return Ok(AttemptEnd::Value(value));
     };
     let Some(max) = kept_limit(text.as_slice()) else {
         let message = Bytes::from_slice(alloc, b"bad match_max")?;
-        return Ok(Outcome::Fails(message));
+        return Ok(AttemptEnd::Fails(message));
     };
     if state.session(number).is_some() {
         state.set_session_limit(number, max);
     }
-    Ok(Outcome::Value(Bytes::new(alloc)))
+    Ok(AttemptEnd::Value(Bytes::new(alloc)))
 }
 
 /// What comes of `match_max`.
@@ -72,7 +76,7 @@ pub fn run_match_max(
 {
     let (later, text) = match match_words(alloc, args)? {
         Ok(words) => words,
-        Err(message) => return Ok(Attempt::Ends(Outcome::Fails(message))),
+        Err(message) => return Ok(Attempt::Ends(AttemptEnd::Fails(message))),
     };
     if later {
         let outcome = later_limit(alloc, state, text)?;

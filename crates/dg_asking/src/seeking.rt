@@ -1,10 +1,10 @@
 //! The session that a command goes on with, by expect(1): that of `-i`, or else the one that `spawn_id` names.
-ghost use Rattle.std.specs.Prelude.{◌≡◌, IfOk, MatchResult, Some, None, is_some};
+ghost use Rattle.std.specs.Prelude.{◌≡◌, IfOk, None, is_some};
 ghost use Rattle.dg_sessions.specs.Views.{session_at};
-ghost use Rattle.dg_language.specs.Sessions.{fit_session, if_fit, not_open, sought};
-ghost use Rattle.dg_asking.specs.Seeking.{fit_of, Seeks};
+ghost use Rattle.dg_language.specs.Sessions.{if_fit, sought};
+ghost use Rattle.dg_asking.specs.Seeking.{fit_of, FindsFit, Seeks};
 
-use crate::attempt::{Attempt, Outcome, before_use};
+use crate::attempt::{Attempt, AttemptEnd, before_use};
 use dg_bytes::{Bytes, TryCopy};
 use dg_forms::{cannot_read, not_open};
 use dg_language::State;
@@ -55,16 +55,14 @@ pub fn sought(alloc: Global, state: &State, name: &[u8]) -> Result<Bytes, AllocE
     Ok(global)
 }
 
-/// The session of this name, if it is fit for a call, or the message that it isn't.
+/// The session of this name, if it is fit for a call; or the error that it isn't.
 fn session_named(
     alloc: Global,
     state: &State,
     fit: Fit,
     id: &[u8],
-) -> Result<Result<u32, Bytes>, AllocError>
-    ensures { IfOk result (λ r. MatchResult r
-        (λ n. fit_session (fit_of fit) id.now state.now.sessions ≡ Some n)
-        (λ message. (fit_session (fit_of fit) id.now state.now.sessions ≡ None) × (message ≡ not_open id.now))) }
+) -> Result<Result<u32, Attempt>, AllocError>
+    ensures { IfOk result (FindsFit fit id.now state.now) }
 {
     if let Some(number) = state.sessions().find(id) {
         if has_session(state, fit, number) {
@@ -72,22 +70,7 @@ fn session_named(
         }
     }
     let message = not_open(alloc, id)?;
-    Ok(Err(message))
-}
-
-/// The session that a flag names, if it is fit for a call.
-fn session_of_flag(
-    alloc: Global,
-    state: &State,
-    fit: Fit,
-    id: &[u8],
-) -> Result<Result<u32, Attempt>, AllocError>
-    ensures { IfOk result (Seeks fit (Some id.now) state.now state.now) }
-{
-    match session_named(alloc, state, fit, id)? {
-        Ok(session) => Ok(Ok(session)),
-        Err(message) => Ok(Err(Attempt::Ends(Outcome::Fails(message)))),
-    }
+    Ok(Err(Attempt::Ends(AttemptEnd::Fails(message))))
 }
 
 /// The session that `spawn_id` names, if it is fit for a call.
@@ -104,12 +87,9 @@ fn session_of_spawn_id(
     }
     let Some(id) = state.value_of(name.as_slice()) else {
         let message = cannot_read(alloc, b"spawn_id")?;
-        return Ok(Err(Attempt::Ends(Outcome::Fails(message))));
+        return Ok(Err(Attempt::Ends(AttemptEnd::Fails(message))));
     };
-    match session_named(alloc, state, fit, id.as_slice())? {
-        Ok(session) => Ok(Ok(session)),
-        Err(message) => Ok(Err(Attempt::Ends(Outcome::Fails(message)))),
-    }
+    session_named(alloc, state, fit, id.as_slice())
 }
 
 /// The session that a command goes on with, if there is one that is fit for it, or what comes of the command instead.
@@ -122,7 +102,7 @@ pub fn seek_session(
     ensures { IfOk result (Seeks fit id state.old state.new) }
 {
     match id {
-        Some(id) => session_of_flag(alloc, state, fit, id.as_slice()),
+        Some(id) => session_named(alloc, state, fit, id.as_slice()),
         None => session_of_spawn_id(alloc, state, fit),
     }
 }

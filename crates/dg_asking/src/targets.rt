@@ -5,7 +5,7 @@ ghost use Rattle.dg_language.specs.Play.{lookup};
 ghost use Rattle.dg_language.specs.Boards.{do_flag, do_is, do_is_native, do_target};
 ghost use Rattle.dg_asking.specs.Attempts.{Attempts};
 
-use crate::attempt::{Attempt, Outcome, miscounted};
+use crate::attempt::{Attempt, AttemptEnd, miscounted};
 use dg_bytes::Bytes;
 use dg_cmds::glob_matches;
 use dg_expr::truth_text;
@@ -40,7 +40,7 @@ fn is_system(
     };
     let holds = glob_matches(pattern.as_slice(), triplet_of(answer));
     let value = Bytes::from_slice(alloc, truth_text(holds))?;
-    Ok(Attempt::Ends(Outcome::Value(value)))
+    Ok(Attempt::Ends(AttemptEnd::Value(value)))
 }
 
 /// `isnative`.
@@ -59,7 +59,7 @@ fn is_native(alloc: Global, state: &State, args: &[Bytes]) -> Result<Attempt, Al
     };
     let holds = triplet_of(build) == triplet_of(target);
     let value = Bytes::from_slice(alloc, truth_text(holds))?;
-    Ok(Attempt::Ends(Outcome::Value(value)))
+    Ok(Attempt::Ends(AttemptEnd::Value(value)))
 }
 
 /// What comes of a command on the systems' triplets.
@@ -89,14 +89,14 @@ pub fn run_flag(
     ensures { IfOk result (Attempts (do_flag which args.now) state.old state.new) }
 {
     if !any_pattern(args) {
-        return Ok(Attempt::Ends(Outcome::Value(Bytes::new(alloc))));
+        return Ok(Attempt::Ends(AttemptEnd::Value(Bytes::new(alloc))));
     }
     let Some(answer) = answer_about(state, System::Target) else {
         return Ok(Attempt::Asks(Question::Triplet(System::Target)));
     };
     if !is_flagged(triplet_of(answer), args) {
-        return Ok(Attempt::Ends(Outcome::Value(Bytes::new(alloc))));
+        return Ok(Attempt::Ends(AttemptEnd::Value(Bytes::new(alloc))));
     }
     state.add_call(flag_call(which))?;
-    Ok(Attempt::Ends(Outcome::Value(Bytes::new(alloc))))
+    Ok(Attempt::Ends(AttemptEnd::Value(Bytes::new(alloc))))
 }

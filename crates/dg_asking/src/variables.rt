@@ -9,7 +9,7 @@ ghost use Rattle.dg_language.specs.declared.command.VariableCommand.{VariableCom
 ghost use Rattle.dg_language.specs.Variables.{append_elements, do_append, do_global, do_incr, do_info, do_lappend, do_set, do_variable, increased, or_empty, or_zero, read_variable, store, touch, unset_names, with_sum};
 ghost use Rattle.dg_asking.specs.Attempts.{Attempts, EndsAs, Precedes, unset_first};
 
-use crate::attempt::{Attempt, Outcome, before_use, miscounted, store};
+use crate::attempt::{Attempt, AttemptEnd, before_use, miscounted, store};
 use dg_bytes::{Bytes, TryCopy};
 use dg_expr::truth_text;
 use dg_forms::{addend, cannot_read, cannot_unset, elements_held, increased, only, split};
@@ -57,10 +57,10 @@ fn read(alloc: Global, state: &mut State, name: &[u8]) -> Result<Attempt, AllocE
     }
     let Some(value) = state.value_of(name) else {
         let message = cannot_read(alloc, name)?;
-        return Ok(Attempt::Ends(Outcome::Fails(message)));
+        return Ok(Attempt::Ends(AttemptEnd::Fails(message)));
     };
     let value = value.copy(alloc)?;
-    Ok(Attempt::Ends(Outcome::Value(value)))
+    Ok(Attempt::Ends(AttemptEnd::Value(value)))
 }
 
 /// `set name value`.
@@ -103,15 +103,15 @@ fn append_text(
     state: &mut State,
     name: &[u8],
     more: &[u8],
-) -> Result<Outcome, AllocError>
+) -> Result<AttemptEnd, AllocError>
     ensures { IfOk result (EndsAs (λ s k. store name.now (or_empty (value_of s.variables name.now) ++ more.now) s k)
         state.old state.new) }
 {
     if !state.append_text(alloc, name, more)? {
-        return Ok(Outcome::TooLong);
+        return Ok(AttemptEnd::TooLong);
     }
     let value = or_empty(alloc, state.value_of(name))?;
-    Ok(Outcome::Value(value))
+    Ok(AttemptEnd::Value(value))
 }
 
 /// `append name value..`.
@@ -138,7 +138,7 @@ fn append_elements(
     state: &mut State,
     name: &[u8],
     values: &[Bytes],
-) -> Result<Outcome, AllocError>
+) -> Result<AttemptEnd, AllocError>
     requires { values.now ≢ [] }
     ensures { IfOk result (EndsAs
         (λ s k. append_elements name.now (or_empty (value_of s.variables name.now)) values.now s k) state.old state.new) }
@@ -146,25 +146,25 @@ fn append_elements(
     match state.append_elements(alloc, name, values)? {
         Ok(true) => {
             let value = or_empty(alloc, state.value_of(name))?;
-            Ok(Outcome::Value(value))
+            Ok(AttemptEnd::Value(value))
         }
-        Ok(false) => Ok(Outcome::TooLong),
+        Ok(false) => Ok(AttemptEnd::TooLong),
         Err(fault) => {
             let message = Bytes::from_slice(alloc, fault_text(fault))?;
-            Ok(Outcome::Fails(message))
+            Ok(AttemptEnd::Fails(message))
         }
     }
 }
 
 /// The text of a list stays as it is, as the value of a variable that can be used.
 #[tactic(auto, unfolding(dg_language::specs::Variables::append_elements))]
-fn append_nothing(alloc: Global, state: &mut State, name: &[u8]) -> Result<Outcome, AllocError>
+fn append_nothing(alloc: Global, state: &mut State, name: &[u8]) -> Result<AttemptEnd, AllocError>
     ensures { IfOk result (EndsAs
         (λ s k. append_elements name.now (or_empty (value_of s.variables name.now)) [] s k) state.old state.new) }
 {
     let old = or_empty(alloc, state.value_of(name))?;
     if let Err(message) = elements_held(alloc, &old)? {
-        return Ok(Outcome::Fails(message));
+        return Ok(AttemptEnd::Fails(message));
     }
     store(alloc, state, name, old)
 }
@@ -195,12 +195,12 @@ fn add_to(
     name: &[u8],
     old: Bytes,
     by: &[u8],
-) -> Result<Outcome, AllocError>
+) -> Result<AttemptEnd, AllocError>
     ensures { IfOk result (EndsAs (with_sum name.now (increased old by.now)) state.old state.new) }
 {
     match increased(alloc, old.as_slice(), by)? {
         Ok(sum) => store(alloc, state, name, sum),
-        Err(message) => Ok(Outcome::Fails(message)),
+        Err(message) => Ok(AttemptEnd::Fails(message)),
     }
 }
 
@@ -233,7 +233,7 @@ fn exists(alloc: Global, state: &mut State, name: &[u8]) -> Result<Attempt, Allo
         return Ok(attempt);
     }
     let value = Bytes::from_slice(alloc, truth_text(state.is_set(name)))?;
-    Ok(Attempt::Ends(Outcome::Value(value)))
+    Ok(Attempt::Ends(AttemptEnd::Value(value)))
 }
 
 /// `info exists name`.
@@ -246,7 +246,7 @@ fn info(alloc: Global, state: &mut State, args: &[Bytes]) -> Result<Attempt, All
     };
     if subcommand.as_slice() != b"exists".as_slice() {
         let message = Bytes::from_slice(alloc, b"unknown subcommand")?;
-        return Ok(Attempt::Ends(Outcome::Fails(message)));
+        return Ok(Attempt::Ends(AttemptEnd::Fails(message)));
     }
     let Some(name) = only(others) else {
         return miscounted(alloc, b"info");
@@ -260,7 +260,7 @@ fn global(alloc: Global, state: &mut State, args: &[Bytes]) -> Result<Attempt, A
     ensures { IfOk result (Attempts (do_global args.now) state.old state.new) }
 {
     state.link_all(alloc, args)?;
-    Ok(Attempt::Ends(Outcome::Value(Bytes::new(alloc))))
+    Ok(Attempt::Ends(AttemptEnd::Value(Bytes::new(alloc))))
 }
 
 /// What comes of a command on variables. None of `unset`, which may ask behind each name that it has unset: see `unset_name`.
@@ -310,7 +310,7 @@ pub fn unset_name(
     let was_set = state.unassign(name);
     if complains && !was_set {
         let message = cannot_unset(alloc, name)?;
-        return Ok(Some(Attempt::Ends(Outcome::Fails(message))));
+        return Ok(Some(Attempt::Ends(AttemptEnd::Fails(message))));
     }
     Ok(None)
 }

@@ -1,7 +1,5 @@
 -- What is taken off the commands that are left.
-use Rattle.std.proofs.Common.{◌≡◌, ◌≢◌, ◌≤◌, ◌==◌, ℕ, true, false, List, [], ◌∷◌, length, ap, ◌∙◌, refl, Ok, Err}
-use Rattle.std.proofs.lemmas.Bool.{eqb-true}
-use Rattle.std.proofs.lemmas.List.{nil_from_length}
+use Rattle.std.proofs.Common.{◌≡◌, ◌≢◌, ◌≤◌, ℕ, List, [], ◌∷◌, length, ap, ◌∙◌, refl, Ok, Err}
 use Rattle.dg_words.specs.declared.word.Word.{Word}
 use Rattle.dg_lists.specs.declared.fault.WordFault.{WordFault}
 use Rattle.dg_words.specs.Reading.{command_at}
@@ -21,10 +19,3 @@ commands_at-words text at next (w ∷ ws) l e h =
 
 pub commands_at-fault : (text : List ℕ) (at : ℕ) (fault : WordFault) → at ≤ length text → command_at text at ≡ Err fault → commands_at text at ≡ Unreadable fault ∷ []
 commands_at-fault text at fault l e = commands_at-step text at l ∙ ap (λ r. and_commands r (λ n. commands_at text n)) e
-
-pub empty-if : {A : Type 0} (xs : List A) → (length xs == 0) ≡ true → xs ≡ []
-empty-if xs h = nil_from_length xs (eqb-true (length xs) 0 h)
-
-pub some-if : {A : Type 0} (xs : List A) → (length xs == 0) ≡ false → xs ≢ []
-some-if [] h e = cc
-some-if (x ∷ xs) h e = cc

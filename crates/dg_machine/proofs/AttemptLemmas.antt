@@ -7,13 +7,13 @@ use Rattle.dg_language.specs.State.{State, learn}
 use Rattle.dg_language.specs.Evaluation.{Ending, Then}
 use Rattle.dg_language.specs.Variables.{unset_all}
 use Rattle.dg_asking.specs.declared.attempt.Attempt.TheVariants.{Asks as NeedsAnswer}
-use Rattle.dg_asking.specs.Attempts.{Attempts, Keeps, unset_first}
+use Rattle.dg_asking.specs.Attempts.{Attempts, SpendsNothing, unset_first}
 use Rattle.dg_machine.specs.declared.frame.Control.{Control}
 use Rattle.dg_machine.specs.declared.frame.Frame.{Frame}
 use Rattle.dg_machine.specs.Meaning.{weight}
 
 -- what keeps the steps and the entries that are left keeps the weight
-pub weight-kept : (o : Control) (s t : State) (fs : List Frame) → Keeps s t → weight o t fs ≡ weight o s fs
+pub weight-kept : (o : Control) (s t : State) (fs : List Frame) → SpendsNothing s t → weight o t fs ≡ weight o s fs
 unfolding weight
 weight-kept o s t fs h = rw (h.1, h.2) refl
 

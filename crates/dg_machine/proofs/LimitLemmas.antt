@@ -20,7 +20,7 @@ use Rattle.dg_language.specs.Sessions.{on_session, on_words, seek, sought}
 use Rattle.dg_language.specs.ExpectWords.{expect_words, listed}
 use Rattle.dg_language.specs.Expecting.{do_expect, expect_args, expect_list, expect_with, milliseconds, or_ten, with_limit, with_number}
 use Rattle.dg_language.specs.Language.{evaluate}
-use Rattle.dg_asking.specs.declared.attempt.Outcome.{Outcome}
+use Rattle.dg_asking.specs.declared.attempt.AttemptEnd.{AttemptEnd}
 use Rattle.dg_asking.specs.declared.attempt.Attempt.TheVariants.{Ends as IsOver, Asks as NeedsAnswer}
 use Rattle.dg_asking.specs.declared.seeking.Fit.TheVariants.{Open}
 use Rattle.dg_asking.specs.Attempts.{EndsAs}
@@ -135,7 +135,7 @@ module _ (words : List (List ℕ)) (d : ℕ) (e : Expectation) (read : Ok e ≡ 
         asks.2,
       )
 
-  pub session-ends : (o : Outcome) → Seeks Open e.id old mid (Err (IsOver o)) → EndsAs (expect_with (evaluate d) words) old mid o
+  pub session-ends : (o : AttemptEnd) → Seeks Open e.id old mid (Err (IsOver o)) → EndsAs (expect_with (evaluate d) words) old mid o
   session-ends o h =
       ends-on (expect_with (evaluate d) words) (λ s k. on_session is_open e.id s k (λ n t. with_session n t k)) old old mid o
       (λ k. expects words d old k e read) (kept old) (h with_session)

@@ -13,7 +13,7 @@ ghost use Rattle.dg_machine.specs.Meaning.{all_back, weight, weight_of, Comes, G
 use crate::frame::{Frame, Pace, plain_ask};
 use crate::gather::push_all;
 use crate::machine::Machine;
-use dg_asking::{Attempt, Outcome, run_flag, run_target, run_variable, unset_name, unset_names};
+use dg_asking::{Attempt, AttemptEnd, run_flag, run_target, run_variable, unset_name, unset_names};
 use dg_bytes::{Bytes, Seq};
 use dg_language::{Code, FlagCommand, Queue, TargetCommand, VariableCommand};
 use std::alloc::{AllocError, Global};
@@ -21,18 +21,18 @@ use std::alloc::{AllocError, Global};
 impl Machine {
     /// A command that evaluates nothing inside has ended so.
     #[tactic(auto, unfolding(crate::specs::Meaning::rest, crate::specs::Meaning::weight))]
-    pub(crate) fn end_as(&mut self, alloc: Global, outcome: Outcome) -> Result<Pace, AllocError>
+    pub(crate) fn end_as(&mut self, alloc: Global, outcome: AttemptEnd) -> Result<Pace, AllocError>
         requires { self.old.control ≡ Control.Go }
         ensures { IfOk result (λ p. (f : State → Then → Play Ending) (s : State) → EndsAs f s self.old.state outcome
             → Goes (f s (all_back self.old.stack)) s.known (weight Control.Go s self.old.stack + 2) self.new p) }
     {
         match outcome {
-            Outcome::Value(value) => {
+            AttemptEnd::Value(value) => {
                 self.end(Code::Done, value);
                 Ok(Pace::Moved)
             }
-            Outcome::Fails(message) => self.fail(alloc, message),
-            Outcome::TooLong => {
+            AttemptEnd::Fails(message) => self.fail(alloc, message),
+            AttemptEnd::TooLong => {
                 let closing = self.cut(alloc, b"value too long")?;
                 Ok(Pace::Over(closing))
             }

@@ -3,7 +3,7 @@ use Rattle.std.specs.Prelude.{None}
 use Rattle.dg_language.specs.Evaluation.{fail}
 use Rattle.dg_language.specs.Sessions.{later_limit, session_limit}
 use Rattle.dg_asking.specs.declared.seeking.Fit.TheVariants.{Started}
-use Rattle.dg_asking.specs.declared.attempt.Outcome.TheVariants.{Fails}
+use Rattle.dg_asking.specs.declared.attempt.AttemptEnd.TheVariants.{Fails}
 use Rattle.dg_asking.proofs.AttemptLemmas.{attempts-as, ends-as}
 use Rattle.dg_asking.proofs.SeekingLemmas.{match-fault, match-later, match-session, sought-ends}
 use Rattle.dg_asking.proofs.limits.run_match_max.Goals as goal

@@ -1,5 +1,6 @@
 use Rattle.std.proofs.Common.{sym}
-use Rattle.dg_asking.proofs.SeekingLemmas.{spawn_id-waits, spawn_id-none, spawn_id-finds, spawn_id-misses}
+use Rattle.std.proofs.lemmas.Result.{IfOk-weaker}
+use Rattle.dg_asking.proofs.SeekingLemmas.{spawn_id-waits, spawn_id-none, spawn_id-seeks}
 use Rattle.dg_asking.proofs.seeking.session_of_spawn_id.Goals as goal
 
 pub returns-in-Some : goal.returns-in-Some
@@ -14,16 +15,9 @@ returns-in_default-value_of c =
     let none = sym (rw c.as_slice-2.ensures at c.in_default-value_of.ensures) in
     spawn_id-none c.args.fit _ _ _ c.in_ok-name.ensures ready _ none c.in_ok-message.ensures
 
-pub returns-in-Ok : goal.returns-in-Ok
-returns-in-Ok c =
-    let ready = rw (c.in_default.is, c.as_slice.ensures) at c.in_ok-attempt.ensures.precedes in
-    let some = sym (rw c.as_slice-2.ensures at c.in-Some-value_of.ensures) in
-    let found = rw (c.in-Ok.is, c.as_slice-3.ensures) at c.in_ok-session.ensures in
-    spawn_id-finds c.args.fit _ _ _ c.in_ok-name.ensures ready _ _ some found
-
 pub returns : goal.returns
 returns c =
     let ready = rw (c.in_default.is, c.as_slice.ensures) at c.in_ok-attempt.ensures.precedes in
     let some = sym (rw c.as_slice-2.ensures at c.in-Some-value_of.ensures) in
-    let missed = rw (c.in-Err.is, c.as_slice-3.ensures) at c.in_ok-session.ensures in
-    spawn_id-misses c.args.fit _ _ _ c.in_ok-name.ensures ready _ _ some missed.0 missed.1
+    let found = rw c.as_slice-3.ensures at c.session_named.ensures in
+    IfOk-weaker c.session_named.result _ _ (λ r h. spawn_id-seeks c.args.fit _ _ _ c.in_ok-name.ensures ready _ some r h) found

@@ -1,6 +1,7 @@
 use Rattle.std.proofs.Common.{◌∙◌, refl, sym}
 use Rattle.dg_language.specs.Boards.{do_is_native}
-use Rattle.dg_asking.proofs.AttemptLemmas.{empty-if, some-if, miscounts}
+use Rattle.dg_forms.proofs.Choices.{empty-if, some-if}
+use Rattle.dg_asking.proofs.AttemptLemmas.{miscounts}
 use Rattle.dg_asking.proofs.TargetLemmas.{native_on, native-miscounted, native-of, native-asks, native-known, asks-first}
 use Rattle.dg_asking.proofs.targets.is_native.Goals as goal
 

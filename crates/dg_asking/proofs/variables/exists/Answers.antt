@@ -1,6 +1,6 @@
 use Rattle.std.proofs.Common.{◌∙◌, ap}
 use Rattle.dg_expr.specs.Truth.{truth_text}
-use Rattle.dg_asking.specs.declared.attempt.Outcome.TheVariants.{Value}
+use Rattle.dg_asking.specs.declared.attempt.AttemptEnd.TheVariants.{Value}
 use Rattle.dg_asking.proofs.AttemptLemmas.{used-ends}
 use Rattle.dg_asking.proofs.VariableLemmas.{told_set, told-set}
 use Rattle.dg_asking.proofs.variables.exists.Goals as goal

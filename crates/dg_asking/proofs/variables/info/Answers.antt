@@ -2,7 +2,7 @@ use Rattle.std.proofs.Common.{sym}
 use Rattle.std.specs.Prelude.{codes}
 use Rattle.std.proofs.lemmas.Result.{IfOk-weaker}
 use Rattle.dg_language.specs.Evaluation.{fail}
-use Rattle.dg_asking.specs.declared.attempt.Outcome.TheVariants.{Fails}
+use Rattle.dg_asking.specs.declared.attempt.AttemptEnd.TheVariants.{Fails}
 use Rattle.dg_asking.proofs.AttemptLemmas.{attempts-as, ends-as, miscounts, said}
 use Rattle.dg_asking.proofs.VariableLemmas.{info-none, info-unknown, info-miscounted, info-tells}
 use Rattle.dg_asking.proofs.variables.info.Goals as goal

@@ -1,7 +1,8 @@
 use Rattle.std.proofs.Common.{[], ◌∷◌, ◌∙◌, ap, sym}
 use Rattle.dg_scope.specs.Scopes.{value_of}
 use Rattle.dg_language.specs.Variables.{append_elements, or_empty}
-use Rattle.dg_asking.proofs.AttemptLemmas.{empty-if, attempts-as, ends-as, miscounts, used-ends}
+use Rattle.dg_forms.proofs.Choices.{empty-if}
+use Rattle.dg_asking.proofs.AttemptLemmas.{attempts-as, ends-as, miscounts, used-ends}
 use Rattle.dg_asking.proofs.VariableLemmas.{lappend-none, lappend-of}
 use Rattle.dg_asking.proofs.variables.lappend.Goals as goal
 

@@ -1,7 +1,7 @@
 use Rattle.std.proofs.Common.{◌∙◌, ap, sym}
 use Rattle.std.specs.Prelude.{Some}
 use Rattle.dg_language.specs.Variables.{read_variable}
-use Rattle.dg_asking.specs.declared.attempt.Outcome.TheVariants.{Value, Fails}
+use Rattle.dg_asking.specs.declared.attempt.AttemptEnd.TheVariants.{Value, Fails}
 use Rattle.dg_asking.proofs.AttemptLemmas.{used-ends}
 use Rattle.dg_asking.proofs.VariableLemmas.{given_of, given-none, given-some}
 use Rattle.dg_asking.proofs.variables.read.Goals as goal

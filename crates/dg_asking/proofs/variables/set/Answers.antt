@@ -1,6 +1,7 @@
 use Rattle.std.proofs.Common.{◌∙◌, sym}
 use Rattle.std.proofs.lemmas.Result.{IfOk-weaker}
-use Rattle.dg_asking.proofs.AttemptLemmas.{empty-if, some-if, attempts-as, miscounts}
+use Rattle.dg_forms.proofs.Choices.{empty-if, some-if}
+use Rattle.dg_asking.proofs.AttemptLemmas.{attempts-as, miscounts}
 use Rattle.dg_asking.proofs.VariableLemmas.{set-none, set-reads, set-miscounted, set-writes}
 use Rattle.dg_asking.proofs.variables.set.Goals as goal
 

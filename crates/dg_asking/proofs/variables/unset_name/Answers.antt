@@ -4,7 +4,7 @@ use Rattle.dg_scope.specs.Scopes.{value_of}
 use Rattle.dg_language.specs.State.{State}
 use Rattle.dg_language.specs.Evaluation.{Then}
 use Rattle.dg_language.specs.Variables.{unset_one}
-use Rattle.dg_asking.specs.declared.attempt.Outcome.TheVariants.{Fails}
+use Rattle.dg_asking.specs.declared.attempt.AttemptEnd.TheVariants.{Fails}
 use Rattle.dg_asking.proofs.AttemptLemmas.{keeps-on, used-ends}
 use Rattle.dg_asking.proofs.VariableLemmas.{unset-passes, unset-fails, keeps-unset}
 use Rattle.dg_asking.proofs.variables.unset_name.Goals as goal

@@ -2,7 +2,8 @@ use Rattle.std.proofs.Common.{◌∙◌, sym, ap, inl, inr, true≢false}
 use denote.Enum.Bare.{sameb}
 use Rattle.dg_lists.specs.contracts.fault.WordFault.{the_type}
 use Rattle.dg_lists.specs.declared.fault.WordFault.TheVariants.{Memory}
-use Rattle.dg_compiled.proofs.ScriptLemmas.{commands_at-none, commands_at-words, commands_at-fault, empty-if, some-if}
+use Rattle.dg_forms.proofs.Choices.{empty-if, some-if}
+use Rattle.dg_compiled.proofs.ScriptLemmas.{commands_at-none, commands_at-words, commands_at-fault}
 use Rattle.dg_compiled.proofs.script.read_command.Goals as goal
 
 pub returns-then-is_empty : goal.returns-then-is_empty

@@ -1,6 +1,6 @@
 use Rattle.std.proofs.Common.{◌∙◌, refl, sym, ap, arith}
 use Rattle.std.specs.Prelude.{Ok}
-use Rattle.dg_compiled.proofs.ScriptLemmas.{empty-if}
+use Rattle.dg_forms.proofs.Choices.{empty-if}
 use Rattle.dg_machine.proofs.LoopLemmas.{foreach-empty}
 use Rattle.dg_machine.proofs.ResultLemmas.{Goes-along-ok}
 use Rattle.dg_machine.proofs.machine.Machine.for_each.Goals as goal
