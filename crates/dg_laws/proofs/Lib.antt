@@ -13,7 +13,7 @@ pub mod Matching
 pub mod ExpectCommands
 pub mod Texts
 pub mod Judging
-pub mod Outcomes
+pub mod Conclusions
 pub mod Peeking
 pub mod Replaying
 pub mod Awaiting

@@ -7,7 +7,7 @@ use Rattle.dg_language.specs.declared.close.Close.TheVariants.{Finished}
 use Rattle.dg_language.specs.Play.{Play, Ends, Asks, plain}
 use Rattle.dg_language.specs.State.{State}
 use Rattle.dg_language.specs.Evaluation.{Ending, Then}
-use Rattle.dg_laws.specs.Grafting.{Outcome, Completes, Stops, graft, Grafted}
+use Rattle.dg_laws.specs.Grafting.{Conclusion, Completes, Stops, graft, Grafted}
 use Rattle.dg_laws.specs.Law.{peek}
 
 -- some end, and some question
@@ -28,7 +28,7 @@ end-no-question : (e : Ending) (q : Ask) (f : Answer → Play Ending) → Ends e
 end-no-question e q f h = cc
 
 -- a peek asks nothing, and ends as what comes after it ends, so it is no tree of its own
-no_peek : (s : State) (p : Play Outcome) → ((k : Then) → peek s k ≡ graft p k) → ⊥
+no_peek : (s : State) (p : Play Conclusion) → ((k : Then) → peek s k ≡ graft p k) → ⊥
 unfolding an_ending ends asks end_or
 no_peek s (Ends (Completes c v t)) grows = end-no-question _ (plain Tool) _ (grows asks)
 no_peek s (Ends (Stops e)) grows =

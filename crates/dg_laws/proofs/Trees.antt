@@ -4,15 +4,15 @@ use Rattle.dg_language.specs.declared.code.Code.{Code}
 use Rattle.dg_language.specs.Play.{Play, Ends, Asks}
 use Rattle.dg_language.specs.State.{State}
 use Rattle.dg_language.specs.Evaluation.{Ending, Then}
-use Rattle.dg_laws.specs.Grafting.{Outcome, Completes, Stops, graft, Grafted}
+use Rattle.dg_laws.specs.Grafting.{Conclusion, Completes, Stops, graft, Grafted}
 
 -- a tree, with trees at its ends
-abbrev pub onward : Play Outcome → (Code → List ℕ → State → Play Outcome) → Play Outcome
+abbrev pub onward : Play Conclusion → (Code → List ℕ → State → Play Conclusion) → Play Conclusion
 onward (Ends (Completes c v s)) g = g c v s
 onward (Ends (Stops e)) g = Ends (Stops e)
 onward (Asks q f) g = Asks q (λ a. onward (f a) g)
 
-pub graft-onward : (p : Play Outcome) (g : Code → List ℕ → State → Play Outcome) (k : Then)
+pub graft-onward : (p : Play Conclusion) (g : Code → List ℕ → State → Play Conclusion) (k : Then)
     → graft (onward p g) k ≡ graft p (λ c v s. graft (g c v s) k)
 graft-onward (Ends (Completes c v s)) g k = refl
 graft-onward (Ends (Stops e)) g k = refl

@@ -6,21 +6,21 @@ use Rattle.dg_language.specs.State.{State}
 use Rattle.dg_language.specs.Evaluation.{Ending, Then}
 
 -- What an evaluation comes to: it completes with a code and a value in a state, or a limit stops the whole test.
-pub data Outcome : Type 0 where
-  Completes : Code → List ℕ → State → Outcome
-  Stops : Ending → Outcome
+pub data Conclusion : Type 0 where
+  Completes : Code → List ℕ → State → Conclusion
+  Stops : Ending → Conclusion
 
--- what comes after an outcome; after a limit nothing does
-abbrev pub after : Outcome → Then → Play Ending
+-- what comes after a conclusion; after a limit nothing does
+abbrev pub after : Conclusion → Then → Play Ending
 after (Completes c v s) k = k c v s
 after (Stops e) k = Ends e
 
 -- a tree of questions, with a continuation grafted on its ends
-abbrev pub graft : Play Outcome → Then → Play Ending
+abbrev pub graft : Play Conclusion → Then → Play Ending
 graft (Ends o) k = after o k
 graft (Asks ask f) k = Asks ask (λ a. graft (f a) k)
 
 -- An evaluation is a tree of its own, on which whatever comes after is grafted.
 pub record Grafted (evaluation : Then → Play Ending) : Type 0 where
-  pub alone : Play Outcome
+  pub alone : Play Conclusion
   pub grows : (k : Then) → evaluation k ≡ graft alone k

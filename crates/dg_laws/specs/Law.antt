@@ -6,7 +6,7 @@ use Rattle.dg_language.specs.State.{State}
 use Rattle.dg_language.specs.Evaluation.{Ending, Then, ended}
 use Rattle.dg_language.specs.Language.{evaluate}
 use Rattle.dg_language.specs.Judge.{open_board}
-use Rattle.dg_laws.specs.Grafting.{Outcome, after, Grafted}
+use Rattle.dg_laws.specs.Grafting.{Conclusion, after, Grafted}
 
 -- Each text, at each depth and in each state, has a tree of its own, on which whatever comes after is grafted.
 abbrev pub EachTextIsGrafted : Type 0
@@ -16,16 +16,16 @@ EachTextIsGrafted = (depth : ℕ) (text : List ℕ) (s : State) → Grafted (eva
 abbrev pub TheJudgingIsGrafted : Type 0
 TheJudgingIsGrafted = (s : State) → Grafted (open_board s)
 
--- where an evaluation goes on to with a source, from an outcome or from a question without an answer
-abbrev pub go_on : Source → Coming Outcome → Then → Coming Ending
+-- where an evaluation goes on to with a source, from a conclusion or from a question without an answer
+abbrev pub go_on : Source → Coming Conclusion → Then → Coming Ending
 go_on look (Over o) k = run look (after o k)
 go_on look (Needs ask) k = Needs ask
 
--- In each source a text comes to an outcome or to a question without an answer, whatever comes after.
-abbrev pub EachTextComesToAnOutcome : Type 0
-EachTextComesToAnOutcome =
+-- In each source a text comes to a conclusion or to a question without an answer, whatever comes after.
+abbrev pub EachTextComesToAConclusion : Type 0
+EachTextComesToAConclusion =
     (depth : ℕ) (text : List ℕ) (s : State) (look : Source)
-    → (comes_to : Coming Outcome) × ((k : Then) → run look (evaluate depth text s k) ≡ go_on look comes_to k)
+    → (comes_to : Coming Conclusion) × ((k : Then) → run look (evaluate depth text s k) ≡ go_on look comes_to k)
 
 -- a play that asks nothing more
 abbrev pub without_asking : Ending → Play Ending → Play Ending

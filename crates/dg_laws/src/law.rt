@@ -1,5 +1,5 @@
 //! The laws on continuations.
-ghost use Rattle.dg_laws.specs.Law.{EachTextIsGrafted, TheJudgingIsGrafted, EachTextComesToAnOutcome, NoPeekIsGrafted};
+ghost use Rattle.dg_laws.specs.Law.{EachTextIsGrafted, TheJudgingIsGrafted, EachTextComesToAConclusion, NoPeekIsGrafted};
 ghost use Rattle.dg_laws.specs.WordValues.{NestedFormIsOne, ReadWordsAreNested};
 
 /// The tree of each text under a continuation is the tree of the text alone, with the continuation grafted on its ends.
@@ -14,8 +14,8 @@ pub fn the_judging_is_grafted()
 
 /// In each source a text comes to a code, a value and a state, to a limit, or to a question without an answer, and which
 /// it is does not hang on what comes after.
-pub fn each_text_comes_to_an_outcome()
-    ensures { EachTextComesToAnOutcome }
+pub fn each_text_comes_to_a_conclusion()
+    ensures { EachTextComesToAConclusion }
 {}
 
 /// An evaluation that looks at what comes after it is not grafted.

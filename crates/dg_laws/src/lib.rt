@@ -6,7 +6,7 @@ mod law;
 mod replays;
 
 pub use crate::law::{
-    each_text_comes_to_an_outcome, each_text_is_grafted, nested_form_is_one, no_peek_is_grafted,
+    each_text_comes_to_a_conclusion, each_text_is_grafted, nested_form_is_one, no_peek_is_grafted,
     read_words_are_nested, the_judging_is_grafted,
 };
 pub use crate::replays::{

@@ -10,7 +10,7 @@ mod transcripts;
 
 use crate::fault::ProgramFault;
 use crate::progress::Progress;
-use crate::run::{Outcome, run_plan};
+use crate::run::{RunResult, run_plan};
 use dg_core::Core;
 use dg_folders::RunFault;
 use dg_line::{LineFault, Mode, Plan, plan_of};
@@ -100,13 +100,13 @@ fn shows_progress(rt: &HostRuntime) -> bool {
 /// Prints the report of a run, and gives its status.
 fn print_report(
     rt: &HostRuntime,
-    run: Result<Outcome, RunFault>,
+    run: Result<RunResult, RunFault>,
     progress: &Progress<HostRuntime>,
 ) -> Result<u8, ProgramFault> {
     progress.clear();
     match run {
         Ok(
-            Outcome {
+            RunResult {
                 report,
                 status,
                 counts,

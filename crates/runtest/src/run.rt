@@ -33,7 +33,7 @@ const CALLS: usize = 262_144;
 
 /// What a run came to.
 #[derive(Drop)]
-pub(crate) struct Outcome {
+pub(crate) struct RunResult {
     pub(crate) report: Bytes,
     pub(crate) status: u8,
     pub(crate) counts: Counts,
@@ -231,7 +231,7 @@ fn run_over<B: Room + Send + Sync, R>(
     opened: Opened,
     plan: Plan,
     progress: &Progress<R>,
-) -> Result<Outcome, RunFault>
+) -> Result<RunResult, RunFault>
 where
     R: Files
         + AllocGlobal
@@ -265,7 +265,7 @@ where
         Mode::Run => write_with_folders(rt, path.as_str(), report.as_slice())?,
         Mode::Rejudge | Mode::Session => write_in_place(rt, path.as_str(), report.as_slice())?,
     }
-    Ok(Outcome {
+    Ok(RunResult {
         report,
         status,
         counts: counts_of(history.calls(), read),
@@ -275,7 +275,7 @@ where
 /// Reads the suite of a plan, judges what is selected, live or by the transcripts that an earlier run wrote, and writes the
 /// transcripts of what was run, and the report to `OUTDIR/TOOL.sum`. A run makes OUTDIR where it isn't there. The report and its
 /// status are those of judging every selected test from scratch, on the world that the calls of the run's bench make.
-pub(crate) fn run_plan<R>(rt: &R, plan: Plan, progress: &Progress<R>) -> Result<Outcome, RunFault>
+pub(crate) fn run_plan<R>(rt: &R, plan: Plan, progress: &Progress<R>) -> Result<RunResult, RunFault>
 where
     R: Files
         + AllocGlobal
