@@ -11,7 +11,7 @@ use Rattle.dg_asking.specs.declared.attempt.AttemptEnd.TheVariants.{Value, Fails
 use Rattle.dg_asking.specs.declared.attempt.Attempt.{Attempt}
 use Rattle.dg_asking.specs.declared.attempt.Attempt.TheVariants.{Ends as IsOver, Asks as NeedsAnswer}
 
--- no answer more is known, and as much is left of the steps and of the entries that may be used
+-- the same answers are known, and as much is left of the steps and of the entries that may be used
 abbrev pub SpendsNothing : State → State → Type 0
 SpendsNothing old new = (new.known ≡ old.known) × (new.steps ≡ old.steps) × (new.sessions.used ≡ old.sessions.used)
 

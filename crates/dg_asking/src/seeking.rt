@@ -5,7 +5,7 @@ ghost use Rattle.dg_language.specs.Sessions.{if_fit, sought};
 ghost use Rattle.dg_asking.specs.Seeking.{fit_of, FindsFit, Seeks};
 
 use crate::attempt::{Attempt, AttemptEnd, before_use};
-use dg_bytes::{Bytes, TryCopy};
+use dg_bytes::Bytes;
 use dg_forms::{cannot_read, not_open};
 use dg_language::State;
 use dg_sessions::Phase;
