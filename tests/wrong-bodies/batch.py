@@ -1,5 +1,6 @@
 #!/usr/bin/env python3
-"""Tries wrong bodies that the gate leaves out, many at a time: the prover has to refuse each edited function.
+"""Tries wrong bodies that the gate leaves out (crates/CRATE/wrong-bodies), many at a time: the prover has to refuse each edited
+function.
 
     python3 tests/wrong-bodies/batch.py CRATE [NAME ..]     all of a crate, or these
 
@@ -133,7 +134,8 @@ def main():
     if len(sys.argv) < 2:
         sys.exit(__doc__)
     crate, names = sys.argv[1], sys.argv[2:]
-    folder, kept = TOP / "crates" / crate, TOP / "tests/wrong-bodies" / crate
+    folder = TOP / "crates" / crate
+    kept = folder / "wrong-bodies"
     paths = [kept / f"{it}.edit" for it in names] or sorted(kept.glob("*.edit"))
     refused = True
     with tempfile.TemporaryDirectory(prefix="wrong-bodies.") as scratch:

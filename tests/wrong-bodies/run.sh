@@ -1,6 +1,6 @@
 #!/bin/sh
-# Tries the wrong bodies that the gate leaves out: the prover has to refuse each. Those of the gate stand in
-# crates/NAME/must-fail. Each is tried over what an earlier check of its crate kept, in seconds to a minute, those of
+# Tries the wrong bodies that the gate leaves out (crates/NAME/wrong-bodies): the prover has to refuse each. Those of the
+# gate stand beside them, in crates/NAME/must-fail. Each is tried over what an earlier check of its crate kept, in seconds to a minute, those of
 # runtest in three to five; where nothing is kept, the crate is proved first.
 #
 #   sh tests/wrong-bodies/run.sh [NAME..]     all crates that have some, or these
@@ -13,8 +13,8 @@ trap 'rm -rf "$scratch"' EXIT
 tar -C "$top" --exclude=out/incremental -cf - crates crates.txt HANDLES | tar -C "$scratch" -xf -
 cd "$scratch"
 failed=0
-for folder in "$top"/tests/wrong-bodies/*/; do
-    name=$(basename "$folder")
+for folder in "$top"/crates/*/wrong-bodies; do
+    name=$(basename "$(dirname "$folder")")
     case " ${*:-$name} " in
     *" $name "*) ;;
     *) continue ;;
