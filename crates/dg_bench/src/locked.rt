@@ -16,7 +16,7 @@ use crate::call::Call;
 use crate::cells::Cells;
 use crate::history::History;
 use crate::note::PlaceNote;
-use crate::notes::{agree, conclude, finish, prepare, whole};
+use crate::notes::{conclude, finish, prepare, whole};
 use crate::pass::Pass;
 use crate::receipt::Receipt;
 use crate::refusal::BenchRefusal;
@@ -94,7 +94,7 @@ impl<B: Room> Locked<B> {
         ensures begins { HasSeenBeginningOf pass self.old.calls }
     {
         let Locked { calls, notes, .. } = self;
-        agree(notes, calls, pass);
+        pass.agree(notes, calls);
         whole(notes, calls)
     }
 

@@ -1,12 +1,11 @@
 //! What is known of the places of a history: a note for each, beside the calls.
 ghost use Rattle.std.specs.Prelude.{ℕ, ◌≡◌, ◌<◌, ◌≤◌, ◌+◌, List, [], ◌∷◌, ◌++◌, length, true, Some, IfOk, IfErr, OnOk, IfSome, slice_get, vec_len, vec_capacity};
 ghost use Rattle.once_cell.specs.Once.{Agrees};
-ghost use mathlib.Core.List.{IsPrefix};
 ghost use Rattle.dg_bench.specs.Cells.{HasBlock, Sees};
 ghost use Rattle.dg_bench.specs.declared.note.PlaceNote.{PlaceNote};
 ghost use Rattle.dg_bench.specs.declared.place.Place.{Place as Held};
 ghost use Rattle.dg_bench.specs.History.{IsLegal};
-ghost use Rattle.dg_bench.specs.Seen.{KnowsAll, HasSeenBeginningOf, seen_all, called};
+ghost use Rattle.dg_bench.specs.Seen.{KnowsAll, seen_all, called};
 
 use crate::call::Call;
 use crate::cells::{Block, Cells};
@@ -31,7 +30,7 @@ fn note_at(notes: &mut Vec<PlaceNote>, at: usize) -> PlaceNote
 }
 
 /// Holds a note against that of a place.
-fn compare_at(notes: &mut Vec<PlaceNote>, at: usize, other: PlaceNote)
+pub(crate) fn compare_at(notes: &mut Vec<PlaceNote>, at: usize, other: PlaceNote)
     requires within { at < vec_len notes.old }
     requires known { (n : PlaceNote) → slice_get notes.old.items at ≡ Some n → (names : List ℕ) × (p : Held) × (q : Held)
         × Sees names at n p × Sees names at other q }
@@ -40,28 +39,6 @@ fn compare_at(notes: &mut Vec<PlaceNote>, at: usize, other: PlaceNote)
         IfSome other.place.known (Agrees n.place.known) }
 {
     notes[at].compare(other);
-}
-
-/// Holds what a pass has seen against the calls.
-#[tactic(auto, using(crate::proofs::Places::agreed))]
-pub(crate) fn agree<B: Room>(notes: &mut Vec<PlaceNote>, calls: &Vec<Call>, pass: Pass<B>)
-    requires all { KnowsAll B.names notes.old.items calls.now.items }
-    requires within { pass.count ≤ vec_len calls.now }
-    ensures same { notes.new.items ≡ notes.old.items }
-    ensures begins { pass.ours ≡ true → IsPrefix pass.calls calls.now.items }
-{
-    let Pass {
-        count,
-        ours,
-        note,
-        of: _,
-    } = pass;
-    if !ours {
-        return;
-    }
-    if let Some(note) = note {
-        compare_at(notes, count - 1, note);
-    }
 }
 
 /// A pass that has seen all calls.

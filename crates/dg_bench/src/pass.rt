@@ -1,19 +1,33 @@
 //! What a caller knows of the history.
-ghost use Rattle.std.specs.Prelude.{◌≡◌, [], length, true, false};
-ghost use Rattle.dg_bench.specs.Seen.{seen_of, IsSeen};
+ghost use Rattle.std.specs.Prelude.{◌≡◌, ◌≤◌, [], length, true, false, vec_len};
+ghost use mathlib.Core.List.{IsPrefix};
+ghost use Rattle.dg_bench.specs.Seen.{seen_of, IsSeen, KnowsAll};
 
+use crate::call::Call;
 use crate::note::PlaceNote;
+use crate::notes::compare_at;
 use crate::room::Room;
 use std::marker::{Model, PhantomData};
 
 /// A beginning of the history that was seen. Contracts see it as a `Seen`: the calls, how many they are, and whether it is
 /// a pass of this bench.
-#[derive(Drop)]
 pub struct Pass<B: Room> {
-    pub(crate) count: usize,
-    pub(crate) ours: bool,
-    pub(crate) note: Option<PlaceNote>,
-    pub(crate) of: PhantomData<B>,
+    count: usize,
+    ours: bool,
+    note: Option<PlaceNote>,
+    of: PhantomData<B>,
+}
+
+/// Written by hand, and so one call for whoever lets it go.
+impl<B: Room> Drop for Pass<B> {
+    fn drop(self) {
+        let Pass {
+            count: _,
+            ours: _,
+            note: _,
+            of: _,
+        } = self;
+    }
 }
 
 impl<B: Room> Model for Pass<B> {
@@ -58,6 +72,28 @@ impl<B: Room> Pass<B> {
             ours: self.ours,
             note,
             of: PhantomData,
+        }
+    }
+
+    /// Holds what the pass has seen against the calls.
+    #[tactic(auto, using(crate::proofs::Places::agreed))]
+    pub(crate) fn agree(self, notes: &mut Vec<PlaceNote>, calls: &Vec<Call>)
+        requires all { KnowsAll B.names notes.old.items calls.now.items }
+        requires within { self.count ≤ vec_len calls.now }
+        ensures same { notes.new.items ≡ notes.old.items }
+        ensures begins { self.ours ≡ true → IsPrefix self.calls calls.now.items }
+    {
+        let Pass {
+            count,
+            ours,
+            note,
+            of: _,
+        } = self;
+        if !ours {
+            return;
+        }
+        if let Some(note) = note {
+            compare_at(notes, count - 1, note);
         }
     }
 

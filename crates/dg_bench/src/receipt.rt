@@ -8,11 +8,21 @@ use std::marker::{Model, PhantomData};
 
 /// The place of a call, or how many calls there were at a look. Contracts see it as a `Told`: the number, and the call that
 /// stands there.
-#[derive(Drop)]
 pub struct Receipt<B: Room> {
     pub(crate) number: usize,
     pub(crate) note: Option<PlaceNote>,
-    pub(crate) of: PhantomData<B>,
+    of: PhantomData<B>,
+}
+
+/// Written by hand, and so one call for whoever lets it go.
+impl<B: Room> Drop for Receipt<B> {
+    fn drop(self) {
+        let Receipt {
+            number: _,
+            note: _,
+            of: _,
+        } = self;
+    }
 }
 
 impl<B: Room> Model for Receipt<B> {

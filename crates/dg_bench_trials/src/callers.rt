@@ -1,7 +1,7 @@
 //! Two callers that edit, ask and report, while a third runs workers.
 use crate::gates::Signal;
 use crate::pauses::Pauses;
-use crate::replies::{are_same, are_same_replies, put, replays};
+use crate::replies::{are_same, are_same_replies, closed, put, replays};
 use crate::turns::Share;
 use crate::working::{put_scripts, ready};
 use dg_bench::{Bench, Call, Pass, Receipt, Room, Work, run_workers};
@@ -17,6 +17,9 @@ use std::time::Clock;
 
 /// How often a caller edits, asks and reports.
 const ROUNDS: usize = 3;
+
+/// Calls, each beside its place.
+type Placed = Vec<(usize, Call)>;
 
 /// A caller, the receipts that it was given, and where it yields.
 #[derive(Drop)]
@@ -38,55 +41,72 @@ impl<B: Room> Caller<B> {
         }
     }
 
-    /// The caller with one receipt more, once it has yielded.
-    fn told(mut self, pass: Pass<B>, receipt: Receipt<B>) -> Option<Caller<B>> {
+    /// Keeps a receipt, and yields.
+    fn take(&mut self, pass: Pass<B>, receipt: Receipt<B>) -> Option<()> {
         self.pass = pass;
         self.receipts.push(receipt).ok()?;
         self.pauses.pause();
-        Some(self)
+        Some(())
     }
 
     /// Puts a file.
-    fn edit<R: Wait>(mut self, rt: &R, bench: &Bench<B>, name: &[u8]) -> Option<Caller<B>> {
+    fn edit<R: Wait>(&mut self, rt: &R, bench: &Bench<B>, name: &[u8]) -> Option<()> {
         let edit = put(self.alloc, name, b"pass x\n").ok()?;
         let pass = mem::replace(&mut self.pass, bench.pass());
         let (pass, receipt) = bench.edit(rt, self.alloc, pass, edit).ok()?;
-        self.told(pass, receipt)
+        self.take(pass, receipt)
     }
 
     /// Asks how a pattern is read.
-    fn ask<R: Wait>(mut self, rt: &R, bench: &Bench<B>) -> Option<Caller<B>> {
+    fn ask<R: Wait>(&mut self, rt: &R, bench: &Bench<B>) -> Option<()> {
         let question = Question::Pattern(Bytes::from_slice(self.alloc, b"b(.)").ok()?);
         let pass = mem::replace(&mut self.pass, bench.pass());
         let (pass, receipt, answer) = bench.ask(rt, self.alloc, pass, &question).ok()?;
         if answer != Answer::Reading(Reading::Read) {
             return None;
         }
-        self.told(pass, receipt)
+        self.take(pass, receipt)
     }
 
     /// Reports.
-    fn report<R: Wait>(mut self, rt: &R, bench: &Bench<B>) -> Option<Caller<B>> {
+    fn report<R: Wait>(&mut self, rt: &R, bench: &Bench<B>) -> Option<()> {
         let pass = mem::replace(&mut self.pass, bench.pass());
         let (pass, receipt, _reply) = bench.report(rt, self.alloc, pass).ok()?;
-        self.told(pass, receipt)
+        self.take(pass, receipt)
+    }
+
+    /// Edits, asks and reports, again and again.
+    fn go_round<R: Wait>(&mut self, rt: &R, bench: &Bench<B>, name: &[u8]) -> Option<()> {
+        for _ in 0..ROUNDS {
+            self.edit(rt, bench, name)?;
+            self.ask(rt, bench)?;
+            self.report(rt, bench)?;
+        }
+        Some(())
+    }
+
+    /// The call of each receipt that has one.
+    fn calls(&mut self, bench: &Bench<B>) -> Result<Placed, AllocError> {
+        let mut calls = Vec::new(self.alloc);
+        for receipt in &mut self.receipts {
+            let number = receipt.number();
+            if let Some(call) = bench.call_at(receipt) {
+                calls.push((number, call.copy(self.alloc)?))?;
+            }
+        }
+        Ok(calls)
     }
 }
 
-/// Edits, asks and reports, again and again.
-fn go_round<B: Room, R: Wait>(
+/// The calls of a caller that goes round.
+fn calls_of<B: Room, R: Wait>(
     rt: &R,
     bench: &Bench<B>,
     mut caller: Caller<B>,
     name: &[u8],
-) -> Option<Caller<B>> {
-    for _ in 0..ROUNDS {
-        caller = caller
-            .edit(rt, bench, name)?
-            .ask(rt, bench)?
-            .report(rt, bench)?;
-    }
-    Some(caller)
+) -> Option<Placed> {
+    caller.go_round(rt, bench, name)?;
+    caller.calls(bench).ok()
 }
 
 /// Two callers at once.
@@ -95,11 +115,11 @@ fn two_go_round<B: Room + Send + Sync, R: Threads + Wait + Sync>(
     bench: &Bench<B>,
     one: Caller<B>,
     other: Caller<B>,
-) -> (Option<Caller<B>>, Option<Caller<B>>) {
+) -> (Option<Placed>, Option<Placed>) {
     join(
         rt,
-        move || go_round(rt, bench, one, b"t/00.exp"),
-        move || go_round(rt, bench, other, b"t/01.exp"),
+        move || calls_of(rt, bench, one, b"t/00.exp"),
+        move || calls_of(rt, bench, other, b"t/01.exp"),
     )
 }
 
@@ -110,23 +130,25 @@ struct Reported {
     reply: Reply,
 }
 
-/// Runs all tests, and then judges those that are pending, by two workers each time.
-fn work<B: Room + Send + Sync, R: Threads + Wait + Clock + Sync>(
+/// What two workers report.
+fn work<'a, B: Room + Send + Sync, R: Threads + Wait + Clock + Sync>(
+    bench: &Bench<B>,
+    share: Share<'a, B, R>,
+    work: Work,
+) -> Option<(Share<'a, B, R>, Reported)> {
+    let Share { pass, maker } = share;
+    let (pass, reply) = run_workers(maker.rt, maker.alloc, bench, pass, maker, 2, work).ok()?;
+    let seen = pass.seen();
+    Some((Share { pass, maker }, Reported { seen, reply }))
+}
+
+/// Runs all tests, and then judges those that are pending.
+fn work_twice<B: Room + Send + Sync, R: Threads + Wait + Clock + Sync>(
     bench: &Bench<B>,
     share: Share<'_, B, R>,
 ) -> Option<(Reported, Reported)> {
-    let Share { pass, maker } = share;
-    let (rt, alloc) = (maker.rt, maker.alloc);
-    let (pass, reply) = run_workers(rt, alloc, bench, pass, maker, 2, Work::Live).ok()?;
-    let live = Reported {
-        seen: pass.seen(),
-        reply,
-    };
-    let (pass, reply) = run_workers(rt, alloc, bench, pass, maker, 2, Work::Rejudge).ok()?;
-    let judged = Reported {
-        seen: pass.seen(),
-        reply,
-    };
+    let (share, live) = work(bench, share, Work::Live)?;
+    let (_share, judged) = work(bench, share, Work::Rejudge)?;
     Some((live, judged))
 }
 
@@ -139,30 +161,13 @@ fn three_at_once<B: Room + Send + Sync, R: Threads + Wait + Clock + Sync>(
     third: Share<'_, B, R>,
 ) -> (
     Option<(Reported, Reported)>,
-    (Option<Caller<B>>, Option<Caller<B>>),
+    (Option<Placed>, Option<Placed>),
 ) {
     join(
         rt,
-        move || work(bench, third),
+        move || work_twice(bench, third),
         move || two_go_round(rt, bench, one, other),
     )
-}
-
-/// The call of each receipt that has one, beside its place.
-fn calls_of<B: Room>(
-    alloc: Global,
-    bench: &Bench<B>,
-    caller: Caller<B>,
-) -> Result<Vec<(usize, Call)>, AllocError> {
-    let Caller { receipts, .. } = caller;
-    let mut calls = Vec::new(alloc);
-    for mut receipt in receipts {
-        let number = receipt.number();
-        if let Some(call) = bench.call_at(&mut receipt) {
-            calls.push((number, call.copy(alloc)?))?;
-        }
-    }
-    Ok(calls)
 }
 
 /// Whether each of these calls stands at its place, each after the one before it.
@@ -190,36 +195,64 @@ fn counts(calls: &[Call]) -> (usize, usize, usize) {
     (edits.count(), asks.count(), reports.count())
 }
 
-/// Whether all were told of the calls that stand in the history, each caller in its order, and whether a core that is given
-/// these calls alone has the same replies. Of all questions for one pattern just the first is a call.
-pub fn are_told<B: Room + Send + Sync, R: Threads + Wait + Clock + Sync>(
+/// What all three were told: the calls of the callers, and the reports of the workers.
+#[derive(Drop)]
+struct Told {
+    one: Placed,
+    other: Placed,
+    live: Reported,
+    judged: Reported,
+}
+
+impl Told {
+    /// Whether these calls are a history of it: of all questions for one pattern just the first is a call.
+    fn is_in(&self, history: &[Call]) -> bool {
+        let (one, other) = (self.one.as_slice(), self.other.as_slice());
+        counts(history) == (2 + 2 * ROUNDS, 1, 2 + 2 * ROUNDS)
+            && one.len() + other.len() == 4 * ROUNDS + 1
+            && stand(one, history)
+            && stand(other, history)
+            && is_last(&self.live, history)
+            && is_last(&self.judged, history)
+    }
+}
+
+/// What all three are told.
+fn tell<B: Room + Send + Sync, R: Threads + Wait + Clock + Sync>(
     rt: &R,
     alloc: Global,
-    bench: Bench<B>,
+    bench: &Bench<B>,
+    pass: &mut Pass<B>,
     seed: u64,
-) -> Option<bool> {
+) -> Option<Told> {
     let signal = Signal::new();
     let maker = ready(rt, alloc, &signal);
-    let mut pass = put_scripts(rt, alloc, &bench, bench.pass(), 2)?;
     let one = Caller::new(alloc, pass.twin(), seed);
     let other = Caller::new(alloc, pass.twin(), !seed);
     let third = Share {
         pass: pass.twin(),
         maker: &maker,
     };
-    let (worked, (one, other)) = three_at_once(rt, &bench, one, other, third);
+    let (worked, (one, other)) = three_at_once(rt, bench, one, other, third);
     let (live, judged) = worked?;
-    let one = calls_of(alloc, &bench, one?).ok()?;
-    let other = calls_of(alloc, &bench, other?).ok()?;
-    let history = bench.into_history(&mut pass).ok()?;
-    let calls = history.calls();
-    Some(
-        counts(calls) == (2 + 2 * ROUNDS, 1, 2 + 2 * ROUNDS)
-            && one.len() + other.len() == 4 * ROUNDS + 1
-            && stand(one.as_slice(), calls)
-            && stand(other.as_slice(), calls)
-            && is_last(&live, calls)
-            && is_last(&judged, calls)
-            && replays(alloc, calls)?,
-    )
+    Some(Told {
+        one: one?,
+        other: other?,
+        live,
+        judged,
+    })
+}
+
+/// Whether all were told of the calls that stand in the history, each caller in its order, and whether a core that is given
+/// these calls alone has the same replies.
+pub fn are_told<B: Room + Send + Sync, R: Threads + Wait + Clock + Sync>(
+    rt: &R,
+    alloc: Global,
+    bench: Bench<B>,
+    seed: u64,
+) -> Option<bool> {
+    let mut pass = put_scripts(rt, alloc, &bench, bench.pass(), 2)?;
+    let told = tell(rt, alloc, &bench, &mut pass, seed)?;
+    let history = closed(bench, pass)?;
+    Some(told.is_in(history.calls()) && replays(alloc, history.calls())?)
 }

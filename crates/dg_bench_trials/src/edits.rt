@@ -1,5 +1,5 @@
 //! Two threads that edit at once.
-use crate::replies::put_on;
+use crate::replies::{closed, put_on};
 use dg_bench::{Bench, Call, Pass, Room};
 use dg_world::Edit;
 use std::alloc::Global;
@@ -70,8 +70,8 @@ pub fn are_all_made<B: Room + Send + Sync, R: Threads + Wait + Sync>(
     };
     let (one, other) = edit_both(rt, &bench, one, other);
     let most = one?.max(other?);
-    let mut pass = bench.pass();
-    let history = bench.into_history(&mut pass).ok()?;
+    let pass = bench.pass();
+    let history = closed(bench, pass)?;
     let calls = history.calls();
     Some(
         most == 2 * EDITS

@@ -1,8 +1,8 @@
 //! A bench at its limit, and a pass of another bench.
 ghost use Rattle.std.specs.Prelude.{◌≡◌};
 
-use crate::replies::{of_file, put};
-use crate::twins::judge;
+use crate::replies::{closed, of_file, put};
+use crate::twins::{Ran, judge};
 use dg_bench::{Bench, BenchRefusal, Call, Opened, Pass, Room};
 use dg_bytes::Bytes;
 use dg_world::{Answer, Edit, Refusal};
@@ -37,32 +37,79 @@ fn refused<B: Room, R: Wait>(
     if why == cause { Some(pass) } else { None }
 }
 
-/// Whether a bench with room for two calls refuses a third, and answers questions still.
-pub fn is_full<B: Room, R: Wait>(rt: &R, alloc: Global, bench: Bench<B>) -> Option<bool> {
-    let pass = reports(rt, alloc, &bench, bench.pass(), 1)?;
-    let pass = refused(
-        rt,
-        alloc,
-        &bench,
-        pass,
-        BenchRefusal::Edit(Refusal::NoSuchFile),
-    )?;
-    let pass = reports(rt, alloc, &bench, pass, 1)?;
-    let pass = refused(rt, alloc, &bench, pass, BenchRefusal::HistoryFull)?;
-    let (pass, why) = bench.report(rt, alloc, pass).err()?;
+/// The pass, where a bench with room for two calls has then made two reports, and has refused an edit for its own cause before
+/// it was full.
+fn filled<B: Room, R: Wait>(rt: &R, alloc: Global, bench: &Bench<B>) -> Option<Pass<B>> {
+    let why = BenchRefusal::Edit(Refusal::NoSuchFile);
+    let pass = reports(rt, alloc, bench, bench.pass(), 1)?;
+    let pass = refused(rt, alloc, bench, pass, why)?;
+    reports(rt, alloc, bench, pass, 1)
+}
+
+/// The pass, where a full bench refuses a report.
+fn reports_no_more<B: Room, R: Wait>(
+    rt: &R,
+    alloc: Global,
+    bench: &Bench<B>,
+    pass: Pass<B>,
+) -> Option<Pass<B>> {
+    match bench.report(rt, alloc, pass) {
+        Err((pass, BenchRefusal::HistoryFull)) => Some(pass),
+        _ => None,
+    }
+}
+
+/// The pass, where a bench with two calls answers that there is no script.
+fn answers_still<B: Room, R: Wait>(
+    rt: &R,
+    alloc: Global,
+    bench: &Bench<B>,
+    pass: Pass<B>,
+) -> Option<Pass<B>> {
     let question = of_file(alloc, b"t/a.exp")?;
     let (pass, front, answer) = bench.ask(rt, alloc, pass, &question).ok()?;
-    let ran = judge(rt, alloc, &bench, pass)?;
-    let (mut pass, record, also) = bench.commit(rt, alloc, ran.pass, ran.record).err()?;
-    let history = bench.into_history(&mut pass).ok()?;
-    Some(
-        why == BenchRefusal::HistoryFull
-            && also == BenchRefusal::HistoryFull
-            && answer == Answer::Absent
-            && front.number() == 2
-            && !record.reads().is_empty()
-            && history.calls().len() == 2,
-    )
+    if answer == Answer::Absent && front.number() == 2 {
+        Some(pass)
+    } else {
+        None
+    }
+}
+
+/// The pass, where a full bench refuses a record, which comes back.
+fn keeps_no_more<B: Room, R: Wait>(
+    rt: &R,
+    alloc: Global,
+    bench: &Bench<B>,
+    pass: Pass<B>,
+) -> Option<Pass<B>> {
+    let Ran { pass, record } = judge(rt, alloc, bench, pass)?;
+    let (pass, record, why) = bench.commit(rt, alloc, pass, record).err()?;
+    if why == BenchRefusal::HistoryFull && !record.reads().is_empty() {
+        Some(pass)
+    } else {
+        None
+    }
+}
+
+/// The pass, where a bench with room for two calls refuses a third, and answers questions still.
+fn stays_full<B: Room, R: Wait>(rt: &R, alloc: Global, bench: &Bench<B>) -> Option<Pass<B>> {
+    let pass = filled(rt, alloc, bench)?;
+    let pass = refused(rt, alloc, bench, pass, BenchRefusal::HistoryFull)?;
+    let pass = reports_no_more(rt, alloc, bench, pass)?;
+    let pass = answers_still(rt, alloc, bench, pass)?;
+    keeps_no_more(rt, alloc, bench, pass)
+}
+
+/// Whether a history has so many calls.
+fn has_calls<B: Room>(bench: Bench<B>, pass: Pass<B>, count: usize) -> Option<bool> {
+    let history = closed(bench, pass)?;
+    Some(history.calls().len() == count)
+}
+
+/// Whether a bench with room for two calls takes no third, and answers questions still.
+pub fn is_full<B: Room, R: Wait>(rt: &R, alloc: Global, bench: Bench<B>) -> Option<bool> {
+    let pass = stays_full(rt, alloc, &bench)?;
+    has_calls(bench, pass, 2)
 }
 
 /// The pass, where a file that is put is the call of this number, and its receipt tells it.
@@ -95,9 +142,8 @@ pub fn fills_blocks<B: Room, R: Wait>(rt: &R, alloc: Global, bench: Bench<B>) ->
     for number in 0..SOME_BLOCKS as u32 {
         pass = is_told(rt, alloc, &bench, pass, number)?;
     }
-    let mut pass = refused(rt, alloc, &bench, pass, BenchRefusal::HistoryFull)?;
-    let history = bench.into_history(&mut pass).ok()?;
-    Some(history.calls().len() == SOME_BLOCKS)
+    let pass = refused(rt, alloc, &bench, pass, BenchRefusal::HistoryFull)?;
+    has_calls(bench, pass, SOME_BLOCKS)
 }
 
 /// Whether a pass that has seen more calls than there are is refused, and comes back as it was.

@@ -1,7 +1,9 @@
 //! What the cases share: edits, and what calls and replies are to be.
-use dg_bench::{Bench, Call, Pass, Room};
-use dg_bytes::Bytes;
+use dg_bench::{Bench, Call, History, Pass, Room};
+use dg_bytes::{Bytes, TryCopy};
 use dg_core::{Core, Reply};
+use dg_records::Record;
+use dg_transcript::Transcript;
 use dg_world::{Edit, Name, Question};
 use std::alloc::{AllocError, Global};
 use std::sync::Wait;
@@ -30,6 +32,11 @@ pub fn put_on<B: Room, R: Wait>(
     let edit = put(alloc, name, text).ok()?;
     let (pass, _receipt) = bench.edit(rt, alloc, pass, edit).ok()?;
     Some(pass)
+}
+
+/// The history of a bench that nobody uses any more.
+pub fn closed<B: Room>(bench: Bench<B>, mut pass: Pass<B>) -> Option<History> {
+    bench.into_history(&mut pass).ok()
 }
 
 /// The question for the file of this name.
@@ -64,15 +71,39 @@ pub fn are_same_replies(one: &Reply, other: &Reply) -> bool {
     }
 }
 
+/// Whether a core accepts an edit.
+fn accepts_edit(alloc: Global, core: &mut Core, edit: &Edit) -> Option<bool> {
+    let edit = edit.copy(alloc).ok()?;
+    Some(core.edit(alloc, edit).is_ok())
+}
+
+/// Whether a core keeps a record.
+fn accepts_record(alloc: Global, core: &mut Core, record: &Record) -> Option<bool> {
+    let record = record.copy(alloc).ok()?;
+    Some(core.commit(alloc, record).is_ok())
+}
+
+/// Whether a core keeps a live run.
+fn accepts_run(
+    alloc: Global,
+    core: &mut Core,
+    record: &Record,
+    transcript: &Transcript,
+) -> Option<bool> {
+    let record = record.copy(alloc).ok()?;
+    let transcript = transcript.copy(alloc).ok()?;
+    Some(core.commit_live(alloc, record, transcript).is_ok())
+}
+
 /// Whether a core accepts a call, with the reply that stands there.
 fn accepts(alloc: Global, core: &mut Core, call: &Call) -> Option<bool> {
-    Some(match call.copy(alloc).ok()? {
-        Call::Edit(edit) => core.edit(alloc, edit).is_ok(),
-        Call::Ask(question, said) => core.ask(alloc, &question).ok()? == said,
-        Call::Commit(record) => core.commit(alloc, record).is_ok(),
-        Call::Live(record, transcript) => core.commit_live(alloc, record, transcript).is_ok(),
-        Call::Report(reply) => are_same_replies(&core.report(alloc).ok()?, &reply),
-    })
+    match call {
+        Call::Edit(edit) => accepts_edit(alloc, core, edit),
+        Call::Ask(question, said) => Some(core.ask(alloc, question).ok()? == *said),
+        Call::Commit(record) => accepts_record(alloc, core, record),
+        Call::Live(record, transcript) => accepts_run(alloc, core, record, transcript),
+        Call::Report(reply) => Some(are_same_replies(&core.report(alloc).ok()?, reply)),
+    }
 }
 
 /// Whether a new core accepts these calls, one after another, each with its reply.

@@ -1,5 +1,5 @@
 //! A script that is edited by one caller, and judged and reported by another, in a thread of its own.
-use crate::replies::{PASSED, is_sum, of_file, put_on};
+use crate::replies::{PASSED, closed, is_sum, of_file, put_on};
 use dg_bench::{Bench, Call, Pass, Receipt, Room};
 use dg_core::Reply;
 use dg_eval::{Job, Turn};
@@ -16,6 +16,23 @@ pub struct Ran<B: Room> {
     pub record: Record,
 }
 
+/// A turn of a job, which takes its answer from a bench. Gives the record, where the job is done.
+fn take_turn<B: Room, R: Wait>(
+    rt: &R,
+    alloc: Global,
+    bench: &Bench<B>,
+    pass: Pass<B>,
+    job: &mut Job,
+) -> Option<(Pass<B>, Option<Record>)> {
+    let ask = match job.advance(alloc).ok()? {
+        Turn::Need(ask) => ask,
+        Turn::Done(record) => return Some((pass, Some(record))),
+    };
+    let (pass, _receipt, answer) = bench.ask(rt, alloc, pass, &ask.question).ok()?;
+    job.answer(answer).ok()?;
+    Some((pass, None))
+}
+
 /// Judges the script t/a.exp: a job takes its answers from a bench.
 pub fn judge<B: Room, R: Wait>(
     rt: &R,
@@ -26,13 +43,11 @@ pub fn judge<B: Room, R: Wait>(
     let test = TestId::new(alloc, b"unix", b"t/a.exp").ok()?;
     let mut job = Job::start(alloc, test).ok()?;
     for _ in 0..100u32 {
-        let ask = match job.advance(alloc).ok()? {
-            Turn::Need(ask) => ask,
-            Turn::Done(record) => return Some(Ran { pass, record }),
-        };
-        let (seen, _receipt, answer) = bench.ask(rt, alloc, pass, &ask.question).ok()?;
+        let (seen, record) = take_turn(rt, alloc, bench, pass, &mut job)?;
         pass = seen;
-        job.answer(answer).ok()?;
+        if let Some(record) = record {
+            return Some(Ran { pass, record });
+        }
     }
     None
 }
@@ -53,6 +68,30 @@ struct Reported<B: Room> {
     reply: Reply,
 }
 
+/// Judges the script over a bench, and keeps the record.
+fn judge_and_keep<B: Room, R: Wait>(
+    rt: &R,
+    alloc: Global,
+    bench: &Bench<B>,
+    pass: Pass<B>,
+) -> Option<Pass<B>> {
+    let Ran { pass, record } = judge(rt, alloc, bench, pass)?;
+    let (pass, _kept) = bench.commit(rt, alloc, pass, record).ok()?;
+    Some(pass)
+}
+
+/// Looks at the script.
+fn look<B: Room, R: Wait>(
+    rt: &R,
+    alloc: Global,
+    bench: &Bench<B>,
+    pass: Pass<B>,
+) -> Option<(Pass<B>, Receipt<B>)> {
+    let question = of_file(alloc, b"t/a.exp")?;
+    let (pass, looked, _text) = bench.ask(rt, alloc, pass, &question).ok()?;
+    Some((pass, looked))
+}
+
 /// Judges the script over a bench, keeps the record, and reports.
 fn judge_and_report<B: Room, R: Wait>(
     rt: &R,
@@ -60,10 +99,8 @@ fn judge_and_report<B: Room, R: Wait>(
     twin: Twin<B>,
 ) -> Option<Reported<B>> {
     let Twin { alloc, pass } = twin;
-    let ran = judge(rt, alloc, bench, pass)?;
-    let (pass, _kept) = bench.commit(rt, alloc, ran.pass, ran.record).ok()?;
-    let question = of_file(alloc, b"t/a.exp")?;
-    let (pass, looked, _text) = bench.ask(rt, alloc, pass, &question).ok()?;
+    let pass = judge_and_keep(rt, alloc, bench, pass)?;
+    let (pass, looked) = look(rt, alloc, bench, pass)?;
     let (pass, told, reply) = bench.report(rt, alloc, pass).ok()?;
     Some(Reported {
         pass,
@@ -94,6 +131,15 @@ fn tell<B: Room>(bench: &Bench<B>, reported: &mut Reported<B>) -> bool {
         && reported.looked.number() == 2
 }
 
+/// Whether a history is of just an edit, a record and a report.
+fn is_short<B: Room>(bench: Bench<B>, pass: Pass<B>) -> Option<bool> {
+    let history = closed(bench, pass)?;
+    Some(matches!(
+        history.calls(),
+        [Call::Edit(_), Call::Commit(_), Call::Report(_)]
+    ))
+}
+
 /// Whether the thread reports what was edited before, in a history of just the edit, the record and the report.
 pub fn is_reported<B: Room + Send + Sync, R: Threads + Wait + Sync>(
     rt: &R,
@@ -113,12 +159,6 @@ pub fn is_reported<B: Room + Send + Sync, R: Threads + Wait + Sync>(
         pass: pass.twin(),
     };
     let mut reported = in_a_thread(rt, &bench, twin)?;
-    let is_told = tell(&bench, &mut reported);
     let is_right = is_sum(&reported.reply, PASSED) && reported.pass.seen() == 3;
-    let history = bench.into_history(&mut pass).ok()?;
-    let is_short = matches!(
-        history.calls(),
-        [Call::Edit(_), Call::Commit(_), Call::Report(_)]
-    );
-    Some(is_told && is_right && is_short)
+    Some(is_right && tell(&bench, &mut reported) && is_short(bench, pass)?)
 }

@@ -1,8 +1,7 @@
 //! Workers over stored worlds, and over gates that wait for nothing.
 use crate::gates::{Deaf, Signal, Waiting};
-use crate::replies::{PASSED, is_sum, put_on};
-use dg_bench::{Bench, Call, MakeGate, Pass, Room, Work, run_workers};
-use dg_bytes::Bytes;
+use crate::replies::{PASSED, closed, is_sum, put_on};
+use dg_bench::{Bench, Call, Pass, Room, Work, run_workers};
 use dg_core::Reply;
 use dg_transcript::encode;
 use std::alloc::{AllocError, Global};
@@ -59,6 +58,23 @@ pub fn ready<'a, R: Clock>(rt: &'a R, alloc: Global, signal: &'a Signal) -> Wait
     }
 }
 
+/// The pass, where workers judge what is pending, report that all passes, and so many calls are then seen.
+fn passed<B: Room + Send + Sync, R: Threads + Wait + Clock + Sync>(
+    rt: &R,
+    alloc: Global,
+    bench: &Bench<B>,
+    pass: Pass<B>,
+    maker: &Waiting<'_, R>,
+    seen: usize,
+) -> Option<Pass<B>> {
+    let (pass, sum) = run_workers(rt, alloc, bench, pass, maker, 2, Work::Rejudge).ok()?;
+    if is_sum(&sum, PASSED) && pass.seen() == seen {
+        Some(pass)
+    } else {
+        None
+    }
+}
+
 /// Whether two workers judge the one test that is pending, and then report without a further call.
 pub fn rejudges<B: Room + Send + Sync, R: Threads + Wait + Clock + Sync>(
     rt: &R,
@@ -75,10 +91,9 @@ pub fn rejudges<B: Room + Send + Sync, R: Threads + Wait + Clock + Sync>(
         b"t/a.exp",
         b"pass \"one\"\n",
     )?;
-    let (pass, sum) = run_workers(rt, alloc, &bench, pass, &maker, 2, Work::Rejudge).ok()?;
-    let seen = pass.seen();
-    let (pass, again) = run_workers(rt, alloc, &bench, pass, &maker, 2, Work::Rejudge).ok()?;
-    Some(is_sum(&sum, PASSED) && is_sum(&again, PASSED) && seen == 3 && pass.seen() == 4)
+    let pass = passed(rt, alloc, &bench, pass, &maker, 3)?;
+    let _pass = passed(rt, alloc, &bench, pass, &maker, 4)?;
+    Some(true)
 }
 
 /// How many calls are live runs with one entry of a child's output.
@@ -98,8 +113,8 @@ pub fn runs_live<B: Room + Send + Sync, R: Threads + Wait + Clock + Sync>(
     let signal = Signal::new();
     let maker = ready(rt, alloc, &signal);
     let pass = put_scripts(rt, alloc, &bench, bench.pass(), 3)?;
-    let (mut pass, reply) = run_workers(rt, alloc, &bench, pass, &maker, 2, Work::Live).ok()?;
-    let history = bench.into_history(&mut pass).ok()?;
+    let (pass, reply) = run_workers(rt, alloc, &bench, pass, &maker, 2, Work::Live).ok()?;
+    let history = closed(bench, pass)?;
     Some(
         passes(alloc, &reply) == Some(3) && live_runs(history.calls()) == 3 && signal.raised() == 3,
     )
@@ -135,20 +150,35 @@ fn has_transcript(alloc: Global, calls: &[Call], wanted: &[u8]) -> Option<bool> 
     Some(found)
 }
 
+/// The same script with a comment behind it.
+const TELLS_AGAIN: &[u8] = b"spawn cat\nif {[catch {send a} m]} {note $m}\npass p\n# again\n";
+
+/// The pass, where workers then come to those lines by this script.
+fn told<B: Room + Send + Sync, R: Threads + Wait + Sync>(
+    rt: &R,
+    alloc: Global,
+    bench: &Bench<B>,
+    pass: Pass<B>,
+    script: &[u8],
+    work: Work,
+) -> Option<Pass<B>> {
+    let pass = put_on(rt, alloc, bench, pass, b"t/a.exp", script)?;
+    let (pass, reply) = run_workers(rt, alloc, bench, pass, &Deaf { alloc }, 2, work).ok()?;
+    if tells(&reply, TOLD) {
+        Some(pass)
+    } else {
+        None
+    }
+}
+
 /// Whether workers keep the transcript of a call that failed, and judge again by it to the same lines.
 pub fn keeps_failures<B: Room + Send + Sync, R: Threads + Wait + Sync>(
     rt: &R,
     alloc: Global,
     bench: Bench<B>,
 ) -> Option<bool> {
-    let maker = Deaf { alloc };
-    let pass = put_on(rt, alloc, &bench, bench.pass(), b"t/a.exp", TELLS)?;
-    let (pass, live) = run_workers(rt, alloc, &bench, pass, &maker, 2, Work::Live).ok()?;
-    let mut text = Bytes::from_slice(alloc, TELLS).ok()?;
-    text.extend(b"# again\n").ok()?;
-    let pass = put_on(rt, alloc, &bench, pass, b"t/a.exp", text.as_slice())?;
-    let (mut pass, again) = run_workers(rt, alloc, &bench, pass, &maker, 2, Work::Rejudge).ok()?;
-    let history = bench.into_history(&mut pass).ok()?;
-    let is_kept = has_transcript(alloc, history.calls(), DEAF)?;
-    Some(is_kept && tells(&live, TOLD) && tells(&again, TOLD))
+    let pass = told(rt, alloc, &bench, bench.pass(), TELLS, Work::Live)?;
+    let pass = told(rt, alloc, &bench, pass, TELLS_AGAIN, Work::Rejudge)?;
+    let history = closed(bench, pass)?;
+    has_transcript(alloc, history.calls(), DEAF)
 }

@@ -225,6 +225,19 @@ fn counts_of(calls: &[Call], read: usize) -> Counts {
     counts
 }
 
+/// Writes the report to its file. A run makes the folders that this stands in.
+fn write_report<R: Files + AllocGlobal>(
+    rt: &R,
+    course: &Course,
+    report: &[u8],
+) -> Result<(), RunFault> {
+    let path = sum_path(rt.alloc(), course.outdir.as_str(), course.tool.as_str())?;
+    match course.mode {
+        Mode::Run => write_with_folders(rt, path.as_str(), report),
+        Mode::Rejudge | Mode::Session => write_in_place(rt, path.as_str(), report),
+    }
+}
+
 /// Runs a plan over a bench of these cells.
 fn run_over<B: Room + Send + Sync, R>(
     rt: &R,
@@ -258,17 +271,13 @@ where
     let Ok(history) = bench.into_history(&mut pass) else {
         return Err(RunFault::HistoryFull);
     };
-    let outdir = course.outdir.as_str();
-    write_transcripts(rt, outdir, tests.as_slice(), history.calls())?;
-    let path = sum_path(alloc, outdir, course.tool.as_str())?;
-    match course.mode {
-        Mode::Run => write_with_folders(rt, path.as_str(), report.as_slice())?,
-        Mode::Rejudge | Mode::Session => write_in_place(rt, path.as_str(), report.as_slice())?,
-    }
+    let calls = history.calls();
+    write_transcripts(rt, course.outdir.as_str(), tests.as_slice(), calls)?;
+    write_report(rt, &course, report.as_slice())?;
     Ok(RunResult {
         report,
         status,
-        counts: counts_of(history.calls(), read),
+        counts: counts_of(calls, read),
     })
 }
 

@@ -37,26 +37,33 @@ fn put_hundred(alloc: Global, core: &mut Core) -> Result<bool, AllocError> {
     Ok(true)
 }
 
+/// Whether a hundred new scripts are judged once each, and none is compared before.
+fn judges_hundred(alloc: Global, core: &mut Core) -> Result<bool, AllocError> {
+    let are_put = put_hundred(alloc, core)? && core.compared() == 0;
+    let _first = settled(alloc, core)?;
+    Ok(are_put && core.evaluations() == 100)
+}
+
+/// Whether an edit of one of these compares one record more, and a report none.
+fn compares_one_more(alloc: Global, core: &mut Core) -> Result<bool, AllocError> {
+    let one_more = core.compared().wrapping_add(1);
+    let is_edited = put_numbered(alloc, core, 7, b"pass y\n")? && core.compared() == one_more;
+    let _reply = core.report(alloc)?;
+    Ok(is_edited && core.compared() == one_more)
+}
+
+/// Whether one evaluation is left to be made.
+fn judges_one(alloc: Global, core: &mut Core) -> Result<bool, AllocError> {
+    let _second = settled(alloc, core)?;
+    Ok(core.evaluations() == 101)
+}
+
 /// Whether an edit of one script among a hundred compares one record more, and leaves one evaluation to be made.
 pub fn compares_what_it_touches(alloc: Global) -> Result<bool, AllocError> {
     let mut core = Core::new(alloc)?;
-    let are_put = put_hundred(alloc, &mut core)?;
-    let is_new = core.compared() == 0;
-    let _first = settled(alloc, &mut core)?;
-    let are_judged = core.evaluations() == 100;
-    let one_more = core.compared().wrapping_add(1);
-    let is_edited = put_numbered(alloc, &mut core, 7, b"pass y\n")?;
-    let is_compared = core.compared() == one_more;
-    let _reply = core.report(alloc)?;
-    let is_left = core.compared() == one_more;
-    let _second = settled(alloc, &mut core)?;
     Ok(
-        are_put
-            && is_new
-            && are_judged
-            && is_edited
-            && is_compared
-            && is_left
-            && core.evaluations() == 101,
+        judges_hundred(alloc, &mut core)?
+            && compares_one_more(alloc, &mut core)?
+            && judges_one(alloc, &mut core)?,
     )
 }

@@ -48,15 +48,24 @@ fn has_line(alloc: Global, reply: &Reply, wanted: &[u8]) -> Result<bool, AllocEr
     }
 }
 
+/// Whether a record is kept whose answers are of two moments, and is pending.
+fn keeps_mixed(alloc: Global, core: &mut Core) -> Result<bool, AllocError> {
+    let are_set = sets(alloc, core, b"lib/a.exp", b"set A 1\n")?
+        && sets(alloc, core, b"lib/b.exp", b"set B 1\n")?;
+    let mixed = judged_meanwhile(alloc, core)?;
+    let is_kept = core.commit(alloc, mixed).is_ok();
+    Ok(are_set && is_kept && is_pending(&core.report(alloc)?))
+}
+
+/// Whether it is told once all that it read is there again.
+fn tells_mixed(alloc: Global, core: &mut Core) -> Result<bool, AllocError> {
+    let is_back = sets(alloc, core, b"lib/a.exp", b"set A 1\n")?;
+    let is_told = has_line(alloc, &core.report(alloc)?, b"PASS: 12")?;
+    Ok(is_back && is_told && core.evaluations() == 0)
+}
+
 /// Whether a record whose answers are of two moments is pending until all that it read is there again.
 pub fn waits_for_both(alloc: Global) -> Result<bool, AllocError> {
     let mut core = core_with(alloc, SHOWS)?;
-    let is_first = sets(alloc, &mut core, b"lib/a.exp", b"set A 1\n")?;
-    let is_second = sets(alloc, &mut core, b"lib/b.exp", b"set B 1\n")?;
-    let mixed = judged_meanwhile(alloc, &mut core)?;
-    let is_kept = core.commit(alloc, mixed).is_ok();
-    let waits = is_pending(&core.report(alloc)?);
-    let is_back = sets(alloc, &mut core, b"lib/a.exp", b"set A 1\n")?;
-    let is_told = has_line(alloc, &core.report(alloc)?, b"PASS: 12")?;
-    Ok(is_first && is_second && is_kept && waits && is_back && is_told && core.evaluations() == 0)
+    Ok(keeps_mixed(alloc, &mut core)? && tells_mixed(alloc, &mut core)?)
 }

@@ -31,6 +31,18 @@ pub(super) fn tell(
     }
 }
 
+/// The record of a job that a core answers.
+fn record_of(alloc: Global, core: &mut Core, job: &mut Job) -> Result<Record, AllocError> {
+    for _ in 0..TURNS {
+        match job.advance(alloc) {
+            Ok(Turn::Done(record)) => return Ok(record),
+            Ok(Turn::Need(ask)) => tell(alloc, core, job, &ask.question)?,
+            Err(_) => return Err(AllocError),
+        }
+    }
+    Err(AllocError)
+}
+
 /// The record of that script, as it is judged in a world of its own.
 fn judged_elsewhere(alloc: Global) -> Result<Record, AllocError> {
     let mut core = core_with(alloc, SEARCHES)?;
@@ -38,28 +50,43 @@ fn judged_elsewhere(alloc: Global) -> Result<Record, AllocError> {
         return Err(AllocError);
     };
     let mut job = Job::start(alloc, test)?;
-    for _ in 0..TURNS {
-        match job.advance(alloc) {
-            Ok(Turn::Done(record)) => return Ok(record),
-            Ok(Turn::Need(ask)) => tell(alloc, &mut core, &mut job, &ask.question)?,
-            Err(_) => return Err(AllocError),
-        }
-    }
-    Err(AllocError)
+    record_of(alloc, &mut core, &mut job)
+}
+
+/// Whether a core that is asked for a pattern tells that it is read so.
+fn is_read_as(
+    alloc: Global,
+    core: &mut Core,
+    pattern: &[u8],
+    reading: Reading,
+) -> Result<bool, AllocError> {
+    let question = Question::Pattern(Bytes::from_slice(alloc, pattern)?);
+    Ok(core.ask(alloc, &question)? == Answer::Reading(reading))
+}
+
+/// How a core holds that a pattern is read, if it was asked for.
+fn held_reading(alloc: Global, core: &Core, pattern: &[u8]) -> Result<Option<Answer>, AllocError> {
+    let question = Question::Pattern(Bytes::from_slice(alloc, pattern)?);
+    core.answer(alloc, &question)
+}
+
+/// Whether a core reads the one pattern, and not the other.
+fn reads_one(alloc: Global, core: &mut Core) -> Result<bool, AllocError> {
+    Ok(
+        is_read_as(alloc, core, b"b(.)", Reading::Read)?
+            && is_read_as(alloc, core, b"(", Reading::Syntax)?,
+    )
 }
 
 /// Whether patterns are read as at first, each time that they are asked for, and none before.
 pub fn keeps_its_first_answer(alloc: Global) -> Result<bool, AllocError> {
     let mut core = Core::new(alloc)?;
-    let read = Question::Pattern(Bytes::from_slice(alloc, b"b(.)")?);
-    let none = Question::Pattern(Bytes::from_slice(alloc, b"(")?);
-    let is_new = core.answer(alloc, &read)?.is_none();
-    let first = core.ask(alloc, &read)? == Answer::Reading(Reading::Read)
-        && core.ask(alloc, &none)? == Answer::Reading(Reading::Syntax);
-    let again = core.ask(alloc, &read)? == Answer::Reading(Reading::Read)
-        && core.ask(alloc, &none)? == Answer::Reading(Reading::Syntax);
-    let is_held = core.answer(alloc, &read)? == Some(Answer::Reading(Reading::Read));
-    Ok(is_new && first && again && is_held)
+    Ok(
+        held_reading(alloc, &core, b"b(.)")?.is_none()
+            && reads_one(alloc, &mut core)?
+            && reads_one(alloc, &mut core)?
+            && held_reading(alloc, &core, b"b(.)")? == Some(Answer::Reading(Reading::Read)),
+    )
 }
 
 /// Whether a report names just the one script as pending.
@@ -84,34 +111,52 @@ fn is_passed(reply: &Reply) -> bool {
     }
 }
 
+/// Whether a core settles with one evaluation in all.
+fn settles_once(alloc: Global, core: &mut Core) -> Result<bool, AllocError> {
+    let _sum = settled(alloc, core)?;
+    Ok(core.evaluations() == 1)
+}
+
+/// Whether a core reports that its script passes, after so many evaluations.
+fn tells(alloc: Global, core: &Core, evaluations: u64) -> Result<bool, AllocError> {
+    Ok(is_passed(&core.report(alloc)?) && core.evaluations() == evaluations)
+}
+
+/// Whether a core reports that its script is pending, and has evaluated nothing.
+fn waits(alloc: Global, core: &Core) -> Result<bool, AllocError> {
+    Ok(is_pending(&core.report(alloc)?) && core.evaluations() == 0)
+}
+
 /// Whether reports evaluate nothing, before and after the script was judged.
 pub fn evaluates_nothing(alloc: Global) -> Result<bool, AllocError> {
     let mut core = core_with(alloc, b"pass \"one\"\n")?;
-    let was_pending = is_pending(&core.report(alloc)?) && core.evaluations() == 0;
-    let _sum = settled(alloc, &mut core)?;
-    let is_judged = core.evaluations() == 1;
-    let is_told = is_passed(&core.report(alloc)?) && core.evaluations() == 1;
-    Ok(was_pending && is_judged && is_told)
+    Ok(waits(alloc, &core)? && settles_once(alloc, &mut core)? && tells(alloc, &core, 1)?)
 }
 
 /// Whether a question for a new pattern leaves the record as it was.
 pub fn leaves_what_is_held(alloc: Global) -> Result<bool, AllocError> {
     let mut core = core_with(alloc, b"pass \"one\"\n")?;
-    let _sum = settled(alloc, &mut core)?;
-    let pattern = Question::Pattern(Bytes::from_slice(alloc, b"b(.)")?);
-    let _answer = core.ask(alloc, &pattern)?;
-    let is_told = is_passed(&core.report(alloc)?);
-    let _again = settled(alloc, &mut core)?;
-    Ok(is_told && core.evaluations() == 1)
+    Ok(
+        settles_once(alloc, &mut core)?
+            && is_read_as(alloc, &mut core, b"b(.)", Reading::Read)?
+            && tells(alloc, &core, 1)?
+            && settles_once(alloc, &mut core)?,
+    )
+}
+
+/// Whether a core keeps the record that was judged in another world.
+fn keeps_from_elsewhere(alloc: Global, core: &mut Core) -> Result<bool, AllocError> {
+    let record = judged_elsewhere(alloc)?;
+    Ok(core.commit(alloc, record).is_ok())
 }
 
 /// Whether a record that was judged in another world is pending until its pattern was asked for.
 pub fn waits_for_its_pattern(alloc: Global) -> Result<bool, AllocError> {
     let mut core = core_with(alloc, SEARCHES)?;
-    let is_kept = core.commit(alloc, judged_elsewhere(alloc)?).is_ok();
-    let waits = is_pending(&core.report(alloc)?);
-    let pattern = Question::Pattern(Bytes::from_slice(alloc, b"o(.)e")?);
-    let is_read = core.ask(alloc, &pattern)? == Answer::Reading(Reading::Read);
-    let is_told = is_passed(&core.report(alloc)?);
-    Ok(is_kept && waits && is_read && is_told && core.evaluations() == 0)
+    Ok(
+        keeps_from_elsewhere(alloc, &mut core)?
+            && waits(alloc, &core)?
+            && is_read_as(alloc, &mut core, b"o(.)e", Reading::Read)?
+            && tells(alloc, &core, 0)?,
+    )
 }
