@@ -3,8 +3,10 @@
     python3 live.py RUNTEST LOOP [RUNS]
 
 LOOP is loop.c, built. Shown are the least and the median of RUNS (15) whole runs, in milliseconds. A live run writes the transcripts
-into a folder that isn't there yet, or over those of an earlier run."""
+into a folder that isn't there yet, or over those of an earlier run; how many of these it wrote anew is shown too, of the median and
+the worst of the runs."""
 import os
+import pathlib
 import shutil
 import statistics
 import subprocess
@@ -44,6 +46,11 @@ def checked(room):
             sys.exit("not every script passed")
 
 
+def transcripts(room):
+    """The files of a run's transcripts, each by its number in the file system."""
+    return {path: path.stat().st_ino for path in pathlib.Path(room).rglob("*.tr")}
+
+
 def main(program, loop, runs=15):
     with tempfile.TemporaryDirectory() as room:
         os.makedirs(f"{room}/suite/t")
@@ -62,16 +69,23 @@ def main(program, loop, runs=15):
         }
         timed(run + [old])
         taken = {name: [] for name in rows}
+        anew = {name: [] for name in rows if "over" in name}
         for _ in range(int(runs)):
             for name, words in rows.items():
                 shutil.rmtree(new, ignore_errors=True)
+                before = transcripts(old)
                 taken[name].append(timed(words))
+                if name in anew:
+                    anew[name].append(len(transcripts(old).items() - before.items()))
                 if new in words:
                     checked(new)
         checked(old)
         print(f"{SCRIPTS} scripts of {ROUNDS} rounds with cat         least   median")
         for name, times in taken.items():
             print(f"{name:40} {min(times):8.1f} {statistics.median(times):8.1f}")
+        print(f"of the {SCRIPTS} transcripts written anew     median    worst")
+        for name, counts in anew.items():
+            print(f"{name:40} {statistics.median(counts):8} {max(counts):8}")
 
 
 if __name__ == "__main__":

@@ -1,5 +1,5 @@
 //! The bench that callers share.
-ghost use Rattle.std.specs.Prelude.{◌≡◌, ◌⊎◌, ◌≤◌, [], length, map, Err, Some, None, IfOk, IfErr, OnOk, IfSome, IfNone};
+ghost use Rattle.std.specs.Prelude.{◌≡◌, ◌⊎◌, ◌≤◌, [], length, Err, Some, None, IfOk, IfErr, IfSome, IfNone};
 ghost use Rattle.dg_core.specs.Core.{edited_core, committed_live};
 ghost use Rattle.dg_bench.specs.History.{IsLegal};
 ghost use Rattle.dg_bench.specs.Seen.{HasSeenBeginningOf, seen_all};

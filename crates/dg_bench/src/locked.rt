@@ -1,5 +1,5 @@
 //! What is under the lock.
-ghost use Rattle.std.specs.Prelude.{ℕ, ◌≡◌, ◌≢◌, ◌<◌, ◌≤◌, [], length, map, false, Ok, Err, Some, None, IfOk, IfErr, OnOk, OnErr, IsSome, MatchOption};
+ghost use Rattle.std.specs.Prelude.{ℕ, ◌≡◌, ◌≢◌, ◌<◌, ◌≤◌, [], length, false, Ok, Err, Some, None, IfOk, IfErr, OnOk, OnErr, IsSome, MatchOption};
 ghost use Rattle.dg_core.specs.Core.{new_core, edited_core, committed_live, IsAskedOf};
 ghost use Rattle.dg_core.specs.Reply.{Replies};
 ghost use Rattle.dg_world.specs.World.{look, transcript_of};

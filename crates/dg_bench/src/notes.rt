@@ -1,5 +1,5 @@
 //! What is known of the places of a history: a note for each, beside the calls.
-ghost use Rattle.std.specs.Prelude.{ℕ, ◌≡◌, ◌<◌, ◌≤◌, ◌+◌, List, [], ◌∷◌, ◌++◌, length, true, Some, IfOk, IfErr, OnOk, IfSome, slice_get, vec_len, vec_capacity};
+ghost use Rattle.std.specs.Prelude.{ℕ, ◌≡◌, ◌<◌, ◌+◌, List, [], ◌∷◌, ◌++◌, length, true, Some, IfOk, IfErr, OnOk, IfSome, slice_get, vec_len, vec_capacity};
 ghost use Rattle.once_cell.specs.Once.{Agrees};
 ghost use Rattle.dg_bench.specs.Cells.{HasBlock, Sees};
 ghost use Rattle.dg_bench.specs.declared.note.PlaceNote.{PlaceNote};

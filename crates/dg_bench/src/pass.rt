@@ -1,5 +1,5 @@
 //! What a caller knows of the history.
-ghost use Rattle.std.specs.Prelude.{◌≡◌, ◌≤◌, [], length, true, false, vec_len};
+ghost use Rattle.std.specs.Prelude.{◌≡◌, ◌≤◌, true, false, vec_len};
 ghost use mathlib.Core.List.{IsPrefix};
 ghost use Rattle.dg_bench.specs.Seen.{seen_of, IsSeen, KnowsAll};
 

@@ -15,6 +15,7 @@ use Rattle.dg_pipes.specs.declared.item.Item.{Item}
 use Rattle.dg_pipes.specs.declared.item.Item.TheVariants as item
 use Rattle.dg_pipes.specs.declared.session.Session.{Session}
 use Rattle.dg_pipes.specs.declared.slot.Slot.{Slot}
+use Rattle.dg_pipes.specs.Waits.{IsTold}
 
 -- what was taken of a session's ring; a closed one has none
 abbrev pub taken_of : Option Session → List Item
@@ -33,10 +34,16 @@ items_in (piece.Chunk wait bytes) = item.Chunk bytes ∷ []
 items_in (piece.End wait) = item.End ∷ []
 items_in piece.Silence = []
 
+-- the wait of a piece is told in whole steps, or is all of the limit
+abbrev pub IsTimed : ℕ → Piece → Type 0
+IsTimed limit (piece.Chunk wait bytes) = IsTold limit wait
+IsTimed limit (piece.End wait) = IsTold limit wait
+IsTimed limit piece.Silence = Unit {0}
+
 -- A piece that was read joins what was taken; a read that fails may have taken a fault; a close leaves
 -- nothing; any other call leaves what was taken.
 abbrev pub Joins : Action → Reply → List Item → List Item → Type 0
-Joins (action.Read limit) (reply.Piece p) before after = after ≡ before ++ items_in p
+Joins (action.Read limit) (reply.Piece p) before after = (after ≡ before ++ items_in p) × IsTimed limit p
 Joins (action.Read limit) (reply.Failed code) before after = (after ≡ before ++ item.Fault code ∷ []) ⊎ (after ≡ before)
 Joins action.Close reply.Closed before after = after ≡ []
 Joins a r before after = after ≡ before

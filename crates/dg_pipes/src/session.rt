@@ -4,6 +4,7 @@ ghost use mathlib.Core.List.{IsPrefix};
 ghost use Rattle.rtrb.specs.Ends.{SameRing};
 ghost use Rattle.rtrb.specs.Ring.{received, all_sent, IsFinishedOf, SameConsumer};
 ghost use Rattle.dg_pipes.specs.Items.{IsAllowed, has_ended};
+ghost use Rattle.dg_pipes.specs.Waits.{IsTold};
 
 use crate::bells::Bells;
 use crate::item::{Item, Rule};
@@ -121,6 +122,7 @@ impl Session {
         ensures some { IfSome result.1 (λ x. (received self.new.ring ≡ received self.old.ring ++ x ∷ []) × IsAllowed x) }
         ensures none { IfNone result.1 ((received self.new.ring ≡ received self.old.ring) × (result.0 ≡ limit)) }
         ensures waited { result.0 ≤ limit }
+        ensures told { IsTold limit result.0 }
     {
         let read = take(rt, &mut self.ring, &self.bells, &mut self.rest, limit);
         if let Some(item) = &read.1 {

@@ -2,6 +2,7 @@
 ghost use Rattle.std.specs.Prelude.{◌≡◌, ◌≤◌, ◌++◌, [], ◌∷◌, IfSome, IfNone};
 ghost use Rattle.rtrb.specs.Ring.{received, SameConsumer};
 ghost use Rattle.dg_pipes.specs.Items.{IsAllowed};
+ghost use Rattle.dg_pipes.specs.Waits.{IsTold};
 
 use crate::bells::Bells;
 use crate::item::{Item, Rule};
@@ -12,28 +13,31 @@ use std::time::{Clock, Duration, Instant};
 
 /// The longest sleep in milliseconds.
 const TICK: u32 = 5;
+/// What passed is told in steps of so many milliseconds, so that a child that does the same again mostly gets the same
+/// transcript.
+const STEP: u32 = 10;
 /// With so few items left in the ring the reader thread is woken.
 const FEW: usize = 32;
 
-/// What was slept beyond whole milliseconds, in microseconds.
+/// What was slept and not told yet, in microseconds: less than a step.
 #[derive(Clone, Copy, Default, Drop)]
 pub struct Rest {
     micros: u32,
 }
 
 impl Rest {
-    // Sleeps until something came, for a tick at most. The milliseconds that passed, with what was
-    // left over before, or those of the limit that are left.
+    // Sleeps until something came, for a tick at most. The milliseconds that passed, in whole steps,
+    // with what was left over before; or those of the limit that are left.
     fn sleep(&mut self, rt: &(impl Wait + Clock), bells: &Bells, left: u32) -> u32
-        ensures { result ≤ left }
+        ensures within { result ≤ left }
+        ensures told { IsTold left result }
     {
-        let tick = TICK.min(left);
+        let tick = Duration::from_millis(u64::from(TICK.min(left)));
         let start = Instant::now(rt);
-        bells
-            .came
-            .park_timeout(rt, Duration::from_millis(u64::from(tick)));
-        let Ok(Ok(slept)) = start.map(|s| s.elapsed(rt)) else {
-            return tick;
+        bells.came.park_timeout(rt, tick);
+        let slept = match start.map(|s| s.elapsed(rt)) {
+            Ok(Ok(slept)) => slept,
+            Ok(Err(_)) | Err(_) => tick,
         };
         let micros = slept.as_micros().saturating_add(u128::from(self.micros));
         let millis = micros / 1000;
@@ -41,8 +45,9 @@ impl Rest {
             self.micros = 0;
             return left;
         }
-        self.micros = (micros % 1000) as u32;
-        millis as u32
+        let past = millis % u128::from(STEP);
+        self.micros = (past * 1000 + micros % 1000) as u32;
+        (millis - past) as u32
     }
 }
 
@@ -58,6 +63,7 @@ pub fn take(
 ) -> (u32, Option<Item>)
     ensures ring { SameConsumer ring.old ring.new }
     ensures waited { result.0 ≤ limit }
+    ensures told { IsTold limit result.0 }
     ensures some { IfSome result.1 (λ x. (received ring.new ≡ received ring.old ++ x ∷ []) × IsAllowed x) }
     ensures none { IfNone result.1 ((received ring.new ≡ received ring.old) × (result.0 ≡ limit)) }
 {
