@@ -1,17 +1,13 @@
 -- What a call of a bench comes to.
 use Rattle.std.proofs.Common.{ℕ, ◌≡◌, ◌⊎◌, inl, inr, ◌+◌, ◌<◌, ◌≤◌, Bool, true, false, List, [], ◌∷◌, ◌++◌, length, true≢false, refl, sym, ap, ◌∙◌, subst, arith}
-use Rattle.std.specs.Prelude.{Option, None, Some, MatchOption, option_map, Result, Ok, Err, IfOk, IfErr, OnOk}
+use Rattle.std.specs.Prelude.{Option, None, Some, MatchOption, Result, Ok, Err, IfOk, IfErr, OnOk}
 use Rattle.std.proofs.lemmas.List.{append-nil}
 use Rattle.dg_bench.specs.declared.note.PlaceNote.{PlaceNote}
 use Rattle.dg_core.specs.Core.{CoreView, new_core}
-use Rattle.dg_world.specs.World.{WorldView, look}
+use Rattle.dg_world.specs.World.{look}
 use Rattle.dg_world.specs.declared.refusal.Refusal.{Refusal}
 use Rattle.dg_world.specs.declared.question.Question.{Question}
-use Rattle.dg_world.specs.declared.question.Question.TheVariants.{File, Tool, Triplet, Variable, Entry, Pattern}
 use Rattle.dg_world.specs.declared.question.Answer.{Answer}
-use Rattle.dg_world.specs.declared.question.Answer.TheVariants.{Reading}
-use Rattle.dg_match.specs.declared.reading.Reading.{Reading as ReadingOfText}
-use Rattle.dg_match.specs.Book.{reading_of}
 use Rattle.dg_bench.specs.declared.call.Call.{Call}
 use Rattle.dg_bench.specs.declared.place.Place.{Place}
 use Rattle.dg_bench.specs.declared.refusal.BenchRefusal.{BenchRefusal}
@@ -21,13 +17,6 @@ use Rattle.dg_bench.specs.Seen.{Seen, Told, Kept, kept_of, seen_all, called, Kno
 use Rattle.dg_bench.specs.Refusals.{SeesAll, SeesMore, Refuses, RefusesBegun, IsRefused, never}
 use Rattle.dg_bench.specs.Made.{Enters, Looks, IsMade, IsLook}
 use Rattle.dg_bench.proofs.Steps.{makes_next}
-
--- a refusal for which the core gives no cause
-pub for_any_cause : (cause : CoreView → Refusal → Type 0) (limit : ℕ) (old new : Kept) (pass back : Seen) (why : BenchRefusal) → Refuses never limit old new pass back why → Refuses cause limit old new pass back why
-for_any_cause cause limit old new pass back (Shorter seen found) h = h
-for_any_cause cause limit old new pass back HistoryFull h = h
-for_any_cause cause limit old new pass back (Edit why) h = absurd h.2
-for_any_cause cause limit old new pass back Memory h = h
 
 sees_again : (old : Kept) (pass p back : Seen) → SeesAll old pass p → SeesAll old p back → SeesAll old pass back
 sees_again old pass p back s t = (s.0, t.1, t.2, s.3)
@@ -223,22 +212,3 @@ asked_first limit old mid new pass p later told q a o call same sees none e =
       receipt = f.receipt;
     } in
     subst (λ (x : Option Answer). MatchOption x (Enters limit old new pass later told call) (λ _. Looks old new pass later told q a)) (sym none) entered
-
-some≢none : {A : Type 0} (a : A) → Some a ≡ None → ⊥
-some≢none a h = cc
-
--- only a pattern has no answer, and it is answered by how it is read
-reading-of : (o : Option ReadingOfText) (a : Answer) → option_map Reading o ≡ Some a → (r : ReadingOfText) × (a ≡ Reading r)
-reading-of None a h = cc
-reading-of (Some r) a h = (r, some-equal a (Reading r) (sym h))
-  where
-    some-equal : (x y : Answer) → Some x ≡ Some y → x ≡ y
-    some-equal x y e = cc
-
-pub first-answer : (w v : WorldView) (q : Question) (a : Answer) → look w q ≡ None → look v q ≡ Some a → (r : ReadingOfText) × (a ≡ Reading r)
-first-answer w v (File name) a none some = cc
-first-answer w v Tool a none some = cc
-first-answer w v (Triplet machine) a none some = cc
-first-answer w v (Variable name) a none some = cc
-first-answer w v (Entry place) a none some = cc
-first-answer w v (Pattern text) a none some = reading-of (reading_of v.book text) a some

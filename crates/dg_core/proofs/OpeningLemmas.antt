@@ -1,5 +1,5 @@
 -- What openings leave out: only tests that are held.
-use Rattle.std.proofs.Common.{◌≡◌, ◌≢◌, ◌∙◌, ◌<◌, ◌≤◌, ◌+◌, ◌-◌, ◌++◌, ◌||◌, ℕ, zero, suc, Bool, true, false, cond, List, [], ◌∷◌, length, take, get_or, refl, ap, sym, subst, arith}
+use Rattle.std.proofs.Common.{◌≡◌, ◌≢◌, ◌∙◌, ◌<◌, ◌≤◌, ◌+◌, ◌-◌, ◌++◌, ◌||◌, ℕ, zero, suc, Bool, true, false, cond, List, [], ◌∷◌, length, take, refl, ap, sym, subst, arith}
 use Rattle.std.specs.Prelude.{IfSome, Option, Some, None, Ok, nat_eq, slice_get, slice_set, option_to_list}
 use Rattle.std.specs.List.{AllByRecursion, filter, list_any}
 use Rattle.std.specs.List.Sorted.{IsStrictlySortedBy}
@@ -7,10 +7,9 @@ use Rattle.std.specs.declared.cmp.Ordering.{Ordering}
 use Rattle.std.specs.declared.cmp.Ordering.TheVariants.{Less, Equal, Greater}
 use Rattle.std.specs.Ordering.{is_eq, nat_cmp}
 use Rattle.std.specs.BTreeMap.{is_at}
-use Rattle.std.proofs.lemmas.Bool.{eq-eqb, eqb-true, false_from_ne_true, false≢true, true≢false}
+use Rattle.std.proofs.lemmas.Bool.{eq-eqb, eqb-true, false_from_ne_true, true≢false}
 use Rattle.std.proofs.lemmas.Cmp.{ranked}
-use Rattle.std.proofs.lemmas.List.{append_assoc, take_all, take_more}
-use Rattle.std.proofs.lemmas.List.Folds.{list_any-append}
+use Rattle.std.proofs.lemmas.List.{append_assoc}
 use Rattle.dg_world.specs.World.{WorldView, edited}
 use Rattle.dg_world.specs.declared.edit.Edit.{Edit}
 use Rattle.dg_world.specs.declared.test_id.TestId.{TestId}
@@ -23,29 +22,6 @@ use Rattle.dg_core.specs.Lineup.{ArePlaces, LeadsBack, LeadBack, IsCurrent, IsOp
 use Rattle.dg_core.specs.declared.lineup.Lineup.{Lineup}
 use Rattle.dg_core.specs.declared.openings.Openings.{Openings}
 use Rattle.dg_core.proofs.PlaceLemmas.{held-at-place, place-there, place-within}
-
--- no place more
-pub opens-none : (o : Openings) → OpensAt [] o o
-opens-none o = record { positions = refl; stays = λ at h. h; opened = λ place at h e. absurd (false≢true h) }
-
--- some places, and then others
-opens-then : (ps qs : List ℕ) (o n m : Openings) → OpensAt ps o n → OpensAt qs n m → OpensAt (ps ++ qs) o m
-opens-then ps qs o n m a b = record {
-  positions = b.positions ∙ a.positions;
-  stays = λ at h. b.stays at (a.stays at h);
-  opened = λ place at h e. step place at e (is_among ps place) refl (sym (list_any-append (nat_eq place) ps qs) ∙ h);
-}
-  where
-    step : (place at : ℕ) → slice_get o.positions place ≡ Some (Some at) → (x : Bool) → is_among ps place ≡ x → (x || is_among qs place) ≡ true → is_open m at ≡ true
-    step place at e true among h = b.stays at (a.opened place at among e)
-    step place at e false among h = b.opened place at h (ap (λ l. slice_get l place) a.positions ∙ e)
-
-pub opens-more : (ps : List ℕ) (i p : ℕ) (o n m : Openings) → i < length ps → p ≡ get_or ps i p → OpensAt (take i ps) o n → OpensAt (p ∷ []) n m → OpensAt (take (i + 1) ps) o m
-opens-more ps i p o n m l is a b =
-    subst (λ qs. OpensAt qs o m) (ap (λ u. take i ps ++ u ∷ []) is ∙ sym (take_more ps i p l)) (opens-then (take i ps) (p ∷ []) o n m a b)
-
-pub opens-all : (ps : List ℕ) (i : ℕ) (o n : Openings) → length ps ≤ i → OpensAt (take i ps) o n → OpensAt ps o n
-opens-all ps i o n l a = subst (λ qs. OpensAt qs o n) (take_all i ps l) a
 
 -- what stands at a place that was set, and at another
 set-here : {X : Type 0} (xs : List X) (i : ℕ) (x y : X) → slice_get xs i ≡ Some x → slice_get (slice_set xs i y) i ≡ Some y

@@ -1,7 +1,7 @@
 -- Matches, and the rounds of `expect`.
-use Rattle.std.proofs.Common.{◌≡◌, ◌≢◌, ℕ, suc, zero, ◌+◌, ◌-◌, ◌^◌, ◌≤◌, ◌⊎◌, inl, inr, Bool, true, false, List, [], ◌∷◌, ◌++◌, length, take, drop, refl, ap, sym, ◌∙◌, arith}
-use Rattle.std.proofs.lemmas.List.{drop-take, take-take, length-take-le}
-use Rattle.std.proofs.lemmas.List.Elements.{recursion_from_All, All-weaker}
+use Rattle.std.proofs.Common.{◌≡◌, ◌≢◌, ℕ, suc, zero, ◌+◌, ◌-◌, ◌^◌, ◌≤◌, ◌⊎◌, inl, inr, Bool, true, false, List, [], ◌∷◌, ◌++◌, take, drop, refl, ap, sym, ◌∙◌, arith}
+use Rattle.std.proofs.lemmas.List.{drop-take, take-take}
+use Rattle.std.proofs.lemmas.List.Elements.{recursion_from_All}
 use Rattle.std.specs.Prelude.{Option, Some, None, IfSome, is_some, slice_range, codes, decimal}
 use Rattle.std.specs.List.{All, AllByRecursion}
 use Rattle.dg_glob.specs.declared.glob.Span.{Span}
@@ -54,18 +54,6 @@ groups-within (suc r) n xs low e (g ∷ gs) s h =
     groups-within r (n + 1) xs low e gs (assigned (out_name (decimal n ++ codes ",string")) (group_text (take e xs) g) s) h.1
     ∙ ap (λ t. with_groups r (n + 1) xs gs (assigned (out_name (decimal n ++ codes ",string")) t s)) (text-within xs low e g h.0)
 
-wider : (low high more : ℕ) → high ≤ more → (g : Option Span) → IfSome g (LiesBetween low high) → IfSome g (LiesBetween 0 more)
-wider low high more l None h = tt
-wider low high more l (Some s) h = let e : s.end ≤ high = h.2 in (omega arith, h.1, omega arith)
-
--- the groups lie in what a match removes
-pub groups-lie : (xs : List ℕ) (h : Hit) → LiesIn xs h → All (λ g. IfSome g (LiesBetween 0 (length (take h.end xs)))) h.groups
-groups-lie xs h l =
-    let n : length (take h.end xs) ≡ h.end = length-take-le h.end xs l.within in
-    let same : h.end ≤ length (take h.end xs) = omega arith in
-    All-weaker (λ g. IfSome g (LiesBetween h.start h.end)) (λ g. IfSome g (LiesBetween 0 (length (take h.end xs))))
-    (wider h.start h.end (length (take h.end xs)) same) h.groups l.groups
-
 -- what is removed has all that is written of a match
 pub match-is : (n : ℕ) (xs : List ℕ) (h : Hit) (s : State) → LiesIn xs h
     → with_removed n (take h.end xs)
@@ -88,9 +76,6 @@ pub record Stays (old new : State) : Type 0 where
   pub known : new.known ≡ old.known
   pub steps : new.steps ≡ old.steps
   pub used : new.sessions.used ≡ old.sessions.used
-
-stays-itself : (s : State) → Stays s s
-stays-itself s = record { known = refl; steps = refl; used = refl }
 
 stays-assigned : (n v : List ℕ) (old new : State) → Stays old new → Stays old (assigned n v new)
 unfolding assigned

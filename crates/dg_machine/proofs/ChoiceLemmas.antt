@@ -1,5 +1,5 @@
 -- The clauses of `if`, and the tests of loops.
-use Rattle.std.proofs.Common.{◌≡◌, ◌≢◌, ℕ, suc, zero, ◌+◌, ◌-◌, ◌^◌, ◌<◌, ◌≤◌, ◌⊎◌, inl, inr, true, false, List, [], ◌∷◌, length, refl, arith}
+use Rattle.std.proofs.Common.{◌≡◌, ◌≢◌, ℕ, suc, zero, ◌-◌, ◌<◌, ◌≤◌, ◌⊎◌, inl, inr, true, false, List, [], ◌∷◌, length, refl, arith}
 use Rattle.std.specs.Prelude.{Option}
 use Rattle.dg_language.specs.declared.clause.Clause.{Clause}
 use Rattle.dg_language.specs.Play.{Ends}
@@ -7,9 +7,6 @@ use Rattle.dg_language.specs.State.{State, stepped}
 use Rattle.dg_language.specs.Evaluation.{Then, Nested, out_of_steps}
 use Rattle.dg_language.specs.Expressions.{calculate, condition, decided}
 use Rattle.dg_language.specs.Choosing.{body_if, choose, do_otherwise, repeat}
-use Rattle.dg_machine.specs.declared.frame.Control.TheVariants.{Go}
-use Rattle.dg_machine.specs.declared.frame.Frame.{Frame}
-use Rattle.dg_machine.specs.Meaning.{frame_weight, stack_weight, weight}
 use Rattle.dg_machine.proofs.MachineLemmas.{tick-step, tick-none}
 
 empty : (xs : List Clause) → length xs ≡ 0 → xs ≡ []
@@ -56,9 +53,3 @@ module _ (nested : Nested) (test : List ℕ) (next : Option (List ℕ)) (body : 
   repeat-next (suc r) n l =
       let e : suc r - 1 ≡ r = omega arith in
       rw e (tick-step s (λ t. condition nested test t (λ holds u. body_if holds nested body next (λ w. repeat nested r test next body w k) u k) k) l)
-
--- a step that is taken pays for a test
-pub weight-tested : (s : State) (f : Frame) (fs : List Frame) → s.steps < 100000 → frame_weight f ≤ 2 ^ 68
-    → weight Go (stepped s) (f ∷ fs) + 2 ^ 139 ≤ weight Go s fs + 5
-unfolding weight stack_weight stepped
-weight-tested s f fs h g = omega arith

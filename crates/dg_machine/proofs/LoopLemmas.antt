@@ -120,12 +120,6 @@ pub foreach-empty : (nested : Nested) (args : List (List ℕ)) (s : State) (k : 
 unfolding do_foreach
 foreach-empty nested args s k n v body e h = rw e (ap (λ r. with_names nested r v body s k) h)
 
--- a step that is taken pays for a frame
-pub weight-frame : (s : State) (f : Frame) (fs : List Frame) → s.steps < 100000 → frame_weight f ≤ 2 ^ 249
-    → weight Go (stepped s) (f ∷ fs) < weight Go s fs + 5
-unfolding weight stack_weight stepped
-weight-frame s f fs h g = omega arith
-
 -- and for a round of so many names
 pub weight-round : (s : State) (fs : List Frame) (n : ℕ) → s.steps < 100000 → n < 2 ^ 64 → weight Go (stepped s) fs + 9 + 4 * (n - 0) ≤ weight Go s fs + 5
 unfolding weight stepped

@@ -1,6 +1,6 @@
 -- `-re` patterns that are asked for one after another, and what `regexp` writes.
-use Rattle.std.proofs.Common.{◌≡◌, ◌≢◌, ◌≤◌, ◌+◌, ◌^◌, ℕ, List, [], ◌∷◌, ◌++◌, append_assoc, true, false, ap, refl, subst, sym, ◌∙◌}
-use Rattle.std.specs.Prelude.{Option, Some, None, Ok, Err, length, codes}
+use Rattle.std.proofs.Common.{◌≡◌, ◌≢◌, ◌≤◌, ◌+◌, ◌^◌, ℕ, List, [], ◌∷◌, ◌++◌, append_assoc, true, false, ap, refl, sym, ◌∙◌}
+use Rattle.std.specs.Prelude.{Some, None, Ok}
 use Rattle.dg_match.specs.Groups.{regex_match}
 use Rattle.dg_match.specs.declared.reading.Reading.TheVariants.{Read as IsRead, Syntax, TooLarge}
 use Rattle.dg_match.specs.declared.pattern.Pattern.TheVariants.{Glob as GlobOf, Exact as ExactOf, Regex as RegexOf}
@@ -10,22 +10,18 @@ use Rattle.dg_world.specs.declared.question.Answer.{Answer}
 use Rattle.dg_world.specs.declared.question.Answer.TheVariants as answer
 use Rattle.dg_world.specs.declared.question.Read.{Read}
 use Rattle.dg_language.specs.declared.ask.Ask.{Ask}
-use Rattle.dg_language.specs.declared.code.Code.TheVariants.{Done}
 use Rattle.dg_language.specs.declared.expect.Awaited.TheVariants.{Regex}
 use Rattle.dg_language.specs.declared.expect.Pair.{Pair}
 use Rattle.dg_language.specs.declared.search.Search.{Search}
 use Rattle.dg_language.specs.Play.{Play, Asks, plain, lookup}
-use Rattle.dg_language.specs.State.{State, learn, assigned}
-use Rattle.dg_language.specs.Evaluation.{Ending, Then, fail, within}
-use Rattle.dg_language.specs.Control.{give_each, behind_first, head_or_empty}
-use Rattle.dg_language.specs.Variables.{touch}
-use Rattle.dg_language.specs.ExpectWords.{and_more, pattern_in, patterns_in, regex_in, regexes_in}
+use Rattle.dg_language.specs.State.{State, learn}
+use Rattle.dg_language.specs.Evaluation.{Ending, Then, fail}
+use Rattle.dg_language.specs.ExpectWords.{regexes_in}
 use Rattle.dg_language.specs.Patterns.{is_read, if_read, with_pattern, with_patterns, cannot_compile}
 use Rattle.dg_language.specs.Matching.{regexp_words, match_text, write_found, do_regexp}
 use Rattle.dg_language.specs.Sessions.{on_words}
 use Rattle.dg_language.proofs.Asking.{ask-asks, ask-known, lookup-more}
 use Rattle.dg_machine.specs.declared.patterns.Known.TheVariants.{AllRead, OneUnread, Unasked}
-use Rattle.dg_machine.specs.Giving.{giving}
 use Rattle.dg_machine.specs.Lost.{HasReadPattern}
 use Rattle.dg_machine.specs.Patterns.{AreRead, Knows}
 use Rattle.dg_machine.specs.declared.frame.Pace.{Pace}
@@ -123,13 +119,6 @@ module _ (done others texts : List (List ℕ)) (text : List ℕ) (s : State) (e 
 abbrev pub Looked : List (List ℕ) → List (List ℕ) → List Read → Type 0
 Looked texts left known = (done : List (List ℕ)) × (texts ≡ done ++ left) × AreRead done known
 
-pub looked-none : (texts left : List (List ℕ)) (known : List Read) → left ≡ texts → Looked texts left known
-looked-none texts left known e = ([], sym e, tt)
-
-pub looked-all : (texts left : List (List ℕ)) (known : List Read) → left ≡ [] → Looked texts left known → AreRead texts known
-looked-all texts left known e h =
-    subst (λ ts. AreRead ts known) (sym (h.1 ∙ ap (λ l. h.0 ++ l) e)) (read-both h.0 [] known h.2 tt)
-
 pub looked-more : (texts left others : List (List ℕ)) (text : List ℕ) (known : List Read) → left ≡ text ∷ others → AreRead (text ∷ []) known
     → Looked texts left known → Looked texts others known
 looked-more texts left others text known e r h = (
@@ -145,44 +134,15 @@ some-read (t ∷ ts) known h n = (t, h.0)
 
 -- ---- the patterns of pairs
 
-pub patterns-next : (pairs others : List Pair) (p : Pair) → pairs ≡ p ∷ others → patterns_in pairs ≡ and_more (pattern_in p.awaited) (patterns_in others)
-unfolding patterns_in
-patterns-next pairs others p e = rw e refl
-
-regexes-some : (o : Option (List ℕ)) (text : List ℕ) (more : List (List ℕ)) → o ≡ Some text → and_more o more ≢ []
-regexes-some None text more e h = cc
-regexes-some (Some t) text more e h = cc
-
--- a `-re` pattern among the pairs
-pub regex-there : (pairs others : List Pair) (p : Pair) (text : List ℕ) → pairs ≡ p ∷ others → p.awaited ≡ Regex text → regexes_in pairs ≢ []
-unfolding regexes_in
-regex-there pairs others p text e h =
-    subst (λ ps. regexes_in ps ≢ []) (sym e) (regexes-some (regex_in p.awaited) text (regexes_in others) (ap regex_in h))
-
-regex-behind : (pairs others : List Pair) (p : Pair) → pairs ≡ p ∷ others → regexes_in others ≢ [] → regexes_in pairs ≢ []
-unfolding regexes_in
-regex-behind pairs others p e h = subst (λ ps. regexes_in ps ≢ []) (sym e) (more (regex_in p.awaited))
-  where
-    more : (o : Option (List ℕ)) → and_more o (regexes_in others) ≢ []
-    more None g = h g
-    more (Some t) g = cc
-
 -- pairs that are left hold a `-re` pattern only where all of them do
 abbrev pub Hold : List Pair → List Pair → Type 0
 Hold pairs left = regexes_in left ≢ [] → regexes_in pairs ≢ []
-
-pub hold-more : (pairs left others : List Pair) (p : Pair) → left ≡ p ∷ others → Hold pairs left → Hold pairs others
-hold-more pairs left others p e h n = h (regex-behind left others p e n)
 
 -- ---- regexp
 
 pub regexp-of : (args : List (List ℕ)) (m : Search) (s : State) (k : Then) → Ok m ≡ regexp_words args → do_regexp args s k ≡ match_text m s k
 unfolding do_regexp
 regexp-of args m s k e = ap (λ r. on_words r s k (λ x. match_text x s k)) (sym e)
-
-pub regexp-bad : (args : List (List ℕ)) (why : List ℕ) (s : State) (k : Then) → Err why ≡ regexp_words args → do_regexp args s k ≡ fail why s k
-unfolding do_regexp
-regexp-bad args why s k e = ap (λ r. on_words r s k (λ x. match_text x s k)) (sym e)
 
 -- the pattern of a search is the only one that it asks for
 pub as-patterns : (text : List ℕ) (s : State) (k : Then) (f : State → Play Ending) → with_pattern text s k f ≡ with_patterns (text ∷ []) s k f
@@ -214,29 +174,3 @@ regexp-runs args play old new p v h e l =
 -- of two built patterns that are the same
 pub same-regex : (a b : List ℕ) → RegexOf a ≡ RegexOf b → a ≡ b
 same-regex a b h = ap (λ p. elim p as (λ _. List ℕ) [ GlobOf x ↦ a | ExactOf x ↦ a | RegexOf x ↦ x ]) h
-
-module _ (names : List (List ℕ)) (n : List ℕ) (more : List (List ℕ)) (e : names ≡ n ∷ more) (values : List (List ℕ)) (s : State) (k : Then) where
-  -- what is written next
-  giving-next : giving names values s k
-      ≡ touch n s (λ t. within (length (head_or_empty values)) t (giving more (behind_first values) (assigned n (head_or_empty values) t) k))
-  unfolding give_each
-  giving-next = rw e refl
-
-  pub giving-over : (p : Play Ending) → ((f : State → Play Ending) → touch n s f ≡ p) → giving names values s k ≡ p
-  giving-over p h = giving-next ∙ h (λ t. within (length (head_or_empty values)) t (giving more (behind_first values) (assigned n (head_or_empty values) t) k))
-
-  pub giving-ready : (t : State) → ((f : State → Play Ending) → touch n s f ≡ f t)
-      → giving names values s k ≡ within (length (head_or_empty values)) t (giving more (behind_first values) (assigned n (head_or_empty values) t) k)
-  giving-ready t h = giving-next ∙ h (λ u. within (length (head_or_empty values)) u (giving more (behind_first values) (assigned n (head_or_empty values) u) k))
-
-pub giving-asks : (names : List (List ℕ)) (n : List ℕ) (more : List (List ℕ)) → names ≡ n ∷ more → (values : List (List ℕ)) (k : Then) (s : State) (q : Ask)
-    → ((f : State → Play Ending) → touch n s f ≡ Asks q (λ a. touch n (learn q.question a s) f))
-    → giving names values s k ≡ Asks q (λ a. giving (n ∷ more) values (learn q.question a s) k)
-giving-asks names n more e values k s q h =
-    giving-next names n more e values s k
-    ∙ h (λ t. within (length (head_or_empty values)) t (giving more (behind_first values) (assigned n (head_or_empty values) t) k))
-    ∙ ap (Asks q) (λ j a. sym (giving-next (n ∷ more) n more refl values (learn q.question a s) k) j)
-
-pub giving-done : (names values : List (List ℕ)) (s : State) (k : Then) → names ≡ [] → giving names values s k ≡ k Done (codes "1") s
-unfolding give_each
-giving-done names values s k e = rw e refl

@@ -1,6 +1,6 @@
 -- The commands on sessions, and what their actions weigh.
 use Rattle.std.proofs.Common.{◌≡◌, ℕ, suc, ◌+◌, ◌^◌, ◌<◌, ◌≤◌, Bool, true, false, List, ◌∷◌, length, refl, ap, sym, ◌∙◌, arith}
-use Rattle.std.specs.Prelude.{Option, Some, None, Ok, Err, nat_lt, nat_le, codes}
+use Rattle.std.specs.Prelude.{Option, None, Ok, Err, nat_lt, nat_le, codes}
 use Rattle.dg_transcript.specs.declared.entry.Entry.{Entry}
 use Rattle.dg_transcript.specs.declared.cursor.Action.{Action}
 use Rattle.dg_transcript.specs.declared.cursor.Action.TheVariants as action
@@ -9,7 +9,6 @@ use Rattle.dg_world.specs.declared.question.Answer.TheVariants as answer
 use Rattle.std.proofs.lemmas.Bool.{lt-ltb}
 use Rattle.dg_sessions.specs.Views.{SessionsView, id_of, most_sessions}
 use Rattle.dg_sessions.specs.Steps.{with_session}
-use Rattle.dg_language.specs.declared.ask.Ask.{Ask}
 use Rattle.dg_language.specs.declared.code.Code.TheVariants.{Done}
 use Rattle.dg_language.specs.Play.{Play}
 use Rattle.dg_language.specs.State.{State, assigned, with_begun, with_sessions}
@@ -31,7 +30,7 @@ use Rattle.dg_machine.specs.declared.frame.Closing.{Closing}
 use Rattle.dg_machine.specs.declared.frame.Frame.{Frame}
 use Rattle.dg_machine.specs.declared.frame.Frame.TheVariants as frame
 use Rattle.dg_machine.specs.declared.frame.Pace.{Pace}
-use Rattle.dg_machine.specs.declared.frame.Pace.TheVariants.{Moved, Stands, Over}
+use Rattle.dg_machine.specs.declared.frame.Pace.TheVariants.{Moved, Over}
 use Rattle.dg_machine.specs.declared.machine.Machine.{Machine}
 use Rattle.dg_machine.specs.Acting.{UsesOne, Acts, acting, naming, told_after, after_weight}
 use Rattle.dg_machine.specs.Meaning.{all_back, ends_with, go, rest, weight_of, weight, Comes, Goes, Readies, RunsAs}
@@ -176,16 +175,6 @@ module _ (words : List (List ℕ)) (s : State) (k : Then) where
 -- ---- what an action comes to
 
 module _ (a : Acting) (b : Action) (old mid new : Machine) (running : old.control ≡ Go) where
-  -- the next entry is not known
-  pub came-stands : (w : ℕ) (ask : Ask) → Performs a.session a.action b old mid (came.Stands ask)
-      → new ≡ record mid { stack = frame.Acting (record a { action = b }) ∷ mid.stack } → Comes (acting a old.state (all_back old.stack)) old.state.known w new (Stands ask)
-  unfolding rest go
-  came-stands w ask h e =
-      rw (e, h.1, h.2, running) (h.0 (told_after a.after a.session (all_back old.stack)) depart, refl, h.3)
-
-  pub came-over : (w : ℕ) (c : Closing) → Performs a.session a.action b old new (came.Over c) → Comes (acting a old.state (all_back old.stack)) old.state.known w new (Over c)
-  came-over w c h = (h.0 (told_after a.after a.session (all_back old.stack)) depart, h.1)
-
   -- an entry was passed over
   pub came-passed : Performs a.session a.action b old mid came.Passed → new ≡ record mid { stack = frame.Acting (record a { action = b }) ∷ mid.stack }
       → Comes (acting a old.state (all_back old.stack)) old.state.known (weight_of old + after_weight a.after) new Moved
@@ -243,14 +232,6 @@ module _ (n : ℕ) (old mid new : Machine) where
   -- what is done once `spawn_id` can be used
   abbrev named_then : Then → State → Play Ending
   named_then k t = k Done (codes "0") (assigned (codes "spawn_id") (id_of n) t)
-
-  pub names-stands : (w : ℕ) (ask : Ask) → Readies (codes "spawn_id") old mid (Some (Stands ask)) → old.control ≡ Go
-      → new ≡ record mid { stack = frame.Naming n ∷ mid.stack } → Comes (naming n old.state (all_back old.stack)) old.state.known w new (Stands ask)
-  unfolding rest go
-  names-stands w ask h running e = rw (e, h.1, running) (h.0 (named_then (all_back old.stack)), refl, h.2)
-
-  pub names-over : (w : ℕ) (c : Closing) → Readies (codes "spawn_id") old new (Some (Over c)) → Comes (naming n old.state (all_back old.stack)) old.state.known w new (Over c)
-  names-over w c h = (h.0 (named_then (all_back old.stack)), ap (λ (x : Machine). x.state.known) h.1)
 
   pub names-ready : (p : Pace) → Readies (codes "spawn_id") old mid None → Goes (named_then (all_back mid.stack) mid.state) mid.state.known (weight_of mid + 2) new p
       → Comes (naming n old.state (all_back old.stack)) old.state.known (weight_of old + 6) new p

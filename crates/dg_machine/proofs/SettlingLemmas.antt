@@ -249,9 +249,6 @@ asks-step s = (refl, refl, omega arith)
 pub asks-same : (s t : State) → t ≡ s → AsksNothing s t
 asks-same s t e = rw e (refl, refl, omega arith)
 
-pub asks-nothing-more : (r s t : State) → AsksNothing r s → AsksNothing s t → AsksNothing r t
-asks-nothing-more r s t h g = (g.0 ∙ h.0, g.1 ∙ h.1, omega (arith, h.2, g.2))
-
 -- steps that were taken weigh less
 pub weight-settled : (o : Control) (fs : List Frame) (s t : State) → AsksNothing s t → weight o t fs ≤ weight o s fs
 unfolding weight

@@ -1,16 +1,14 @@
 -- What was taken of each session, where one of them changes or one more comes.
-use Rattle.std.proofs.Common.{ℕ, zero, suc, ◌≡◌, ◌≢◌, ◌-◌, ◌<◌, List, [], ◌∷◌, ◌++◌, length, refl, sym, ap, ◌∙◌, subst, inr, arith, slice_set, slice_index_or, append_assoc}
+use Rattle.std.proofs.Common.{ℕ, zero, suc, ◌≡◌, ◌≢◌, ◌-◌, ◌<◌, List, [], ◌∷◌, ◌++◌, length, refl, sym, ap, ◌∙◌, subst, arith, slice_set, slice_index_or}
 use Rattle.std.specs.Prelude.{Option, Some, None, Result, Ok, Err, IfOk, IfErr, reverse}
-use Rattle.std.proofs.lemmas.List.{append-nil, reverse-append}
+use Rattle.std.proofs.lemmas.List.{append-nil}
 use Rattle.dg_transcript.specs.declared.code.ErrorCode.{ErrorCode}
 use Rattle.dg_transcript.specs.declared.cursor.Action.{Action}
-use Rattle.dg_transcript.specs.declared.cursor.Action.TheVariants as action
 use Rattle.dg_gate.specs.declared.fault.GateFault.{GateFault}
 use Rattle.dg_gate.specs.declared.fault.GateFault.TheVariants as fault
 use Rattle.dg_gate.specs.declared.reply.Reply.{Reply}
 use Rattle.dg_gate.specs.declared.reply.Reply.TheVariants as reply
 use Rattle.dg_pipes.specs.declared.account.Account.{Account}
-use Rattle.dg_pipes.specs.declared.item.Item.{Item}
 use Rattle.dg_pipes.specs.declared.session.Session.{Session}
 use Rattle.dg_pipes.specs.declared.slot.Slot.{Slot}
 use Rattle.dg_pipes.specs.Steps.{taken_of, taken, Joins, PipeStep, FailsBy, TellsOf, AccountsFrom, Accounts}
@@ -67,17 +65,6 @@ pub kept_at : (before : List Slot) (session place : ℕ) (call : Action) (told :
 kept_at before session place call told s t at room is same joins =
     joined_at before session place call told s t at room is (subst (λ o. Joins call told (taken_of s.output) (taken_of o)) (sym same) joins)
 
-pub failed_joins : (call : Action) (code : ErrorCode) (items : List Item) → Joins call (reply.Failed code) items items
-failed_joins (action.Spawn words) code items = refl
-failed_joins (action.Send bytes) code items = refl
-failed_joins (action.Read limit) code items = inr refl
-failed_joins action.Close code items = refl
-failed_joins action.Wait code items = refl
-
--- no session was called
-pub stayed : (before : List Slot) (session : ℕ) (call : Action) (code : ErrorCode) → PipeStep before session call (reply.Failed code) before
-stayed before session call code = (failed_joins call code (taken before (session - 1)), λ i other. refl)
-
 -- a session came behind the others
 pub pushed : (before middle after : List Slot) (session : ℕ) (call : Action) (told : Reply) (s : Slot) → after ≡ middle ++ s ∷ [] → middle ≡ before → session - 1 ≡ length before
     → taken_of s.output ≡ [] → Joins call told [] [] → PipeStep before session call told after
@@ -122,24 +109,3 @@ Told total left told = (done : List Slot) × (total ≡ left ++ done) × Account
 
 pub none_told : (total : List Slot) (told : List Account) → told ≡ [] → Told total total told
 none_told total told e = ([], sym (append-nil total), ap reverse e)
-
-shifted : (total left rest done : List Slot) (s : Slot) → total ≡ left ++ done → left ≡ rest ++ s ∷ [] → total ≡ rest ++ (s ∷ done)
-shifted total left rest done s p e = p ∙ ap (λ xs. xs ++ done) e ∙ append_assoc rest (s ∷ []) done
-
--- a session that is closed
-pub told_none : (total left rest : List Slot) (s : Slot) (told : List Account) → Told total left told → left ≡ rest ++ s ∷ [] → s.output ≡ None → Told total rest told
-told_none total left rest s told p e none =
-    (s ∷ p.0, shifted total left rest p.0 s p.1 e, subst (λ o. AccountsFrom s.session o (Accounts p.0) (reverse told)) (sym none) p.2)
-
--- a session and its account
-pub told_one : (total left rest : List Slot) (s : Slot) (told after : List Account) (a : Account) → Told total left told → left ≡ rest ++ s ∷ [] → a.session ≡ s.session → TellsOf s.output a
-    → after ≡ told ++ a ∷ [] → Told total rest after
-told_one total left rest s told after a p e number tells more =
-    let turned : reverse after ≡ a ∷ reverse told = ap reverse more ∙ reverse-append told (a ∷ []) in
-    (s ∷ p.0, shifted total left rest p.0 s p.1 e, subst (λ xs. AccountsFrom s.session s.output (Accounts p.0) xs) (sym turned) (front s.session s.output (Accounts p.0) (reverse told) a number tells p.2))
-
--- no session is left
-pub told_all : (total left : List Slot) (told after : List Account) → Told total left told → left ≡ [] → after ≡ reverse told → Accounts total after
-told_all total left told after p none turned =
-    let whole : p.0 ≡ total = sym (p.1 ∙ ap (λ xs. xs ++ p.0) none) in
-    subst (λ ss. Accounts ss after) whole (subst (λ xs. Accounts p.0 xs) (sym turned) p.2)

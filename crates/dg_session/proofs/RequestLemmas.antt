@@ -1,12 +1,11 @@
 -- What a search for a space says of a line's fields.
-use Rattle.std.proofs.Common.{◌≡◌, ℕ, ◌+◌, ◌<◌, ◌≤◌, Bool, true, false, List, [], ◌∷◌, ◌++◌, All, length, take, drop, get_or, ◌==◌, sym, ap, subst, ◌∙◌, arith, rules, get_or-take, length-take-le, take-append-drop, add-one, take_all, le_refl, refl, ◌-◌, length-drop, codes, if◌then◌else◌, Option, Some, None, MatchOption, Bor}
+use Rattle.std.proofs.Common.{◌≡◌, ℕ, ◌+◌, ◌<◌, ◌≤◌, Bool, true, false, List, [], ◌∷◌, ◌++◌, All, length, take, drop, get_or, ◌==◌, sym, ap, subst, ◌∙◌, arith, rules, get_or-take, length-take-le, take-append-drop, add-one, take_all, le_refl, refl, ◌-◌, length-drop, None}
 use Rattle.std.proofs.Math.Seq.{drop-cons}
 use Rattle.std.proofs.lemmas.List.Elements.{All-from_get_or}
 use Rattle.std.proofs.lemmas.List.Splits.{slice_split_at, slice_split_none, length-slice_split}
 use Rattle.memchr.specs.Find.{Nowhere, NoneBefore, Passes, is_byte}
-use Rattle.dg_session.specs.Request.{fields_of, asked_by, asked_in, request_of}
-use Rattle.dg_bytes.specs.Same.{same_bytes}
-use Rattle.dg_session.specs.declared.request.Request.TheVariants.{Select, Unknown}
+use Rattle.dg_session.specs.Request.{fields_of, asked_by}
+use Rattle.dg_session.specs.declared.request.Request.TheVariants.{Unknown}
 
 -- no space stands before a place
 no_space : (text : List ℕ) (n : ℕ) → n ≤ length text → Nowhere (Passes (is_byte 32) text) 0 n → All (λ b. (b == 32) ≡ false) (take n text)
@@ -55,17 +54,3 @@ pub asked_by-more : (line behind_one behind_two behind_three behind_four one two
     → fields_of behind_two ≡ three ∷ fields_of behind_three → fields_of behind_three ≡ four ∷ fields_of behind_four → asked_by (fields_of line) ≡ Unknown
 asked_by-more line behind_one behind_two behind_three behind_four one two three four first second third fourth =
     ap asked_by (first ∙ ap (λ t. one ∷ t) (second ∙ ap (λ t. two ∷ t) (third ∙ ap (λ t. three ∷ t) fourth))) ∙ asked_by-many one two three four behind_four
-
--- a line that begins with another word
-pub other_line : (line word : List ℕ) (rest : List (List ℕ)) → fields_of line ≡ word ∷ rest → same_bytes word (codes "select") ≡ false → asked_by (fields_of line) ≡ request_of line
-other_line line word rest e not = ap asked_by e ∙ ap (λ b. if b then Select rest else asked_by (word ∷ rest)) (sym not) ∙ sym (ap asked_in e)
-
--- a line that selects
-pub selecting_line : (line word : List ℕ) (rest : List (List ℕ)) → fields_of line ≡ word ∷ rest → same_bytes word (codes "select") ≡ true → Select rest ≡ request_of line
-selecting_line line word rest e is_so = ap (λ b. if b then Select rest else asked_by (word ∷ rest)) (sym is_so) ∙ sym (ap asked_in e)
-
--- a line that begins with another word, by where it is cut
-pub other_by_cut : (line word : List ℕ) (rest : Option (Bor (List ℕ))) → MatchOption rest (fields_of line ≡ word ∷ []) (λ r. fields_of line ≡ word ∷ fields_of r.now) → same_bytes word (codes "select") ≡ false
-    → asked_by (fields_of line) ≡ request_of line
-other_by_cut line word None cut not = other_line line word [] cut not
-other_by_cut line word (Some r) cut not = other_line line word (fields_of r.now) cut not

@@ -1,6 +1,6 @@
 -- What writes one after the other leave.
-use Rattle.std.proofs.Common.{◌≡◌, ℕ, ◌+◌, ◌-◌, ◌≤◌, List, ◌++◌, length, take, drop, Option, sym, ap, subst, ◌∙◌, arith, take-add, take_all, le_refl, take-append-drop, []}
-use Rattle.std.proofs.lemmas.List.{drop-take, append_assoc, append-nil}
+use Rattle.std.proofs.Common.{◌≡◌, ℕ, ◌+◌, ◌-◌, ◌≤◌, List, ◌++◌, length, take, drop, Option, sym, ap, subst, ◌∙◌, arith, take-add, take_all, le_refl, take-append-drop}
+use Rattle.std.proofs.lemmas.List.{drop-take, append_assoc}
 use Rattle.std.proofs.Math.Seq.{take-append_seam}
 use Rattle.std.proofs.KnownBytes.{Appends-trans, Appends-kept}
 use Rattle.std.specs.Io.KnownBytes.{Appends, Keeps}
@@ -36,8 +36,3 @@ pub front_second : (old mid new : Option (List ℕ)) (first line second report :
 front_second old mid new first line second report p e (k, q) f =
     front_of old new (first ++ take k second) (drop k second) (line ++ report) (Appends-trans _ _ _ _ _ p q)
     (append_assoc first (take k second) (drop k second) ∙ ap (λ t. first ++ t) (take-append-drop k second ∙ f) ∙ ap (λ t. t ++ report) e)
-
--- both parts, and then nothing
-pub front_whole : (old mid late new : Option (List ℕ)) (first line second report : List ℕ) → Appends old mid first → first ≡ line → Appends mid late second → second ≡ report → Keeps late new → AppendsFront old new (line ++ report)
-front_whole old mid late new first line second report p e q f kept =
-    front_second old mid new first line second report p e (front_of mid new second [] second (Appends-kept _ _ _ _ q kept) (append-nil second)) f
