@@ -24,16 +24,20 @@ def waits(text):
     return [(row[0], int(row[1])) for row in rows if row[0] in ("chunk", "silence", "end")]
 
 
+def run(suite, *words):
+    """The status of a run over the suite."""
+    return subprocess.run(
+        [PROGRAM, "--tool", "t", *words], cwd=suite.here, env=settings(), stdin=subprocess.DEVNULL, capture_output=True,
+        timeout=LONGEST, check=False,
+    ).returncode
+
+
 def main():
     with Suite({"t/a.exp": SCRIPT}) as suite:
-        words = [PROGRAM, "--tool", "t"]
-        begun = time.monotonic()
-        run = subprocess.run(
-            words, cwd=suite.here, env=settings(), stdin=subprocess.DEVNULL, capture_output=True, timeout=LONGEST, check=False
-        )
-        passed = 1000 * (time.monotonic() - begun)
         tries.begin("a line after half a second, and one after two")
-        tries.same("the status", 0, run.returncode)
+        begun = time.monotonic()
+        tries.same("the status", 0, run(suite))
+        passed = 1000 * (time.monotonic() - begun)
         told = waits(suite.read("transcripts/unix/t/a.exp.tr") or "")
         tries.same("what came", ["chunk", "silence", "chunk"], [kind for kind, _ in told])
         # the child may have begun before the script reads, and the machine may be busy
@@ -42,11 +46,7 @@ def main():
         tries.check("whole tens", all(wait % 10 == 0 for _, wait in told), told)
         tries.same("the limit of a second", [1000], [wait for kind, wait in told if kind == "silence"])
         report = suite.read("t.sum")
-        again = subprocess.run(
-            [*words, "--rejudge"], cwd=suite.here, env=settings(), stdin=subprocess.DEVNULL, capture_output=True, timeout=LONGEST,
-            check=False,
-        )
-        tries.same("the status of judging it again", 0, again.returncode)
+        tries.same("the status of judging it again", 0, run(suite, "--rejudge"))
         tries.same("the report of judging it again", report, suite.read("t.sum"))
     tries.end()
 
