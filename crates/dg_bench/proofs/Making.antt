@@ -4,12 +4,10 @@ use Rattle.std.specs.Prelude.{Option, None, Some, MatchOption, Result, Ok, Err, 
 use Rattle.std.proofs.lemmas.List.{append-nil}
 use Rattle.dg_bench.specs.declared.note.PlaceNote.{PlaceNote}
 use Rattle.dg_core.specs.Core.{CoreView, new_core}
-use Rattle.dg_world.specs.World.{look}
 use Rattle.dg_world.specs.declared.refusal.Refusal.{Refusal}
 use Rattle.dg_world.specs.declared.question.Question.{Question}
 use Rattle.dg_world.specs.declared.question.Answer.{Answer}
 use Rattle.dg_bench.specs.declared.call.Call.{Call}
-use Rattle.dg_bench.specs.declared.place.Place.{Place}
 use Rattle.dg_bench.specs.declared.refusal.BenchRefusal.{BenchRefusal}
 use Rattle.dg_bench.specs.declared.refusal.BenchRefusal.TheVariants.{Shorter, HistoryFull, Edit, Memory}
 use Rattle.dg_bench.specs.History.{IsLegal, Makes, Steps}

@@ -1,5 +1,5 @@
 //! Workers: threads that judge the tests of one bench together.
-ghost use Rattle.std.specs.Prelude.{◌≡◌, ◌<◌, ◌≤◌, IfOk, IfErr};
+ghost use Rattle.std.specs.Prelude.{◌<◌, ◌≤◌, IfOk, IfErr};
 ghost use Rattle.dg_bench.specs.Work.{IsReported, Stops};
 
 use crate::bench::Bench;

@@ -1,5 +1,5 @@
 //! Whether the canonical text of a list fits, told before it is built.
-ghost use Rattle.std.specs.Prelude.{◌≡◌, ◌+◌, ◌<◌, MatchOption, length, nat_le};
+ghost use Rattle.std.specs.Prelude.{◌≡◌, ◌+◌, ◌<◌, MatchOption, length};
 ghost use Rattle.dg_bytes.specs.Canonical.{element_text, escaped_text, further_text, text_of_list};
 
 use crate::canonical::{begins_with_hash, is_plain, is_special, may_be_braced};

@@ -1,7 +1,7 @@
 -- The width of a field.
 use Rattle.std.proofs.Common.{◌≡◌, ℕ, ◌+◌, ◌-◌, ◌*◌, ◌<◌, ◌≤◌, min, List, [], ◌∷◌, length, get_or, drop, sym, ap, ◌∙◌, inl, inr, arith}
 use Rattle.std.proofs.lemmas.Bool.{cases_lt}
-use Rattle.std.proofs.lemmas.List.{drop_more, drop_all}
+use Rattle.std.proofs.lemmas.List.{drop_more}
 use Rattle.dg_cmds.specs.Formats.{number_behind}
 
 grows : (n : ℕ) (ds : List ℕ) → n ≤ number_behind n ds
@@ -20,8 +20,3 @@ pub width-more : (n i cap whole : ℕ) (ds : List ℕ) → i < length ds → min
 width-more n i cap whole ds l h =
     capped (n * 10 + (get_or ds i 0 - 48)) cap (drop (i + 1) ds)
     ∙ (ap (λ (rest : List ℕ). min (number_behind n rest) cap) (sym (drop_more ds i 0 l)) ∙ h)
-
-pub width-end : (n i cap whole : ℕ) (ds : List ℕ) → length ds ≤ i → n ≤ cap → min (number_behind n (drop i ds)) cap ≡ whole → n ≡ whole
-width-end n i cap whole ds l small h =
-    let e : n ≡ min n cap = omega arith in
-    e ∙ (ap (λ (rest : List ℕ). min (number_behind n rest) cap) (sym (drop_all i ds l)) ∙ h)

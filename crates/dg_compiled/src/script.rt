@@ -1,5 +1,5 @@
 //! The commands of a text, read one after another, and texts whose commands are read once.
-ghost use Rattle.std.specs.Prelude.{◌≡◌, [], ◌≤◌, ◌<◌, ℕ, drop, length, map, IfOk, IfSome, MatchResult};
+ghost use Rattle.std.specs.Prelude.{◌≡◌, [], ◌≤◌, ◌<◌, ℕ, drop, length, IfOk, IfSome, MatchResult};
 ghost use Rattle.std.specs.Arc.{arc_value};
 ghost use Rattle.std.specs.Bool.{OnTrue};
 ghost use Rattle.dg_language.specs.Evaluation.{Then};

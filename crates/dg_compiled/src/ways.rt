@@ -1,12 +1,11 @@
 //! How commands run where they stand, where they may: what of that their words tell, once they are read.
-ghost use Rattle.std.specs.Prelude.{◌≡◌, ◌≤◌, [], ◌∷◌, List, codes, length, IfOk, IfSome};
+ghost use Rattle.std.specs.Prelude.{◌≡◌, ◌≤◌, [], ◌∷◌, codes, length, IfOk, IfSome};
 ghost use Rattle.std.specs.Arc.{arc_value};
 ghost use Rattle.dg_expr.specs.Reading.{tree_in};
 ghost use Rattle.dg_words.specs.declared.word.Word.{Word};
 ghost use Rattle.dg_scope.specs.Scopes.{value_limit};
 ghost use Rattle.dg_language.specs.Expressions.{code_in};
 ghost use Rattle.dg_language.specs.Language.{commands_at};
-ghost use Rattle.dg_language.specs.WordSteps.{substitutions};
 ghost use Rattle.dg_language.specs.declared.command.Command.{Command as TheCommand};
 ghost use Rattle.dg_language.specs.declared.substitution.Substitution.{Substitution as Step};
 ghost use Rattle.dg_compiled.specs.Ways.{HasWay, HasWord, IsCoded, IsExpr};

@@ -7,10 +7,6 @@ use Rattle.std.specs.Cmp.Lexicographic.{bytes_decides, pointwise}
 use Rattle.dg_contents.specs.Contents.{ContentsView, number_of, holders_of, HasOneMore, HasOneFewer, KeepsNumbers, KeepsHeldNumbers, IsNumbering}
 use Rattle.dg_contents.specs.declared.contents.Holding.{Holding}
 
--- different contents have different numbers
-pub same-number : (c : ContentsView) → IsNumbering c → (a b : List ℕ) (n : ℕ) → number_of c a ≡ Some n → number_of c b ≡ Some n → a ≡ b
-same-number c is a b n p q = is.single a b n p q
-
 -- a content with a holder has a number
 pub held-numbered : (c : ContentsView) (t : List ℕ) → 0 < holders_of c t → (n : ℕ) × (number_of c t ≡ Some n)
 held-numbered c t h = step (lookup (pointwise nat_eq t) c.held) h
@@ -18,10 +14,6 @@ held-numbered c t h = step (lookup (pointwise nat_eq t) c.held) h
     step : (o : Option Holding) → 0 < option_map_or (λ x. x.holders) o 0 → (n : ℕ) × (option_map (λ x. x.number) o ≡ Some n)
     step (Some x) p = (x.number, refl)
     step None p = absurd (omega arith)
-
--- and one with a number has a holder
-pub numbered-held : (c : ContentsView) → IsNumbering c → (t : List ℕ) (n : ℕ) → number_of c t ≡ Some n → 0 < holders_of c t
-numbered-held c is t n h = is.held t n h
 
 -- what holds where a call went well, where it did
 pub went_well : {A B : Type 0} (r : Result A B) (P : Type 0) → OnOk r P → is_err r ≡ false → P

@@ -1,5 +1,5 @@
 //! Jobs: evaluations that stop at each question and go on from there.
-ghost use Rattle.std.specs.Prelude.{◌≡◌, true, IfOk, MatchResult};
+ghost use Rattle.std.specs.Prelude.{◌≡◌, IfOk, MatchResult};
 ghost use Rattle.dg_eval.specs.Advance.{Advances, AdvancesAlong, Halts, HaltsAlong, HasArrived, HasFailed, Meets, Misses, Tells, Refuses, started, going};
 
 use crate::stage::Stage;

@@ -1,10 +1,9 @@
 -- Texts of decimal digits alone, and texts that no number begins.
-use Rattle.std.proofs.Common.{◌≡◌, ◌≢◌, ℕ, ◌+◌, ◌-◌, ◌*◌, ◌^◌, ◌≤◌, ◌<◌, ◌⊎◌, pos, neg_ℤ, List, [], ◌∷◌, ◌++◌, reverse, length, get_or, take, drop, true, false, Option, Some, None, refl, sym, ap, ◌∙◌, add-one, pow-suc, arith}
+use Rattle.std.proofs.Common.{◌≡◌, ◌≢◌, ℕ, ◌+◌, ◌-◌, ◌*◌, ◌^◌, ◌≤◌, ◌<◌, ◌⊎◌, pos, neg_ℤ, List, [], ◌∷◌, ◌++◌, reverse, length, get_or, take, drop, true, false, Some, None, refl, sym, ◌∙◌, arith}
 use Rattle.std.specs.Prelude.{nat_lt, nat_le, ◌==◌, if◌then◌else◌}
 use Rattle.std.specs.Char.{digit_value}
 use Rattle.std.proofs.lemmas.Bool.Decides.{nat_tests}
-use Rattle.std.proofs.lemmas.List.{at_drop_all, at_drop_more, take_rest, reverse-append, reverse-reverse}
-use Rattle.std.proofs.lemmas.Str.{digit_value_digit}
+use Rattle.std.proofs.lemmas.List.{at_drop_all, take_rest, reverse-append, reverse-reverse}
 use Rattle.std.proofs.Math.Nat.{pow-le-pow_right, zero-lt-suc}
 use Rattle.std.proofs.lemmas.Str.Parse.{digit_from_value}
 use Rattle.dg_expr.specs.Numbers.{BeginsNone, IsPlain}
@@ -131,21 +130,6 @@ pub ruleset no_numbers = (no_number_in_none, no_number)
 
 pub few_below : (value count : ℕ) → value < 10 ^ count → count ≤ 18 → value < 10 ^ 18
 few_below value count h few = let p : 10 ^ count ≤ 10 ^ 18 = pow-le-pow_right {n = 10} (zero-lt-suc 9) few in omega arith
-
-pub next_below : (value digit count : ℕ) → value < 10 ^ count → digit < 10 → value * 10 + digit < 10 ^ (count + 1)
-next_below value digit count h d = rw (add-one, pow-suc) (omega arith)
-
-next_digit : (value b : ℕ) (bs : List ℕ) → digit_value b < 10 → digits_behind 10 value (b ∷ bs) ≡ digits_behind 10 (value * 10 + (b - 48)) bs
-next_digit value b bs d =
-    let is : nat_lt (digit_value b) 10 ≡ true = grind (arith, nat_tests) in
-    let same : 10 * value + digit_value b ≡ value * 10 + (b - 48) = omega (arith, digit_value_digit b (digit_from_value b d)) in
-    rw (is, same) refl
-
-pub digit_read : (value i b : ℕ) (text : List ℕ) (o : Option ℕ) → digits_behind 10 value (drop i text) ≡ o → i < length text → b ≡ get_or text i 0
-    → digit_value b < 10 → digits_behind 10 (value * 10 + (b - 48)) (drop (i + 1) text) ≡ o
-digit_read value i b text o e within is d =
-    sym (next_digit value b (drop (i + 1) text) d) ∙ (ap (λ x. digits_behind 10 value (x ∷ drop (i + 1) text)) is
-    ∙ (sym (at_drop_more (digits_behind 10 value) text i 0 within) ∙ e))
 
 pub all_read : (value i : ℕ) (text : List ℕ) → digits_behind 10 value (drop i text) ≡ digits_behind 10 0 text → length text ≤ i → false ≡ (length text == 0)
     → digits_in 10 text ≡ Some value

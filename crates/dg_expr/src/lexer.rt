@@ -1,7 +1,6 @@
 //! The first lexeme of a text.
 ghost use Rattle.std.specs.Prelude.{◌≡◌, ◌≤◌, ◌+◌, ◌∷◌, [], length, IfNone, IfOk, IfSome, Some};
 ghost use Rattle.std.specs.List.{prefix_len, take_while};
-ghost use Rattle.dg_words.specs.Parts.{pieces_of};
 ghost use Rattle.dg_words.specs.Reading.{operand_at};
 ghost use Rattle.dg_expr.specs.Steps.{Finds, Lexes, LexesTo};
 ghost use Rattle.dg_expr.specs.Token.{is_letter, is_run_byte, is_text, joined_line, lexeme, lexeme_at, operand_lexeme, read_lexeme, sign_lexeme, text_operand, token_lexeme, truth_operand, word_token};

@@ -1,5 +1,5 @@
 //! Trees of expressions.
-ghost use Rattle.std.specs.Prelude.{◌≡◌, ◌≤◌, ◌+◌, max, IfOk, MatchResult};
+ghost use Rattle.std.specs.Prelude.{◌≡◌, ◌≤◌, ◌+◌, max};
 ghost use Rattle.dg_expr.specs.Shape.{tree_of};
 ghost use Rattle.dg_expr.specs.Steps.{Makes};
 ghost use Rattle.dg_expr.specs.Tree.{height, Operand, One, Two, Choice};

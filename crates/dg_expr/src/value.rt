@@ -1,11 +1,11 @@
 //! The values of operators.
-ghost use Rattle.std.specs.Prelude.{◌≡◌, ◌≢◌, ◌*ℤ◌, ◌+ℤ◌, ◌-ℤ◌, pos, neg_ℤ, ◌⊎◌, Bool, not, Some, None, Ok, Err, IfOk, MatchResult};
-ghost use Rattle.std.specs.Int.{w64, int_bit_and, int_bit_not, int_bit_or, int_bit_xor};
+ghost use Rattle.std.specs.Prelude.{◌≡◌, ◌≢◌, ◌*ℤ◌, ◌+ℤ◌, ◌-ℤ◌, pos, ◌⊎◌, Bool, not, Some, None, Ok, Err, IfOk, MatchResult};
+ghost use Rattle.std.specs.Int.{w64, int_bit_and, int_bit_or, int_bit_xor};
 ghost use Rattle.std.specs.List.{list_any};
 ghost use Rattle.dg_lists.specs.Elements.{elements_of};
 ghost use Rattle.dg_expr.specs.Answers.{Computes, HasValue, IsNotWhole};
 ghost use Rattle.dg_expr.specs.Number.{decimal_text, number_of};
-ghost use Rattle.dg_expr.specs.Operator.{and_then, denied, divided, found_in, number_value, of_whole, of_wholes, or_else, order_of, quotient, remainder, shifted_left, shifted_right, truly, truth_value, value_of, value_of_one};
+ghost use Rattle.dg_expr.specs.Operator.{and_then, divided, found_in, number_value, of_wholes, or_else, order_of, quotient, remainder, shifted_left, shifted_right, truth_value, value_of, value_of_one};
 ghost use Rattle.dg_bytes.specs.Same.{same_bytes};
 ghost use Rattle.dg_expr.specs.Truth.{truth_of};
 

@@ -1,6 +1,6 @@
 //! Whole numbers and truth, read from texts.
-ghost use Rattle.std.specs.Prelude.{◌≡◌, ◌≢◌, ◌^◌, ◌≤◌, ◌<◌, pos, neg_ℤ, false, IfSome, MatchOption, MatchResult, Some, None};
-ghost use Rattle.dg_expr.specs.Number.{behind_zero, digits_behind, digits_in, drop_spaces, is_space, magnitude_of, negative, number_of, positive, signed_of, trimmed};
+ghost use Rattle.std.specs.Prelude.{◌≡◌, ◌^◌, ◌≤◌, ◌<◌, false, IfSome, Some, None};
+ghost use Rattle.dg_expr.specs.Number.{behind_zero, digits_in, drop_spaces, is_space, magnitude_of, negative, number_of, positive, trimmed};
 ghost use Rattle.dg_expr.specs.Numbers.{BeginsNone, IsPlain, Reads};
 
 /// So many decimal digits write a number that 63 bits hold.

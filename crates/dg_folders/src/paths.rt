@@ -1,5 +1,5 @@
 //! Where the files of a run stand.
-ghost use Rattle.std.specs.Prelude.{◌≡◌, ◌++◌, IfOk, codes, string_bytes};
+ghost use Rattle.std.specs.Prelude.{◌≡◌, IfOk, string_bytes};
 ghost use Rattle.dg_folders.specs.Paths.{beside, in_folder, is_tool_folder, sum_in, transcript_in};
 
 use std::alloc::{AllocError, Global};

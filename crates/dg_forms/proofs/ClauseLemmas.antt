@@ -17,18 +17,6 @@ behind-clause read condition body None = refl
 behind-clause read condition body (Some c) =
     ap (λ x. Some (record c { tested = x })) (append_assoc read (record { condition = condition; body = body } ∷ []) c.tested)
 
--- behind a body: nothing, a last body, or `elseif`
-pub clauses-end : (ws : List (List ℕ)) → ws ≡ [] → clauses_at BehindBody ws ≡ Some (record { tested = []; otherwise = None })
-unfolding clauses_at
-clauses-end ws e = ap (clauses_at BehindBody) e
-
-pub clauses-last : (ws : List (List ℕ)) (w : List ℕ) (others : List (List ℕ)) → ws ≡ w ∷ others → pointwise nat_eq w (codes "elseif") ≡ false
-    → clauses_at BehindBody ws ≡ last_words w others
-unfolding clauses_at
-clauses-last ws w others e t =
-    ap (clauses_at BehindBody) e
-    ∙ ap (λ b. elim b as (λ _. Option Clauses) [ true ↦ clauses_at AtCondition others | false ↦ last_words w others ]) t
-
 pub clauses-more : (ws : List (List ℕ)) (w : List ℕ) (others : List (List ℕ)) → ws ≡ w ∷ others → pointwise nat_eq w (codes "elseif") ≡ true
     → clauses_at BehindBody ws ≡ clauses_at AtCondition others
 unfolding clauses_at

@@ -1,8 +1,6 @@
-pub mod ValueLemmas
 pub mod ProcedureLemmas
 pub mod Choices
 pub mod ClauseLemmas
-pub mod SwitchLemmas
 pub mod ExpressionLemmas
 pub mod PairLemmas
 pub mod SessionLemmas

@@ -1,14 +1,12 @@
 -- The flags of the commands on sessions, one after another.
-use Rattle.std.proofs.Common.{◌≡◌, ℕ, true, false, List, ◌∷◌, ap, sym, ◌∙◌}
-use Rattle.std.specs.Prelude.{Option, Some, None, codes, Result, Err}
+use Rattle.std.proofs.Common.{◌≡◌, ℕ, true, false, List, ◌∷◌, ap, ◌∙◌}
+use Rattle.std.specs.Prelude.{Option, Some, codes, Result, Err}
 use Rattle.dg_language.specs.declared.expect.Expectation.{Expectation}
-use Rattle.dg_language.specs.declared.expect.Pair.{Pair}
-use Rattle.dg_language.specs.declared.expect.PatternKind.{PatternKind}
 use Rattle.dg_language.specs.Evaluation.{wrong_count}
 use Rattle.dg_language.specs.Switching.{is_flag}
 use Rattle.dg_bytes.specs.Same.{same_bytes}
 use Rattle.dg_language.specs.SessionWords.{bad_flag, id_words, send_words, sent_text}
-use Rattle.dg_language.specs.ExpectWords.{awaited_as, awaited_by, kind_named, expect_words, pair, pairs_of, unless_flag, with_flags, with_pair}
+use Rattle.dg_language.specs.ExpectWords.{expect_words, pairs_of, with_flags}
 
 -- a word that is `-i`, and its value
 pub id-more : (name : List ℕ) (id : Option (List ℕ)) (words : List (List ℕ)) (w v : List ℕ) (behind others : List (List ℕ))
@@ -72,31 +70,3 @@ expect-id timeout id words w v behind others e f g h =
       | true ↦ expect_words timeout (Some v) others
       | false ↦ with_flags timeout id (pairs_of (w ∷ v ∷ others))
     ]) h
-
--- a pair with more words behind it, whose pattern has a kind, or none
-pub pairs-kind : (words : List (List ℕ)) (w v u : List ℕ) (behind rest others : List (List ℕ)) (k : PatternKind)
-    → words ≡ w ∷ behind → behind ≡ v ∷ rest → rest ≡ u ∷ others → kind_named w ≡ Some k
-    → pairs_of words ≡ with_pair (pair (awaited_as k v) (Some u)) (pairs_of others)
-unfolding pairs_of
-pairs-kind words w v u behind rest others k e f g h =
-    ap pairs_of e ∙ ap (λ x. pairs_of (w ∷ x)) f ∙ ap (λ x. pairs_of (w ∷ v ∷ x)) g
-    ∙ ap (λ o. elim o as (λ _. Result (List Pair) (List ℕ)) [
-      | Some j ↦ with_pair (pair (awaited_as j v) (Some u)) (pairs_of others)
-      | None ↦ unless_flag w (with_pair (pair (awaited_by w) (Some v)) (pairs_of (u ∷ others)))
-    ]) h
-
-pub pairs-plain : (words : List (List ℕ)) (w v u : List ℕ) (behind rest others : List (List ℕ))
-    → words ≡ w ∷ behind → behind ≡ v ∷ rest → rest ≡ u ∷ others → kind_named w ≡ None → is_flag w ≡ false
-    → pairs_of words ≡ with_pair (pair (awaited_by w) (Some v)) (pairs_of rest)
-unfolding pairs_of
-pairs-plain words w v u behind rest others e f g h p =
-    ap pairs_of e ∙ ap (λ x. pairs_of (w ∷ x)) f ∙ ap (λ x. pairs_of (w ∷ v ∷ x)) g
-    ∙ ap (λ o. elim o as (λ _. Result (List Pair) (List ℕ)) [
-      | Some j ↦ with_pair (pair (awaited_as j v) (Some u)) (pairs_of others)
-      | None ↦ unless_flag w (with_pair (pair (awaited_by w) (Some v)) (pairs_of (u ∷ others)))
-    ]) h
-    ∙ ap (λ b. elim b as (λ _. Result (List Pair) (List ℕ)) [
-      | true ↦ Err (bad_flag w)
-      | false ↦ with_pair (pair (awaited_by w) (Some v)) (pairs_of (u ∷ others))
-    ]) p
-    ∙ ap (λ x. with_pair (pair (awaited_by w) (Some v)) (pairs_of x)) (sym g)

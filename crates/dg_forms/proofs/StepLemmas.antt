@@ -1,6 +1,6 @@
 -- The steps of nested parts.
-use Rattle.std.proofs.Common.{◌≡◌, ℕ, ◌+◌, ◌<◌, ◌≤◌, List, [], ◌∷◌, ◌++◌, length, get_or, take, refl, ap, sym, ◌∙◌, append_assoc}
-use Rattle.std.proofs.lemmas.List.{append-nil, take_all, take_more}
+use Rattle.std.proofs.Common.{◌≡◌, ℕ, ◌+◌, ◌<◌, List, [], ◌∷◌, ◌++◌, length, get_or, take, refl, ap, sym, ◌∙◌, append_assoc}
+use Rattle.std.proofs.lemmas.List.{append-nil, take_more}
 use Rattle.std.proofs.lemmas.Grind.{flat_map-append}
 use Rattle.dg_words.specs.Parts.{pieces_of, pieces_of_part}
 use Rattle.dg_words.specs.Piece.{Piece}
@@ -34,11 +34,6 @@ added-more old now new ps i p l e x y = (
     y.1.1 ∙ ap (λ t. t ++ part_steps y.0) x.1.1 ∙ append_assoc old (part_steps x.0) (part_steps y.0) ∙ ap (λ t. old ++ t) (sym (then-steps x.0 y.0)),
   ),
 )
-
--- all parts
-pub added-all : (old new : List Substitution) (ps : List Part) (i : ℕ) (pieces : List Piece) → length ps ≤ i → pieces_of ps ≡ pieces → AddsSteps old new (pieces_of (take i ps))
-    → AddsSteps old new pieces
-added-all old new ps i pieces l e x = (x.0, (x.1.0 ∙ ap pieces_of (take_all i ps l) ∙ e, x.1.1))
 
 -- the steps of one part
 pub added-none : (steps : List Substitution) → AddsSteps steps steps []

@@ -1,5 +1,5 @@
 //! Boards, libraries and targets: what is told of them, the names of their files, and what answers say of them.
-ghost use Rattle.std.specs.Prelude.{◌≡◌, ◌++◌, ◌&&◌, IfOk};
+ghost use Rattle.std.specs.Prelude.{◌≡◌, ◌&&◌, IfOk};
 ghost use Rattle.std.specs.List.{list_any};
 ghost use Rattle.dg_cmds.specs.Places.{glob_matches};
 ghost use Rattle.dg_language.specs.Boards.{content_of, do_board_info, do_load_generic_config, do_set_board_info, do_target_info, do_unset_board_info, flag_call, is_pattern, library_file, no_library, told_of, triplet_of};

@@ -1,5 +1,5 @@
 //! The words of `expect`, and its pairs taken apart, by expect(1).
-ghost use Rattle.std.specs.Prelude.{◌≡◌, ◌++◌, ◌∷◌, ◌||◌, ◌==◌, ◌≤◌, length, IfOk, MatchResult, Err, None, Some, false, is_some, option_map};
+ghost use Rattle.std.specs.Prelude.{◌≡◌, ◌∷◌, ◌||◌, ◌==◌, ◌≤◌, length, IfOk, MatchResult, Err, None, Some, false, is_some, option_map};
 ghost use Rattle.std.specs.Option.{option_copied};
 ghost use Rattle.dg_expr.specs.Number.{number_of};
 ghost use Rattle.dg_language.specs.ExpectWords.{awaited_as, awaited_by, expect_words, is_for_end, is_for_timeout, kind_named, leads_a_list, listed, one_word, only_pair, pair, pairs_of, pattern_in, regex_in, regexes_in, two_words, with_pair};

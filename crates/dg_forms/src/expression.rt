@@ -1,12 +1,9 @@
 //! What an expression is computed by: its code, its operators' values, truth, and the message of each fault.
-ghost use Rattle.std.specs.Prelude.{◌≡◌, ◌++◌, ◌∷◌, [], IfOk, codes, map};
-ghost use Rattle.dg_expr.specs.Number.{decimal_text, number_of};
+ghost use Rattle.std.specs.Prelude.{◌≡◌, ◌++◌, [], IfOk};
 ghost use Rattle.dg_expr.specs.Operator.{value_of, value_of_one};
 ghost use Rattle.dg_expr.specs.Reading.{tree_in};
 ghost use Rattle.dg_expr.specs.Truth.{truth_of};
-ghost use Rattle.dg_language.specs.Evaluation.{quoted};
 ghost use Rattle.dg_language.specs.Expressions.{code_in, fault_message, in_decimal, on_side, or_fault, or_no_truth, behind_spaces};
-ghost use Rattle.dg_language.specs.WordSteps.{operand_steps};
 
 use crate::messages::with_quoted;
 use dg_bytes::{Bytes, Seq};

@@ -1,5 +1,5 @@
 //! The sum of two texts that are whole numbers.
-ghost use Rattle.std.specs.Prelude.{◌≡◌, Some, None, IfOk, MatchResult};
+ghost use Rattle.std.specs.Prelude.{◌≡◌, Some, None, IfOk};
 ghost use Rattle.std.specs.Option.{option_copied};
 ghost use Rattle.dg_language.specs.Variables.{addend, increased};
 

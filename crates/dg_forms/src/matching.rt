@@ -1,7 +1,6 @@
 //! The words of `regexp`, and the texts of what it has found, by regexp(n).
-ghost use Rattle.std.specs.Prelude.{◌≡◌, ◌++◌, ◌∷◌, [], IfOk, IfSome, OnOk, length};
-ghost use Rattle.std.specs.List.{All};
-ghost use Rattle.dg_match.specs.Hits.{LiesBetween, LiesIn, hit_at};
+ghost use Rattle.std.specs.Prelude.{◌≡◌, ◌++◌, ◌∷◌, [], IfOk, OnOk};
+ghost use Rattle.dg_match.specs.Hits.{LiesIn, hit_at};
 ghost use Rattle.dg_language.specs.Expecting.{group_text};
 ghost use Rattle.dg_language.specs.Matching.{parts_of, regexp_words, search_of};
 

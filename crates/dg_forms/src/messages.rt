@@ -1,5 +1,5 @@
 //! The messages of errors.
-ghost use Rattle.std.specs.Prelude.{◌≡◌, ◌++◌, ◌∷◌, [], codes, decimal, IfOk};
+ghost use Rattle.std.specs.Prelude.{◌≡◌, ◌++◌, codes, decimal, IfOk};
 ghost use Rattle.dg_language.specs.Evaluation.{quoted, wrong_count, outside_of_a_loop};
 ghost use Rattle.dg_language.specs.Variables.{cannot_read, cannot_unset, expected_integer};
 

@@ -1,9 +1,8 @@
 //! What `expect` writes of a match and of an end, by expect(1).
-ghost use Rattle.std.specs.Prelude.{◌≡◌, ◌++◌, ◌+◌, ◌≤◌, codes, decimal, length, IfOk, OnOk, IsSome, IsSomeAnd, IfSome};
+ghost use Rattle.std.specs.Prelude.{◌≡◌, ◌++◌, ◌+◌, ◌≤◌, codes, decimal, length, IfOk, OnOk, IfSome};
 ghost use Rattle.std.specs.List.{All};
-ghost use Rattle.dg_match.specs.Hits.{LiesBetween, LiesIn};
+ghost use Rattle.dg_match.specs.Hits.{LiesBetween};
 ghost use Rattle.dg_scope.specs.Scopes.{value_limit};
-ghost use Rattle.dg_sessions.specs.Views.{session_at};
 ghost use Rattle.dg_language.specs.State.{assigned};
 ghost use Rattle.dg_language.specs.Expecting.{group_text, out_name, with_groups};
 

@@ -1,5 +1,5 @@
 //! The pairs of `switch`, and the body that it takes.
-ghost use Rattle.std.specs.Prelude.{◌≡◌, ◌∷◌, IfOk, MatchOption, Some, None};
+ghost use Rattle.std.specs.Prelude.{◌≡◌, IfOk, MatchOption, Some, None};
 ghost use Rattle.dg_language.specs.Switching.{among, behind_kind, body_for, first_body, flag_in, is_flag, last_fault, matching_of, pairs_fault, switched, taken, takes};
 ghost use Rattle.dg_bytes.specs.Same.{same_bytes};
 

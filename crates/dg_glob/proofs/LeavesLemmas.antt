@@ -166,6 +166,3 @@ ahead_at_byte p q t rest x n o is plain first n_is rest_is =
       left = rest_is;
       nowhere = subst (IsSkipped p t) (sym n_is) at.1;
     }
-
-pub ahead_at_once : (p t : List ℕ) → IsAhead p t t
-ahead_at_once p t = record { skipped = 0; within = omega arith; left = refl; nowhere = λ k low. absurd (omega arith) }

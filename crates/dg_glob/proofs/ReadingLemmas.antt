@@ -143,9 +143,6 @@ abbrev pub IsWalk : List ℕ → List ℕ → List ℕ → List ℕ → Type 0
 IsWalk P T p t = (items : List Item) (rest : List ℕ) → Steps P items rest → begins_steadily rest ≡ false →
     (gs : List Item) × (Steps p gs rest × (stands items T ≡ stands gs t))
 
-pub walk_begins : (P T : List ℕ) → IsWalk P T P T
-walk_begins P T items rest steps ends = (items, (steps, refl))
-
 steady_left : (p q : List ℕ) (c : ℕ) → begins_steadily p ≡ true → after_item p c ≡ Some q → q ≡ behind_item p
 steady_left [] q c steady e = absurd (false≢true steady)
 steady_left (x ∷ p) q c steady e = steady_behind x c p q steady e

@@ -1,5 +1,5 @@
 -- A run of items, one item further, and where it stops.
-use Rattle.std.proofs.Common.{◌≡◌, ◌+◌, ℕ, Bool, true, IsTrue, ◌&&◌, List, [], ◌∷◌, Option, Some, None, IfNone, IfSome, drop, refl, sym, ap, ◌∙◌, subst, arith}
+use Rattle.std.proofs.Common.{◌≡◌, ◌+◌, ℕ, Bool, true, IsTrue, ◌&&◌, List, [], ◌∷◌, Option, Some, None, IfNone, IfSome, drop, sym, ap, ◌∙◌, subst, arith}
 use Rattle.std.proofs.lemmas.List.{drop-drop}
 use Rattle.dg_glob.specs.Items.{after_item, IsSteady}
 use Rattle.dg_glob.specs.Search.{Leaves, IsRun}
@@ -31,17 +31,6 @@ module _ (P T p t : List ℕ) (s : Bool) (run : IsRun P T s p t) (at : IsAtItem 
 
   pub run_wants : t ≡ [] → (r : List ℕ) → Leaves P T r → ⊥
   run_wants split r l = item_wants p r at (subst (λ x. Leaves p x r) split (run.forward r l))
-
--- the run that has not begun
-pub run_begins : (P T : List ℕ) → IsRun P T true P T
-run_begins P T = record {
-  passed = 0;
-  left = refl;
-  shorter = omega arith;
-  forward = λ r l. l;
-  back = λ r l. l;
-  steadily = λ h x r l. l;
-}
 
 -- a pattern that is not at its end nor at a star is at an item
 pub at_item : (p q : List ℕ) (x : ℕ) → p ≡ x ∷ q → (x ≡ 42 → ⊥) → IsAtItem p

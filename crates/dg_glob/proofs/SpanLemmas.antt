@@ -39,9 +39,6 @@ pub record IsScan (whole : Bool) (p t rest : List ℕ) : Type 0 where
   pub left : rest ≡ drop at t
   pub before : (s : ℕ) (r : List ℕ) → s < at → Ends whole p (drop s t) r → ⊥
 
-pub scan_begins : (whole : Bool) (p t : List ℕ) → IsScan whole p t t
-scan_begins whole p t = record { at = 0; within = omega arith; left = refl; before = λ s r low. absurd (omega arith) }
-
 -- a place at or behind another is a place of what is left there
 later_place : (t : List ℕ) (m s : ℕ) → m ≤ s → drop (s - m) (drop m t) ≡ drop s t
 later_place t m s h = let n : m + (s - m) ≡ s = omega arith in drop-drop (s - m) m t ∙ ap (λ k. drop k t) n

@@ -282,9 +282,6 @@ pub record AreRead (pattern : List ℕ) (parts : List Part) (rest : List ℕ) : 
   pub are : AreParts pattern parts done
   pub all : parts_within (length pattern) pattern ≡ done ++ parts_within (length rest) rest
 
-pub none_read : (pattern : List ℕ) → AreRead pattern [] pattern
-none_read pattern = record { done = []; are = record { count = refl; each = λ k d low. absurd (omega arith) }; all = refl }
-
 module _ (pattern : List ℕ) (parts : List Part) (rest : List ℕ) (part : Part) (items : List Item) (behind : List ℕ) (so_far : AreRead pattern parts rest)
     (steps : Steps rest items behind) (ends : begins_steadily behind ≡ false) (is : IsPart pattern part items) where
   joined : parts_within (length pattern) pattern ≡ (so_far.done ++ items ∷ []) ++ parts_behind behind

@@ -1,5 +1,5 @@
 //! Matches of a pattern with a whole text, and its spans in a text.
-ghost use Rattle.std.specs.Prelude.{◌≡◌, ◌≤◌, ◌<◌, ◌-◌, ◌↔◌, ◌∷◌, [], IfSome, IfNone, IsTrue, List, ℕ, length, drop, None, option_map};
+ghost use Rattle.std.specs.Prelude.{◌≡◌, ◌≤◌, ◌<◌, ◌-◌, ◌↔◌, IfSome, IfNone, IsTrue, List, ℕ, length, drop, None, option_map};
 ghost use Rattle.dg_glob.specs.Glob as word;
 ghost use Rattle.dg_glob.specs.Tests.{first_span, glob_matches};
 ghost use Rattle.dg_glob.specs.Search.{Ends, IsAnswer, IsFirstReach, IsLongest};

@@ -13,7 +13,7 @@ use Rattle.dg_world.specs.declared.question.Read.{Read}
 use Rattle.dg_world.specs.declared.test_id.TestId.{TestId}
 use Rattle.dg_records.specs.Truth.{RecordView}
 use Rattle.dg_index.specs.Topic.{is_on}
-use Rattle.dg_index.specs.Marks.{MarkedView, looked_again, looked, all_looked, shelf_of, reads_on, reads_of, counted, is_stale}
+use Rattle.dg_index.specs.Marks.{MarkedView, looked_again, looked, all_looked, shelf_of, reads_on, reads_of, is_stale}
 use Rattle.dg_index.specs.Index.{is_among, NoneElseReads}
 use Rattle.dg_index.specs.declared.topic.Topic.{Topic}
 
@@ -142,7 +142,3 @@ places-step places i once lt = record {
     or_false : (b : Bool) → (b || false) ≡ b
     or_false true = refl
     or_false false = refl
-
--- a count that grows twice
-pub counted-twice : (c a b : ℕ) → counted (counted c a) b ≡ counted c (a + b)
-counted-twice c a b = omega arith

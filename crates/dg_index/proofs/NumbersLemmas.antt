@@ -1,34 +1,28 @@
 -- What is known by numbers, and stays known.
 use Rattle.std.proofs.Common.{◌≡◌, ◌∙◌, ◌≤◌, ◌<◌, ◌+◌, ◌++◌, ℕ, zero, suc, Bool, true, false, cond, List, [], ◌∷◌, length, take, get_or, refl, ap, sym, subst, arith}
-use Rattle.std.specs.Prelude.{◌-◌, ◌&&◌, Option, Some, None, Ok, not, nat_eq, slice_get, option_and_then, if◌then◌else◌, is_some, nat_le}
+use Rattle.std.specs.Prelude.{◌-◌, ◌&&◌, Option, Some, None, Ok, not, slice_get, option_and_then, if◌then◌else◌, is_some, nat_le}
 use Rattle.std.specs.Cmp.Lexicographic.{bytes_decides, slice_cmp, texts_ties}
 use Rattle.std.specs.declared.cmp.Ordering.{Ordering}
 use Rattle.std.specs.declared.cmp.Ordering.TheVariants.{Less, Equal, Greater}
 use Rattle.std.specs.Ordering.{nat_cmp, is_eq, match_ordering}
 use Rattle.std.specs.BTreeMap.{insert_entry, is_at}
 use Rattle.std.specs.Map.{lookup, values_of}
-use Rattle.std.proofs.lemmas.Bool.{eq-eqb, eqb-true, false≢true}
-use Rattle.std.proofs.lemmas.List.{get_or-map, map_push, take_more}
+use Rattle.std.proofs.lemmas.List.{map_push, take_more}
 use Rattle.indexmap.specs.IndexMap.{insert_entry as insert_record}
 use Rattle.dg_contents.specs.Contents.{ContentsView, number_of, holders_of, one_at, IsNumbering, KeepsHeldNumbers, KeepsNumbers}
 use Rattle.dg_contents.proofs.ContentsLemmas.{held-numbered}
-use Rattle.dg_world.specs.Question.{same_answer}
-use Rattle.dg_bytes.specs.Same.{same_bytes}
 use Rattle.dg_world.specs.Test.{same_test}
 use Rattle.dg_world.specs.World.{WorldView, look, edited, with_file, content_of, answer_of}
 use Rattle.dg_world.specs.Name.{is_name}
 use Rattle.dg_world.specs.declared.edit.Edit.TheVariants.{PutFile}
-use Rattle.dg_world.specs.declared.question.Answer.{Answer}
 use Rattle.dg_world.specs.declared.question.Answer.TheVariants.{Content}
-use Rattle.dg_world.specs.declared.question.Answer.TheVariants as answer
 use Rattle.dg_world.specs.declared.question.Question.{Question}
 use Rattle.dg_world.specs.declared.question.Question.TheVariants.{File, Tool, Triplet, Variable, Entry, Pattern}
 use Rattle.dg_world.specs.declared.question.Read.{Read}
 use Rattle.dg_world.specs.declared.refusal.Refusal.TheVariants.{BadName, TooLong, TooMany}
 use Rattle.dg_world.specs.declared.test_id.TestId.{TestId}
-use Rattle.dg_records.specs.Truth.{is_given}
-use Rattle.dg_index.specs.Marks.{MarkedView, is_stale, looked, all_looked}
-use Rattle.dg_index.specs.Numbers.{content_given, content_read, given_once, given_at, given_by, given_in, number_in, numbers_in, AllHaveNumbers, AllNumbered, HasNumber, HoldsMore, IsNumbered, Tells, TellsOn}
+use Rattle.dg_index.specs.Marks.{MarkedView, looked, all_looked}
+use Rattle.dg_index.specs.Numbers.{content_read, given_once, given_at, given_by, given_in, number_in, numbers_in, AllHaveNumbers, AllNumbered, HasNumber, HoldsMore, IsNumbered, Tells, TellsOn}
 use Rattle.dg_index.specs.Topic.{is_on}
 use Rattle.dg_index.specs.declared.numbers.Now.{Now}
 use Rattle.dg_index.specs.declared.numbers.Now.TheVariants.{Numbered}
@@ -57,11 +51,6 @@ pub has-at : (c : ContentsView) (rs : List Read) (i : ℕ) (r : Read) → AllHav
 has-at c [] i r h lt is = absurd (omega (arith, lt))
 has-at c (x ∷ rs) zero r h lt is = subst (λ (y : Read). HasNumber c (content_read y)) (sym is) h.0
 has-at c (x ∷ rs) (suc i) r h lt is = has-at c rs i r h.1 (omega (arith, lt)) is
-
-pub number-at : (c : ContentsView) (rs : List Read) (ns : List (Option ℕ)) (i : ℕ) (r : Read) (n : Option ℕ) → ns ≡ numbers_in c rs → i < length rs → r ≡ get_or rs i r → n ≡ get_or ns i n
-    → n ≡ number_in c r
-number-at c rs ns i r n all lt is at =
-    at ∙ ap (λ l. get_or l i n) all ∙ get_or-map (number_in c) rs i r n lt ∙ ap (number_in c) (sym is)
 
 -- numbers that are kept
 option-stays : (c d : ContentsView) (o : Option (List ℕ)) → KeepsNumbers c d → HasNumber c o → option_and_then (number_of d) o ≡ option_and_then (number_of c) o
@@ -248,47 +237,3 @@ put-tells c w v name bytes now single is h q on =
       refl,
       single,
     )
-
--- whether numbers say that an answer is another
-abbrev pub stale_by : Answer → Option ℕ → Option ℕ → Bool
-stale_by (Content text) (Some given) (Some current) = not (nat_eq given current)
-stale_by _ _ _ = true
-
-single_number : (c : ContentsView) (text given : List ℕ) → IsNumbering c → HasNumber c (Some given)
-    → not (same_bytes text given) ≡ stale_by (Content given) (number_of c given) (number_of c text)
-single_number c text given single (n, is) = step (same_bytes text given) refl (number_of c text) refl
-  where
-    numbered : (o : Option ℕ) → stale_by (Content given) (Some n) o ≡ stale_by (Content given) (number_of c given) o
-    numbered o = ap (λ x. stale_by (Content given) x o) (sym is)
-
-    apart : (m : ℕ) (b : Bool) → nat_eq n m ≡ b → number_of c text ≡ Some m → same_bytes text given ≡ false → true ≡ not b
-    apart m true e other differs =
-        let one : n ≡ m = eqb-true n m e in
-        absurd (false≢true (sym differs ∙ (bytes_decides text given).1 (single.single text given m other (is ∙ ap Some one))))
-    apart m false e other differs = refl
-
-    step : (b : Bool) → same_bytes text given ≡ b → (o : Option ℕ) → number_of c text ≡ o → not b ≡ stale_by (Content given) (number_of c given) o
-    step true e o other =
-        let one : o ≡ Some n = sym other ∙ ap (number_of c) ((bytes_decides text given).0 e) ∙ is in
-        sym (ap not (eq-eqb n n refl)) ∙ ap (stale_by (Content given) (Some n)) (sym one) ∙ numbered o
-    step false e None other = numbered None
-    step false e (Some m) other = apart m (nat_eq n m) refl other e ∙ numbered (Some m)
-
-pub told-number : (c : ContentsView) (w : WorldView) (read : Read) (number current : Option ℕ) → Tells c w read.question (Numbered current) → number ≡ number_in c read
-    → HasNumber c (content_read read) → stale_by read.answer number current ≡ is_stale w read
-told-number c w read number current (name, text, about, looked, is, single) known has =
-    step read.answer (known ∙ ap (λ q. option_and_then (number_of c) (content_given q read.answer)) about) (subst (λ q. HasNumber c (content_given q read.answer)) about has)
-    ∙ sym (ap (λ o. not (is_given o read.answer)) looked)
-  where
-    step : (a : Answer) → number ≡ option_and_then (number_of c) (content_given (File name) a) → HasNumber c (content_given (File name) a)
-        → stale_by a number current ≡ not (same_answer (Content text) a)
-    step answer.Absent k h = refl
-    step (answer.Content given) k h =
-        (λ i. stale_by (Content given) (k i) (is i)) ∙ sym (single_number c text given single h)
-    step (answer.Tool t) k h = refl
-    step (answer.Triplet t) k h = refl
-    step answer.Unset k h = refl
-    step (answer.Value v) k h = refl
-    step answer.Ended k h = refl
-    step (answer.Entry e) k h = refl
-    step (answer.Reading r) k h = refl

@@ -1,5 +1,5 @@
 //! Records with their marks.
-ghost use Rattle.std.specs.Prelude.{◌≡◌, true, false, length, replicate, IfOk, IfErr};
+ghost use Rattle.std.specs.Prelude.{◌≡◌, false, length, replicate, IfOk, IfErr};
 ghost use Rattle.dg_index.specs.Marks.{is_clear, judged_of, looked_again, marks_in, reads_on};
 ghost use Rattle.dg_index.specs.Numbers.{numbers_in, AllHaveNumbers, TellsOn};
 ghost use Rattle.dg_records.specs.Truth.{IsTrueRecord};

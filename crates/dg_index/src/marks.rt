@@ -1,5 +1,5 @@
 //! Marks: one for each read of a record, and how many of them are raised.
-ghost use Rattle.std.specs.Prelude.{◌≡◌, ◌<◌, ◌++◌, false, length, replicate, slice_set, IfOk};
+ghost use Rattle.std.specs.Prelude.{◌≡◌, ◌<◌, false, length, replicate, slice_set, IfOk};
 ghost use Rattle.dg_index.specs.Marks.{is_clear};
 
 use std::alloc::{AllocError, Global};

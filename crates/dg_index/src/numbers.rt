@@ -1,5 +1,5 @@
 //! Numbers: each content that a kept record was given is held, and known by its number.
-ghost use Rattle.std.specs.Prelude.{◌≡◌, ◌≤◌, ◌+◌, ◌-◌, ℕ, List, Ok, IfOk, OnOk, OnErr};
+ghost use Rattle.std.specs.Prelude.{◌≡◌, ◌+◌, ◌-◌, ℕ, List, Ok, IfOk, OnOk, OnErr};
 ghost use Rattle.std.specs.Option.{option_copied};
 ghost use Rattle.dg_contents.specs.Contents.{holders_of, KeepsHeldNumbers, KeepsNumbers};
 ghost use Rattle.dg_index.specs.Marks.{is_stale, MarkedView};

@@ -1,5 +1,5 @@
 -- What an action on a session comes to, by its first entry.
-use Rattle.std.proofs.Common.{◌≡◌, ℕ, suc, ◌+◌, ◌-◌, ◌<◌, ◌≤◌, refl, ap, sym, ◌∙◌, codes, arith}
+use Rattle.std.proofs.Common.{◌≡◌, ℕ, suc, ◌+◌, ◌-◌, ◌<◌, refl, ap, sym, ◌∙◌, arith}
 use Rattle.std.specs.Prelude.{Option, Some, None}
 use Rattle.dg_transcript.specs.declared.entry.Entry.{Entry}
 use Rattle.dg_transcript.specs.declared.cursor.Act.{Act}
@@ -12,7 +12,7 @@ use Rattle.dg_world.specs.declared.question.Answer.{Answer}
 use Rattle.dg_language.specs.declared.ask.Ask.{Ask}
 use Rattle.dg_language.specs.Play.{Play, Asks, lookup}
 use Rattle.dg_language.specs.State.{State, learn, with_sessions}
-use Rattle.dg_language.specs.Evaluation.{Ending, cut}
+use Rattle.dg_language.specs.Evaluation.{Ending}
 use Rattle.dg_language.specs.Arguments.{on}
 use Rattle.dg_language.specs.Sessions.{Told, Late, depart, entry_for, hear_for, ask_for, entry_in, come_to, at_entry, performing, perform}
 
@@ -66,11 +66,3 @@ perform-first n a told late s room =
     let used : (at_entry n a e t).sessions.used ≡ s.sessions.used + 1 =
     ap (λ x. x.used) (at_entry-sessions n a e t) ∙ ap (λ ss. (all_acted n a e ss).used) same ∙ used-more n a e s.sessions v there uses in
     ap (λ u. performing (most_entries - u) n (step_of v a e).action told late (at_entry n a e t)) (sym used)))))
-
--- where no entry can be used up any more a limit is met
-pub perform-full : (n : ℕ) (a : Action) (told : Told) (late : Late) (s : State) → most_entries ≤ s.sessions.used
-    → perform n a told late s ≡ cut (codes "too many transcript entries") s
-unfolding perform performing
-perform-full n a told late s full =
-    let left : most_entries - s.sessions.used ≡ 0 = omega arith in
-    ap (λ m. performing m n a told late s) left

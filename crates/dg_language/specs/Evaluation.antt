@@ -1,5 +1,5 @@
 -- What every evaluation is made of: its ends, its questions, its steps and its limits.
-use Rattle.std.specs.Prelude.{ℕ, true, false, Option, Some, None, List, [], ◌∷◌, ◌++◌, length, nat_lt, codes, Result, Ok, Err}
+use Rattle.std.specs.Prelude.{ℕ, true, false, Option, Some, None, List, [], ◌++◌, length, nat_lt, codes, Result, Ok, Err}
 use Rattle.dg_lists.specs.Elements.{elements_of}
 use Rattle.dg_lists.specs.Faults.{fault_text}
 use Rattle.dg_lists.specs.declared.fault.WordFault.{WordFault}

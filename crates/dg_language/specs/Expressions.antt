@@ -1,7 +1,6 @@
 -- Expressions inside an evaluation: expr(n), and the conditions of if(n), while(n) and for(n).
-use Rattle.std.specs.Prelude.{ℕ, ℤ, Bool, Option, Some, None, List, [], ◌∷◌, ◌++◌, length, map, codes, Result, Ok, Err}
+use Rattle.std.specs.Prelude.{ℕ, ℤ, Bool, Option, Some, None, List, [], ◌∷◌, ◌++◌, length, codes, Result, Ok, Err}
 use Rattle.dg_lists.specs.Faults.{fault_text}
-use Rattle.dg_words.specs.Piece.{Piece}
 use Rattle.dg_expr.specs.declared.fault.Side.{Side}
 use Rattle.dg_expr.specs.declared.fault.Side.TheVariants.{Left, Right}
 use Rattle.dg_expr.specs.declared.fault.ExprFault.{ExprFault}

@@ -1,5 +1,5 @@
 -- What the text of a script means.
-use Rattle.std.specs.Prelude.{ℕ, suc, zero, ◌-◌, Bool, true, false, ◌&&◌, Option, Some, None, List, [], ◌∷◌, ◌++◌, length, nat_eq, codes, Result, Ok, Err}
+use Rattle.std.specs.Prelude.{ℕ, suc, zero, ◌-◌, Option, Some, None, List, [], ◌∷◌, ◌++◌, length, codes, Result, Ok, Err}
 use Rattle.std.specs.FinMap as names
 use Rattle.dg_lists.specs.Faults.{fault_text}
 use Rattle.dg_words.specs.Reading.{command_at}

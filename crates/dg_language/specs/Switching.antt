@@ -1,6 +1,5 @@
 -- switch(n) and eval(n). Of `switch` its flags, its pairs of a pattern and a body, and the body that it takes.
-use Rattle.std.specs.Prelude.{ℕ, Bool, true, false, ◌||◌, ◌==◌, Option, Some, None, List, [], ◌∷◌, ◌++◌, nat_eq, codes, Result, Ok, Err}
-use Rattle.std.specs.Cmp.Lexicographic.{pointwise}
+use Rattle.std.specs.Prelude.{ℕ, Bool, true, false, ◌||◌, ◌==◌, Option, Some, None, List, [], ◌∷◌, ◌++◌, codes, Result, Ok, Err}
 use Rattle.dg_cmds.specs.Answers.{Answer}
 use Rattle.dg_cmds.specs.Lists.{concat_of}
 use Rattle.dg_cmds.specs.Places.{glob_matches}

@@ -592,7 +592,7 @@ impl State {
 #[tactic(auto, unfolding(crate::specs::State::with_sessions, crate::specs::State::in_action, crate::specs::State::out_of_action))]
 impl State {
     ghost use Rattle.std.specs.Prelude.{IsSome, IsSomeAnd, IfSome, ◌<◌, ◌+◌, nat_lt, take};
-    ghost use Rattle.dg_sessions.specs.Views.{most_entries, most_kept, most_sessions, named, session_at};
+    ghost use Rattle.dg_sessions.specs.Views.{most_entries, most_kept, most_sessions, session_at};
     ghost use Rattle.dg_sessions.specs.Steps.{all_acted, changed, emptied, limited, step_of, taken, with_session};
     ghost use Rattle.dg_match.specs.Hits.{LiesIn, hit_of};
     ghost use Rattle.dg_language.specs.State.{with_sessions, in_action, out_of_action, stands_in_action};

@@ -1,5 +1,5 @@
 -- What a plan and a fault say of what is selected.
-use Rattle.std.proofs.Common.{◌≡◌, ℕ, Bool, false, List, [], ◌∷◌, if◌then◌else◌, Some, None, Result, ap, ap₂, ◌∙◌, sym, refl, true≢false, ◌<◌, ◌+◌, ◌++◌, length, map, take, get_or, Bor, ◌&&◌, subst, true}
+use Rattle.std.proofs.Common.{◌≡◌, ℕ, Bool, false, List, [], ◌∷◌, if◌then◌else◌, None, Result, ap, ap₂, ◌∙◌, sym, refl, true≢false, ◌<◌, ◌+◌, ◌++◌, length, map, take, get_or, Bor, ◌&&◌, subst, true}
 use Rattle.std.specs.List.{list_all}
 use Rattle.std.specs.Str.{is_utf8, IsUtf8}
 use Rattle.std.proofs.lemmas.Str.{is_utf8-from_IsUtf8, IsUtf8-from_is_utf8}
@@ -9,27 +9,16 @@ use Rattle.std.proofs.lemmas.List.Folds.{list_all-append, list_all_at}
 use Rattle.clap.specs.Kinds.{IsAmong, Kinds}
 use Rattle.clap.specs.Faults.{fault_of}
 use Rattle.clap.specs.declared.error.kind.ErrorKind.{ErrorKind}
-use Rattle.dg_world.specs.declared.selection.Selection.{Selection}
 use Rattle.dg_line.specs.Options.{line_app}
-use Rattle.dg_line.specs.Plan.{HasFault, HasPlan, is_memory, planned}
+use Rattle.dg_line.specs.Plan.{HasFault, is_memory, planned}
 use Rattle.dg_line.specs.Select.{selected_in, selection_by}
 use Rattle.dg_line.specs.declared.plan.Plan.{Plan}
 use Rattle.dg_line.specs.declared.fault.LineFault.{LineFault}
 use Rattle.dg_line.specs.declared.fault.LineFault.TheVariants as fault
 
--- words that are not all text
-pub selects_no_text : (words : List (List ℕ)) → list_all is_utf8 words ≡ false → None ≡ selection_by words
-unfolding selection_by
-selects_no_text words e = ap (λ b. if b then selected_in (fault_of line_app words) (planned words) else None) (sym e)
-
 text : (words : List (List ℕ)) → list_all is_utf8 words ≡ true → selected_in (fault_of line_app words) (planned words) ≡ selection_by words
 unfolding selection_by
 text words e = ap (λ b. if b then selected_in (fault_of line_app words) (planned words) else None) (sym e)
-
--- words with a plan
-pub selects_by_plan : (words : List (List ℕ)) (plan : Plan) (selection : Selection) → list_all is_utf8 words ≡ true → HasPlan words plan → selection ≡ plan.selection → Some selection ≡ selection_by words
-selects_by_plan words plan selection e (none, read) same =
-    ap (λ s. Some s) same ∙ sym (ap₂ selected_in none read) ∙ text words e
 
 refused : (kind : ErrorKind) (kinds : Kinds) (read : Result Plan LineFault) → IsAmong kind kinds → None ≡ selected_in kinds read
 refused kind [] read h = absurd h

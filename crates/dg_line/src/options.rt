@@ -1,5 +1,5 @@
 //! The options, as `clap` reads them.
-ghost use Rattle.std.specs.Prelude.{◌≡◌, IfOk, Some, codes, false, map};
+ghost use Rattle.std.specs.Prelude.{◌≡◌, IfOk, codes, false, map};
 ghost use Rattle.clap.specs.Words.{app_of, found_of, rows_of, rule_of, with_rule, fault_of, FailsBy};
 ghost use Rattle.dg_line.specs.Options.{asking_rule, bare_app, flag_rule, jobs_rule, line_app, line_rows, option_rule, with_choices, with_machines, with_modes, with_places, words_rule};
 ghost use Rattle.clap.specs.declared.builder.action.ArgAction.TheVariants.{Help, Version};

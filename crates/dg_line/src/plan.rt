@@ -1,5 +1,5 @@
 //! The plan of a line.
-ghost use Rattle.std.specs.Prelude.{◌≡◌, ◌≤◌, ◌⊎◌, Ok, Err, IfOk, IfErr, map, true, false, codes};
+ghost use Rattle.std.specs.Prelude.{◌≡◌, ◌⊎◌, Ok, Err, IfOk, IfErr, map, true, false};
 ghost use Rattle.clap.specs.Words.{found_of, kind_of, rows_of};
 ghost use Rattle.dg_line.specs.Plan.{HasFault, HasPlan, IsFaultOf, is_bare, mode_of, plan_by};
 

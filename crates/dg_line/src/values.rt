@@ -1,7 +1,7 @@
 //! The values of the options, and what is selected by them.
-ghost use Rattle.std.specs.Prelude.{◌≡◌, [], IfOk, IfErr, Err, ◌⊎◌, map, false, true, option_map, codes, unwrap_or, Some};
-ghost use Rattle.clap.specs.Words.{first_of, found_of, one_of, rows_of};
-ghost use Rattle.dg_line.specs.Values.{build_of, host_of, jobs_in, names_in, option_or, selected_by, selects_well, target_of, words_of};
+ghost use Rattle.std.specs.Prelude.{◌≡◌, IfOk, IfErr, Err, ◌⊎◌, map, false, true, codes, unwrap_or, Some};
+ghost use Rattle.clap.specs.Words.{first_of, found_of, rows_of};
+ghost use Rattle.dg_line.specs.Values.{jobs_in, names_in, option_or, selected_by, selects_well, words_of};
 ghost use Rattle.dg_line.specs.Plan.{has_flag};
 ghost use Rattle.dg_boards.specs.Triplet.{is_triplet};
 

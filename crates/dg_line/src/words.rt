@@ -1,7 +1,7 @@
 //! The words that are no options: scripts, and variables with their values.
-ghost use Rattle.std.specs.Prelude.{◌≡◌, IfOk, map, OnSome, MatchOption, Some, None, true, false, option_map};
-ghost use Rattle.std.specs.List.{filter, position};
-ghost use Rattle.dg_line.specs.Words.{bad_word_in, has_equals, is_bad_word, is_script_word, is_setting_word, name_in, scripts_in, setting_of, settings_in, value_in};
+ghost use Rattle.std.specs.Prelude.{◌≡◌, IfOk, map, MatchOption, Some, None, true, false};
+ghost use Rattle.std.specs.List.{position};
+ghost use Rattle.dg_line.specs.Words.{bad_word_in, has_equals, is_bad_word, is_script_word, is_setting_word, name_in, scripts_in, settings_in, value_in};
 
 use dg_bytes::{Bytes, Seq};
 use dg_world::{Setting, is_variable};

@@ -112,9 +112,6 @@ writes b =
 abbrev Newlines : ℕ → Class → Type 0
 Newlines b c = c ≡ class.Newline → b ≡ 10
 
-no_newline : (b : ℕ) (c : Class) → c ≢ class.Newline → Newlines b c
-no_newline b c n e = absurd (n e)
-
 named_line : (b : ℕ) (x : Bool) → Newlines b (cond x class.Name class.Plain)
 named_line b true = λ e. absurd cc
 named_line b false = λ e. absurd cc

@@ -1,7 +1,7 @@
 //! The laws of lists: what is spelled so is read, and what is read is spelled so.
 ghost use Rattle.std.specs.Prelude.{◌≡◌, ℕ, List, Ok, Err};
 ghost use Rattle.dg_lists.specs.declared.fault.WordFault.{WordFault};
-ghost use Rattle.dg_lists.specs.Elements.{elements_of, list_read, unread};
+ghost use Rattle.dg_lists.specs.Elements.{elements_of};
 ghost use Rattle.dg_lists.specs.Grammar.Continuing.{GoesOn, IsList, IsNoList, IsNot, StopsAt};
 ghost use Rattle.dg_lists.specs.Grammar.Saying.{Says};
 ghost use Rattle.dg_lists.specs.Grammar.Lists.{ListOf};

@@ -1,8 +1,8 @@
 //! Lists and their canonical text, by Tcl(n).
-ghost use Rattle.std.specs.Prelude.{◌≡◌, ◌++◌, ◌∷◌, [], ◌+◌, ◌==◌, ◌<◌, ◌≤◌, ◌^◌, ◌⊎◌, OnOk, OnErr, IfOk, IfErr, IfSome, MatchOption, MatchResult, length, drop, Ok, Err, ℕ, List, false};
+ghost use Rattle.std.specs.Prelude.{◌≡◌, ◌++◌, ◌+◌, ◌<◌, ◌≤◌, ◌^◌, ◌⊎◌, OnOk, OnErr, IfOk, IfErr, IfSome, MatchResult, length, Ok, Err, ℕ, List};
 ghost use Rattle.dg_lists.specs.Appending.{Appends, Refuses};
 ghost use Rattle.dg_lists.specs.Canonical.{text_of_list};
-ghost use Rattle.dg_lists.specs.Elements.{elements_of, list_bare, list_behind, list_braced, list_effect, list_ends, list_follow, list_gap, list_join, list_number_ends, list_numbered, list_pair, list_quoted, list_context, list_context_ends, list_step, list_stop, list_transition, unread, without_place, list_read};
+ghost use Rattle.dg_lists.specs.Elements.{elements_of, list_bare, list_behind, list_braced, list_effect, list_ends, list_follow, list_gap, list_join, list_number_ends, list_numbered, list_pair, list_quoted, list_context, list_context_ends, list_step, list_stop, list_transition, unread};
 ghost use Rattle.dg_lists.specs.Grammar.Lists.{ListOf};
 ghost use Rattle.dg_lists.specs.Grammar.Spelling.{IsListFault};
 ghost use Rattle.dg_lists.specs.ListRuns.{Passes};

@@ -1,6 +1,6 @@
 //! Whether the canonical text of a list fits, told before it is built.
 ghost use Rattle.std.specs.Prelude.{◌≡◌, ◌+◌, ◌<◌, MatchOption, length, nat_le};
-ghost use Rattle.dg_lists.specs.Canonical.{element_text, further_text, text_of_list};
+ghost use Rattle.dg_lists.specs.Canonical.{further_text, text_of_list};
 
 use dg_bytes::{Bytes, behind_element};
 

@@ -1,5 +1,5 @@
 //! What a byte is to the grammar, and what an escape writes, by Tcl(n).
-ghost use Rattle.std.specs.Prelude.{◌≡◌, ◌++◌, OnErr, OnOk, Option};
+ghost use Rattle.std.specs.Prelude.{◌≡◌, ◌++◌, OnErr, OnOk};
 ghost use Rattle.std.specs.Char.{encode_utf8};
 ghost use Rattle.dg_lists.specs.Classes.{class_of, is_name};
 ghost use Rattle.dg_lists.specs.Transitions.{base_of, begins_number, behind_effect, behind_number, counted, digits_of, does, escaped, goes, in_braces, is_space, letter_of, most_of, puts, whole, with_digit, written};

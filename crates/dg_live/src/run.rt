@@ -1,5 +1,5 @@
 //! The live run of a test.
-ghost use Rattle.std.specs.Prelude.{ℕ, ◌≡◌, ◌+◌, ◌-◌, ◌^◌, ◌<◌, ◌≤◌, true, false, Some, IfOk, IfErr};
+ghost use Rattle.std.specs.Prelude.{◌≡◌, ◌+◌, ◌-◌, ◌^◌, ◌<◌, ◌≤◌, true, false, Some, IfOk, IfErr};
 ghost use Rattle.dg_transcript.specs.declared.limits.TheConstants.{MAX_ENTRIES};
 ghost use Rattle.dg_transcript.specs.Limits.{IsTranscript};
 ghost use Rattle.dg_language.specs.declared.ask.Ask.{Ask as Asked};

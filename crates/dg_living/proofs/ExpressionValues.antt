@@ -13,11 +13,9 @@ use Rattle.dg_language.specs.declared.code.Code.TheVariants.{Done}
 use Rattle.dg_language.specs.Play.{Play}
 use Rattle.dg_language.specs.State.{State}
 use Rattle.dg_language.specs.Evaluation.{Ending, Then, Nested}
-use Rattle.dg_language.specs.Control.{head_or_empty}
 use Rattle.dg_language.specs.Expressions.{host, value_of_tree, calculate, judged, condition, in_decimal, behind_spaces, do_expr}
 use Rattle.dg_living.proofs.Steps.{Lives}
 use Rattle.dg_living.proofs.Steps.{LivesInside, completes, either_if, within-lives, fail-lives, if_done-lives}
-use Rattle.dg_living.proofs.ElementLengths.{AreShort}
 use Rattle.dg_language.specs.Words.{nested_in}
 use Rattle.dg_living.proofs.WordMaking.{joined-lives}
 

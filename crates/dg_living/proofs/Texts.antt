@@ -1,5 +1,5 @@
 -- Commands by their names, and texts.
-use Rattle.std.proofs.Common.{ℕ, suc, zero, List, [], ◌∷◌, arith}
+use Rattle.std.proofs.Common.{ℕ, suc, zero, List, [], ◌∷◌}
 use Rattle.std.specs.Prelude.{Option, Some, None, Result, Ok, Err}
 use Rattle.std.specs.FinMap as names
 use Rattle.dg_cmds.specs.Commands.{pure_of}

@@ -3,7 +3,7 @@ use Rattle.std.proofs.Common.{◌≡◌, ◌≢◌, ℕ, suc, zero, ◌+◌, ◌
 use Rattle.std.proofs.lemmas.List.{drop-take, take-take}
 use Rattle.std.proofs.lemmas.List.Elements.{recursion_from_All}
 use Rattle.std.specs.Prelude.{Option, Some, None, IfSome, is_some, slice_range, codes, decimal}
-use Rattle.std.specs.List.{All, AllByRecursion}
+use Rattle.std.specs.List.{AllByRecursion}
 use Rattle.dg_glob.specs.declared.glob.Span.{Span}
 use Rattle.dg_match.specs.Hits.{LiesBetween, LiesIn, hit_of}
 use Rattle.dg_match.specs.declared.hit.Hit.{Hit}

@@ -9,8 +9,6 @@ use Rattle.dg_world.specs.declared.question.Question.TheVariants.{Pattern}
 use Rattle.dg_world.specs.declared.question.Answer.{Answer}
 use Rattle.dg_world.specs.declared.question.Answer.TheVariants as answer
 use Rattle.dg_world.specs.declared.question.Read.{Read}
-use Rattle.dg_language.specs.declared.ask.Ask.{Ask}
-use Rattle.dg_language.specs.declared.expect.Awaited.TheVariants.{Regex}
 use Rattle.dg_language.specs.declared.expect.Pair.{Pair}
 use Rattle.dg_language.specs.declared.search.Search.{Search}
 use Rattle.dg_language.specs.Play.{Play, Asks, plain, lookup}

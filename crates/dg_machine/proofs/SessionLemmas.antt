@@ -13,7 +13,6 @@ use Rattle.dg_language.specs.declared.code.Code.TheVariants.{Done}
 use Rattle.dg_language.specs.Play.{Play}
 use Rattle.dg_language.specs.State.{State, assigned, with_begun, with_sessions}
 use Rattle.dg_language.specs.Evaluation.{Ending, Then, fail}
-use Rattle.dg_language.specs.Arguments.{on}
 use Rattle.dg_language.specs.Sessions.{on_session, start, spawned, perform, depart, entry_in, close_and_wait, do_close, do_send, do_wait, send_to}
 use Rattle.dg_language.specs.SessionWords.{id_words, send_words}
 use Rattle.dg_sessions.specs.Phases.{is_open, can_wait}
@@ -32,7 +31,7 @@ use Rattle.dg_machine.specs.declared.frame.Frame.TheVariants as frame
 use Rattle.dg_machine.specs.declared.frame.Pace.{Pace}
 use Rattle.dg_machine.specs.declared.frame.Pace.TheVariants.{Moved, Over}
 use Rattle.dg_machine.specs.declared.machine.Machine.{Machine}
-use Rattle.dg_machine.specs.Acting.{UsesOne, Acts, acting, naming, told_after, after_weight}
+use Rattle.dg_machine.specs.Acting.{UsesOne, acting, naming, told_after, after_weight}
 use Rattle.dg_machine.specs.Meaning.{all_back, ends_with, go, rest, weight_of, weight, Comes, Goes, Readies, RunsAs}
 use Rattle.dg_machine.specs.Performing.{Performs}
 use Rattle.dg_machine.proofs.AttemptLemmas.{weight-kept}
@@ -59,13 +58,6 @@ weight-uses s t c fs u =
     let one = u.one in
     let room = u.room in
     rw steps (omega (arith, one, room))
-
-pub weight-acts : (s t : State) (c : Control) (fs : List Frame) → Acts s t → weight c t fs ≤ weight c s fs
-unfolding weight
-weight-acts s t c fs u =
-    let steps = steps-sessions s t u.same in
-    let more = u.more in
-    rw steps (omega (arith, more))
 
 -- ---- the session of a command
 

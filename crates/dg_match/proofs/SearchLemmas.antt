@@ -1,5 +1,5 @@
 -- The least place at which a text stands, as a function.
-use Rattle.std.proofs.Common.{◌≡◌, ℕ, ◌+◌, false, List, [], length, None, Some, sym, ⊎_elim, arith}
+use Rattle.std.proofs.Common.{◌≡◌, ℕ, ◌+◌, false, List, length, None, Some, sym, ⊎_elim, arith}
 use Rattle.std.proofs.lemmas.Bool.{cases_Bool}
 use Rattle.memchr.specs.Find.{OccursAt, occurs_at}
 use Rattle.memchr.proofs.lemmas.MatchLemmas.{OccursAt-true, occurs_at-true}
@@ -19,10 +19,3 @@ least_is text bytes k least =
     let fits = least.place.fits in
     sym (least-some (occurs_at bytes text) (length bytes + 1) k (omega arith) (occurs_at-true bytes text k least.place)
     (λ j low. stands_not bytes text j (λ o. let past = least.least j o in omega arith)))
-
--- the empty text stands at the first place
-pub nothing_sought : (bytes : List ℕ) → Some 0 ≡ least_place [] bytes
-nothing_sought bytes = least_is [] bytes 0 (record {
-  place = record { fits = omega arith; reads = λ j low. absurd (omega arith) };
-  least = λ k o. omega arith;
-})

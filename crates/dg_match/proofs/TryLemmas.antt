@@ -1,6 +1,5 @@
 -- What tries of patterns have compared, and what is remembered of them.
 use Rattle.std.proofs.Common.{◌≡◌, ℕ, zero, suc, ◌+◌, ◌<◌, ◌≤◌, List, [], ◌∷◌, Result, Ok, Err, length, take, get_or, refl, sym, ap, ap₂, ◌∙◌, arith}
-use Rattle.std.proofs.lemmas.List.{take_all}
 use Rattle.std.specs.Prelude.{OnOk}
 use Rattle.dg_match.specs.Held.{Held}
 use Rattle.dg_match.specs.Searches.{compared_by, searched, sought}
@@ -60,10 +59,6 @@ pub tried_ok : {A E : Type 0} (r : Result A E) (i : ℕ) (p : Pattern) (h new : 
 unfolding once_tried
 tried_ok (Ok a) i p h new e = e
 tried_ok (Err f) i p h new e = e
-
--- all were tried
-pub tried_all : (i : ℕ) (patterns : List Pattern) (h new : Held) → length patterns ≤ i → new ≡ all_tried 0 (take i patterns) h → new ≡ all_tried 0 patterns h
-tried_all i patterns h new high e = e ∙ ap (λ (ps : List Pattern). all_tried 0 ps h) (take_all i patterns high)
 
 pub some_tried : (i : ℕ) (patterns : List Pattern) (h new : Held) → new ≡ all_tried 0 (take i patterns) h → AreTried patterns h new
 some_tried i patterns h new e = record { count = i; tried = e }

@@ -2,7 +2,6 @@
 //! have no match without a new matcher.
 ghost use Rattle.std.specs.Prelude.{◌≡◌, ◌↔◌, List, ℕ, IfSome, IsTrue, None};
 ghost use Rattle.regex_compile.specs.Implements.{Implements, HasPaths};
-ghost use Rattle.regex_dfa.specs.Search.{IsForwardFor, IsReverseFor};
 ghost use Rattle.regex_hir.specs.Meaning.{meaning};
 ghost use Rattle.regex_syntax.specs.Grammar.{Names};
 ghost use Rattle.regex_syntax.specs.Verdict.{Reads};

@@ -1,6 +1,5 @@
 //! The book of `-re` patterns.
-ghost use Rattle.std.specs.Prelude.{◌≡◌, ◌++◌, ◌∷◌, [], IfOk, OnErr, OnOk, IsNone, IfSome, Ok, Some};
-ghost use Rattle.std.specs.Option.{option_copied};
+ghost use Rattle.std.specs.Prelude.{◌≡◌, ◌++◌, ◌∷◌, [], IfOk, OnErr, IsNone, IfSome, Ok, Some};
 ghost use Rattle.dg_match.specs.Book.{Fits, AllFit, reading_of};
 
 use crate::built::Built;

@@ -1,5 +1,4 @@
 //! Why a pattern is not built.
-ghost use Rattle.std.specs.Prelude.{◌≡◌};
 
 use thiserror::Error;
 

@@ -1,7 +1,6 @@
 -- What was taken of each session, where one of them changes or one more comes.
 use Rattle.std.proofs.Common.{ℕ, zero, suc, ◌≡◌, ◌≢◌, ◌-◌, ◌<◌, List, [], ◌∷◌, ◌++◌, length, refl, sym, ap, ◌∙◌, subst, arith, slice_set, slice_index_or}
 use Rattle.std.specs.Prelude.{Option, Some, None, Result, Ok, Err, IfOk, IfErr, reverse}
-use Rattle.std.proofs.lemmas.List.{append-nil}
 use Rattle.dg_transcript.specs.declared.code.ErrorCode.{ErrorCode}
 use Rattle.dg_transcript.specs.declared.cursor.Action.{Action}
 use Rattle.dg_gate.specs.declared.fault.GateFault.{GateFault}
@@ -106,6 +105,3 @@ front n (Some t) Rest told a number tells so = (a, told, refl, number, tells, so
 -- of all sessions some are left, and the others' accounts are there, the last session's first
 abbrev pub Told : List Slot → List Slot → List Account → Type 0
 Told total left told = (done : List Slot) × (total ≡ left ++ done) × Accounts done (reverse told)
-
-pub none_told : (total : List Slot) (told : List Account) → told ≡ [] → Told total total told
-none_told total told e = ([], sym (append-nil total), ap reverse e)

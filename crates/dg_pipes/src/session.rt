@@ -2,7 +2,7 @@
 ghost use Rattle.std.specs.Prelude.{◌≡◌, ◌≤◌, ◌++◌, [], ◌∷◌, IfSome, IfNone, IfOk};
 ghost use mathlib.Core.List.{IsPrefix};
 ghost use Rattle.rtrb.specs.Ends.{SameRing};
-ghost use Rattle.rtrb.specs.Ring.{received, all_sent, IsFinishedOf, SameConsumer};
+ghost use Rattle.rtrb.specs.Ring.{received, all_sent, IsFinishedOf};
 ghost use Rattle.dg_pipes.specs.Items.{IsAllowed, has_ended};
 ghost use Rattle.dg_pipes.specs.Waits.{IsTold};
 

@@ -52,8 +52,9 @@ impl Rest {
 }
 
 /// The next item, as soon as it is there, within a limit in milliseconds, and how many of them
-/// passed. The sleep is in ticks of 5 ms, the last one shorter, each of which the reader thread cuts
-/// short: what passed is counted, a tick that lasted longer too, and not what might have.
+/// passed: whole steps of 10, or all of the limit. The sleep is in ticks of 5 ms, the last one
+/// shorter, each of which the reader thread cuts short: what passed is counted, a tick that lasted
+/// longer too, and not what might have. What is less than a step is counted with the next item.
 pub fn take(
     rt: &(impl Wait + Clock),
     ring: &mut Consumer<Item, Global, Rule>,

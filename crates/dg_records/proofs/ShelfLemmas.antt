@@ -18,9 +18,6 @@ Entries = List (TestId × RecordView)
 abbrev pub keyed : TestId × RecordView → Bool
 keyed e = same_test e.0 e.1.test
 
-tests_equal : (a b : TestId) → a.board ≡ b.board → a.script ≡ b.script → a ≡ b
-tests_equal a b e f = rw (e, f) refl
-
 pub same_test-true : (a b : TestId) → same_test a b ≡ true → a ≡ b
 same_test-true a b h =
     let p = and_parts _ _ h in

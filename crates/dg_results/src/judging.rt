@@ -1,8 +1,8 @@
 //! The result calls of a test, judged as they come.
-ghost use Rattle.std.specs.Prelude.{◌≡◌, [], ◌∷◌, ◌++◌, List, OnOk, OnErr, IfOk};
+ghost use Rattle.std.specs.Prelude.{◌≡◌, [], ◌++◌, List, OnOk, OnErr, IfOk};
 ghost use Rattle.dg_results.specs.declared.call.ResultCall.{ResultCall};
 ghost use Rattle.dg_results.specs.declared.call.ResultCall.TheVariants.{Pass, Fail, Unresolved, Untested, Unsupported, Perror, Warning, Note, SetupXfail, ClearXfail, SetupKfail, ClearKfail};
-ghost use Rattle.dg_results.specs.Lines.{line, lines_of, abort_lines, depart_lines};
+ghost use Rattle.dg_results.specs.Lines.{lines_of, abort_lines, depart_lines};
 ghost use Rattle.dg_results.specs.Standing.{after_calls, Adds};
 ghost use Rattle.dg_results.specs.Steps.{class_at, with_result, with_line, count_after};
 

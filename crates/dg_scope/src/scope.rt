@@ -4,7 +4,7 @@ ghost use Rattle.dg_scope.specs.declared.scope.Slot.TheVariants.{Held};
 ghost use Rattle.std.specs.Option.{option_copied};
 ghost use Rattle.std.specs.FinMap as map;
 ghost use Rattle.dg_scope.specs.Names.{base_of};
-ghost use Rattle.dg_scope.specs.Scopes.{Names, is_link, means_global_in, held};
+ghost use Rattle.dg_scope.specs.Scopes.{is_link, means_global_in, held};
 
 use crate::name::{base_of, is_closed, is_qualified};
 use crate::table::Table;

@@ -1,5 +1,5 @@
 -- What a search for a space says of a line's fields.
-use Rattle.std.proofs.Common.{◌≡◌, ℕ, ◌+◌, ◌<◌, ◌≤◌, Bool, true, false, List, [], ◌∷◌, ◌++◌, All, length, take, drop, get_or, ◌==◌, sym, ap, subst, ◌∙◌, arith, rules, get_or-take, length-take-le, take-append-drop, add-one, take_all, le_refl, refl, ◌-◌, length-drop, None}
+use Rattle.std.proofs.Common.{◌≡◌, ℕ, ◌+◌, ◌<◌, ◌≤◌, Bool, true, false, List, [], ◌∷◌, ◌++◌, All, length, take, drop, get_or, ◌==◌, sym, ap, subst, ◌∙◌, arith, rules, get_or-take, length-take-le, take-append-drop, add-one, take_all, le_refl, refl, ◌-◌, length-drop}
 use Rattle.std.proofs.Math.Seq.{drop-cons}
 use Rattle.std.proofs.lemmas.List.Elements.{All-from_get_or}
 use Rattle.std.proofs.lemmas.List.Splits.{slice_split_at, slice_split_none, length-slice_split}

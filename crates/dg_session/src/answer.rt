@@ -1,5 +1,5 @@
 //! What a line of a session is answered.
-ghost use Rattle.std.specs.Prelude.{◌≡◌, ◌++◌, codes, decimal, OnOk, OnErr, IfErr};
+ghost use Rattle.std.specs.Prelude.{◌≡◌, ◌++◌, decimal, OnOk, OnErr, IfErr};
 ghost use Rattle.std.specs.Io.KnownBytes.{Appends};
 ghost use Rattle.dg_session.specs.Answer.{first_line_of, report_in, text_of};
 ghost use Rattle.dg_session.specs.Session.{AppendsFront};

@@ -1,5 +1,5 @@
 //! Lines of a reader, each within a limit.
-ghost use Rattle.std.specs.Prelude.{◌≡◌, ◌≢◌, ◌++◌, ◌≤◌, ◌<◌, ◌+◌, ◌-◌, [], ℕ, List, All, Err, Some, length, take, true, vec_len, IfOk, IfErr, IfSome, OnOk, OnErr, OnSome};
+ghost use Rattle.std.specs.Prelude.{◌≡◌, ◌≢◌, ◌++◌, ◌≤◌, ◌<◌, ◌+◌, ◌-◌, [], ℕ, List, All, Err, Some, length, take, true, vec_len, IfOk, IfSome, OnOk, OnSome};
 ghost use Rattle.std.specs.Io.{StopsAt, IsEmptyOrEndsWith};
 ghost use Rattle.std.specs.Io.BufRead.{take_through, DropsThrough};
 ghost use Rattle.std.specs.Io.KnownBytes.{Consumes, IsAtEnd, Keeps};

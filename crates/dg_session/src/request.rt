@@ -1,5 +1,5 @@
 //! What a line of a session asks.
-ghost use Rattle.std.specs.Prelude.{◌≡◌, ◌∷◌, [], map, IfOk, IfSome, MatchOption, IsErrOf};
+ghost use Rattle.std.specs.Prelude.{◌≡◌, ◌∷◌, [], map, IfOk, MatchOption};
 ghost use Rattle.dg_session.specs.Request.{asked_by, fields_of, content_of, request_of};
 
 use dg_bytes::{Bytes, Seq};

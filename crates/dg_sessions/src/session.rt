@@ -1,5 +1,5 @@
 //! One session.
-ghost use Rattle.std.specs.Prelude.{◌≡◌, ◌≤◌, ◌+◌, ◌-◌, ◌∷◌, [], decimal, drop, take, length, IfOk, OnOk, OnErr, IfSome, Some, None};
+ghost use Rattle.std.specs.Prelude.{◌≡◌, ◌≤◌, ◌-◌, drop, take, length, IfOk, OnOk, OnErr, IfSome, Some, None};
 ghost use Rattle.dg_match.specs.Hits.{LiesIn, hit_of};
 ghost use Rattle.dg_sessions.specs.Views.{id_of, has_id, most_kept};
 ghost use Rattle.dg_sessions.specs.Steps.{acted, emptied, limited, opening, step_of, taken, with_chunk};

@@ -1,5 +1,5 @@
 //! The sessions of an evaluation.
-ghost use Rattle.std.specs.Prelude.{◌≡◌, ◌≤◌, ◌<◌, ◌+◌, ◌-◌, ◌==◌, [], nat_lt, position, drop, take, length, IfOk, OnOk, OnErr, IfSome, IsSome, IsSomeAnd, Some, None};
+ghost use Rattle.std.specs.Prelude.{◌≡◌, ◌≤◌, ◌<◌, ◌+◌, ◌-◌, nat_lt, position, drop, take, length, IfOk, OnOk, OnErr, IfSome, IsSome, IsSomeAnd, Some};
 ghost use Rattle.std.specs.Option.{option_copied};
 ghost use Rattle.dg_match.specs.Hits.{LiesIn, hit_of};
 ghost use Rattle.dg_sessions.specs.Views.{has_id, most_entries, most_kept, most_sessions, named, no_sessions, session_at};

@@ -1,4 +1,3 @@
 pub mod TextLemmas
 pub mod TallyLemmas
 pub mod LengthLemmas
-pub mod ReportLemmas

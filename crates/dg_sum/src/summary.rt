@@ -1,5 +1,5 @@
 //! The summary blocks of a report.
-ghost use Rattle.std.specs.Prelude.{◌≡◌, ◌++◌, OnOk, length};
+ghost use Rattle.std.specs.Prelude.{◌≡◌, ◌++◌, OnOk};
 ghost use Rattle.dg_sum.specs.Report.{tabs, count_text, plain_counts, known_counts, open_counts, counts_text, board_summary, summary};
 
 use crate::page::Page;

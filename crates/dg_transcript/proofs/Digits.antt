@@ -20,9 +20,3 @@ digit_step ds i value new digits lt so_far is =
     let value_is = digit_value_digit c (low, high) in
     let more = digits_value_more 10 ds i lt in
     omega (arith, value_is, more, low, high, is, so_far)
-
-pub digit_bounds : (ds : List ℕ) (i : ℕ) → list_all is_ascii_digit ds ≡ true → i < length ds → (48 ≤ get_or ds i 0) × (get_or ds i 0 ≤ 57)
-digit_bounds ds i digits lt =
-    let c = get_or ds i 0 in
-    let parts = and_parts (nat_le 48 c) (nat_le c 57) (AllPass-from_list_all is_ascii_digit ds digits i 0 lt) in
-    (leb-true 48 c parts.0, leb-true c 57 parts.1)

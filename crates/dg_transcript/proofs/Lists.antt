@@ -1,7 +1,7 @@
 -- Lists that grow at their end.
-use Rattle.std.proofs.Common.{ℕ, zero, suc, ◌+◌, ◌<◌, ◌≤◌, List, [], ◌∷◌, ◌++◌, length, take, get_or, sym, subst, arith}
+use Rattle.std.proofs.Common.{ℕ, zero, suc, ◌+◌, ◌<◌, List, [], ◌∷◌, ◌++◌, length, take, get_or, sym, subst, arith}
 use Rattle.std.specs.List.{AllByRecursion}
-use Rattle.std.proofs.lemmas.List.{take_more, take_all}
+use Rattle.std.proofs.lemmas.List.{take_more}
 
 -- one more element of which P holds
 pub All-push : {X : Type 0} (P : X → Type 0) (xs : List X) (x : X) → AllByRecursion P xs → P x → AllByRecursion P (xs ++ x ∷ [])
@@ -21,7 +21,3 @@ pub All-at : {X : Type 0} (P : X → Type 0) (xs : List X) (i : ℕ) (d : X) →
 All-at P [] i d lt all = absurd (omega arith)
 All-at P (x ∷ xs) zero d lt all = all.0
 All-at P (x ∷ xs) (suc i) d lt all = All-at P xs i d (omega arith) all.1
-
--- the whole list, at the end of a loop
-pub All-whole : {X : Type 0} (P : X → Type 0) (xs : List X) (i : ℕ) → length xs ≤ i → AllByRecursion P (take i xs) → AllByRecursion P xs
-All-whole P xs i le all = subst (AllByRecursion P) (take_all i xs le) all

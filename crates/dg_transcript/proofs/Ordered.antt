@@ -101,9 +101,6 @@ opens_within place.Over h = absurd cc
 opens_not_opened : (p : Place) → opens_session p ≡ true → p ≡ place.Opened → ⊥
 opens_not_opened p h e = let no_way : opens_session place.Opened ≡ true = subst (λ (q : Place). opens_session q ≡ true) e h in cc
 
-role_not_opened : (r : Role) → after_role r ≡ place.Opened → ⊥
-role_not_opened r e = opens_not_opened (after_role r) (role_opens r) e
-
 over_within : (p : Place) → is_over p ≡ true → is_within p ≡ true → ⊥
 over_within place.Top a b = cc
 over_within place.Over a b = cc

@@ -46,21 +46,6 @@ pub word_err : (text : List ℕ) (c : Cause) → word_of text ≡ Err c → c �
 unfolding word_of
 word_err text c e = hex_err text c (choice_err _ [] (hex_of text) c e)
 
-rest_err : (r : Result (List (List ℕ)) Cause) (w : List ℕ) (c : Cause) → (r >>= λ words. Ok (w ∷ words)) ≡ Err c → r ≡ Err c
-rest_err (Ok ws) w c e = absurd cc
-rest_err (Err d) w c e = cc
-
-step_err : (r : Result (List ℕ) Cause) (fs : List (List ℕ)) (c : Cause) → ((d : Cause) → r ≡ Err d → d ≡ cause.Field) → ((d : Cause) → each_word fs ≡ Err d → d ≡ cause.Field)
-    → (r >>= λ word. each_word fs >>= λ words. Ok (word ∷ words)) ≡ Err c → c ≡ cause.Field
-step_err (Err d) fs c first more e = let same : d ≡ c = cc in sym same ∙ first d refl
-step_err (Ok w) fs c first more e = more c (rest_err (each_word fs) w c e)
-
--- the errors of words are bad fields
-each_err : (fs : List (List ℕ)) (c : Cause) → each_word fs ≡ Err c → c ≡ cause.Field
-unfolding each_word
-each_err [] c e = absurd cc
-each_err (f ∷ fs) c e = step_err (word_of f) fs c (word_err f) (each_err fs) e
-
 -- a word that can't be read, in a loop that has read those before it
 fails_at : (front : List (List ℕ)) (f : List ℕ) (fs : List (List ℕ)) (total : Result (List (List ℕ)) Cause) (c : Cause) → word_of f ≡ Err c
     → with_front front (each_word (f ∷ fs)) ≡ total → total ≡ Err c

@@ -1,5 +1,5 @@
 //! A text read as a transcript.
-ghost use Rattle.std.specs.Prelude.{◌≡◌, ◌⊎◌, if◌then◌else◌, ◌<◌, ◌≤◌, ◌+◌, ◌++◌, ◌∷◌, [], suc, length, OnOk, OnErr, IfOk, IfErr, MatchResult, List, true, vec_len};
+ghost use Rattle.std.specs.Prelude.{◌≡◌, if◌then◌else◌, ◌<◌, ◌≤◌, ◌+◌, ◌++◌, ◌∷◌, [], suc, length, OnOk, OnErr, IfOk, IfErr, MatchResult, List, true, vec_len};
 ghost use Rattle.bstr.specs.Text.{lines_of};
 ghost use Rattle.dg_transcript.specs.Fields.{Parses, Fails};
 ghost use Rattle.dg_transcript.specs.Kept.{next_of};
@@ -8,7 +8,7 @@ ghost use Rattle.dg_transcript.specs.Text.{text_of};
 ghost use Rattle.dg_transcript.specs.Sessions.{sessions_in};
 ghost use Rattle.dg_transcript.specs.declared.entry.Entry.{Entry};
 ghost use Rattle.dg_transcript.specs.declared.limits.TheConstants.{MAX_ENTRIES, MAX_SESSIONS};
-ghost use Rattle.dg_transcript.specs.Lines.{may_come, is_past, placed, whole_line_at, line_at, line_behind, body, ends_line, place_of, is_session, is_said, is_over, Say, Takes, IsFault};
+ghost use Rattle.dg_transcript.specs.Lines.{may_come, is_past, placed, whole_line_at, line_at, line_behind, place_of, is_over, Say, Takes, IsFault};
 
 use crate::cause::Cause;
 use crate::entry::Entry;

@@ -1,35 +1,27 @@
 -- The reading of a command gets on, and its faults are the text's own.
-use Rattle.std.specs.Prelude.{◌≡◌, ◌≢◌, ℕ, ◌+◌, ◌≤◌, ◌<◌, List, [], ◌∷◌, length, drop, refl, Result, Ok, Err, Bool, true, false, Option, None, Some, ◌⊎◌, MatchResult, IfOk, nat_lt}
+use Rattle.std.specs.Prelude.{◌≡◌, ◌≢◌, ℕ, ◌+◌, ◌≤◌, ◌<◌, List, [], ◌∷◌, length, drop, refl, Result, Ok, Err, Bool, true, false, ◌⊎◌, MatchResult, IfOk, nat_lt}
 use Rattle.std.proofs.Common.{arith, subst, sym, ap, inl, inr, length-drop}
 use Rattle.dg_lists.specs.declared.fault.WordFault.{WordFault}
-use Rattle.dg_lists.specs.declared.fault.WordFault.TheVariants.{MissingBracket, MissingParen, Memory}
+use Rattle.dg_lists.specs.declared.fault.WordFault.TheVariants.{Memory}
 use Rattle.dg_lists.specs.declared.kinds.Class.{Class}
 use Rattle.dg_lists.specs.declared.kinds.Class.TheVariants as class
 use Rattle.dg_words.specs.declared.kinds.Level.{Level}
 use Rattle.dg_words.specs.declared.kinds.Level.TheVariants as level
 use Rattle.dg_lists.specs.declared.kinds.Context.{Context}
-use Rattle.dg_lists.specs.declared.kinds.Context.TheVariants.{Bare, Quoted, Index, Alone}
-use Rattle.dg_words.specs.declared.kinds.Opener.{Opener}
-use Rattle.dg_lists.specs.declared.kinds.Mode.{Mode}
-use Rattle.dg_lists.specs.declared.kinds.Mode.TheVariants.{Start, StartPair, Comment, CommentPair, Gap, GapPair, Operand, In, Pair, Join, Dollar, Colon, Name, NameBrace, Number, BraceFirst, BraceStar, BehindStar, StarPair, Braced, BracedPair, BracedJoin, Behind, BehindPair}
-use Rattle.dg_lists.specs.declared.kinds.Effect.{Effect}
-use Rattle.dg_lists.specs.declared.kinds.Ending.{Ending}
-use Rattle.dg_lists.specs.declared.kinds.Ending.TheVariants as ending
+use Rattle.dg_lists.specs.declared.kinds.Context.TheVariants.{Alone}
+use Rattle.dg_lists.specs.declared.kinds.Mode.TheVariants.{Start, Gap, Operand, Dollar}
 use Rattle.dg_lists.specs.declared.kinds.Target.{Target}
 use Rattle.dg_lists.specs.declared.kinds.Target.TheVariants as target
-use Rattle.dg_lists.specs.declared.kinds.Transition.{Transition}
 use Rattle.dg_words.specs.declared.word.Parsed.{Parsed}
 use Rattle.dg_words.specs.declared.word.Word.{Word}
 use Rattle.dg_lists.specs.Classes.{class_of}
 use Rattle.dg_words.specs.Transitions.{heard}
-use Rattle.dg_lists.specs.Transitions.{whole}
-use Rattle.dg_words.specs.Transitions.{transition, ends, context_ends, number_ends, rests, in_start}
-use Rattle.dg_words.specs.Machine.{Draft, Stepped, Go, Over, Fails, State, Answer, onward, stopped, step, stop, read, fresh, follow, follow_inside, has_room, opens, leaves, leaves_index, take_transition, level_in, perform, ended, is_none}
+use Rattle.dg_words.specs.Transitions.{transition, ends, in_start}
+use Rattle.dg_words.specs.Machine.{Draft, Stepped, Go, Over, Fails, State, Answer, onward, stopped, step, stop, read, fresh, follow, has_room, opens, leaves_index}
 use Rattle.dg_words.specs.Reading.{kind_of, words_only, command_at, words_of, operand_at}
 use Rattle.dg_words.specs.Answers.{ReadsAs}
 use Rattle.dg_words.proofs.Loop.{Falls, step_falls}
 use Rattle.dg_words.proofs.Kept.{Kept, Keeps, step_keeps, fresh_kept}
-use Rattle.dg_words.proofs.Own.{Own, after_own, transition_own}
 
 ok_place : (d : ℕ) (a : Answer) → ℕ
 ok_place d (Ok x) = x.1
@@ -135,134 +127,6 @@ all_left [] s p q k e = let h = halted (stop s) p q [] e in omega (arith, h)
 all_left (b ∷ bs) s p q k e =
     let h = moved_over (length bs) p q (step level.Top s b) (λ n. read level.Top bs n (p + 1)) (step_keeps s b k) (λ n kn r. let x = all_left bs n (p + 1) q kn r in omega (arith, x)) e in omega (arith, h)
 
--- no fault of a text is Memory
-abbrev OwnMove : Stepped → Type 0
-OwnMove (Fails f) = f ≢ Memory
-OwnMove m = Unit {0}
-
-opens_own : (b : Bool) (f : WordFault) (s : State) → f ≢ Memory → OwnMove (opens b f s)
-opens_own true f s h = tt
-opens_own false f s h = h
-
-leave_own : (is : List Context) (n : ℕ) (d : Draft) → OwnMove (leaves_index is n d)
-leave_own [] n d = tt
-leave_own (i ∷ is) n d = tt
-
-bracket_own : MissingBracket ≢ Memory
-bracket_own e = cc
-
-paren_own : MissingParen ≢ Memory
-paren_own e = cc
-
-follow_own : (x : Target) (n : ℕ) (d : Draft) → Own x → OwnMove (follow x n d)
-follow_own (target.To m) n d h = tt
-follow_own target.Deeper n d h = tt
-follow_own target.Shallower n d h = tt
-follow_own (target.Bracket s) n d h = opens_own (has_room d []) _ _ bracket_own
-follow_own (target.Paren s) n d h = opens_own (has_room d []) _ _ paren_own
-follow_own target.Leave n d h = leave_own d.indices n d
-follow_own target.End n d h = tt
-follow_own target.Rest n d h = tt
-follow_own (target.Bad f) n d h = h
-
-leaves_own : (os : List Opener) (n : ℕ) (d : Draft) (b : ℕ) → OwnMove (leaves os n d b)
-leaves_own [] n d b = tt
-leaves_own (o ∷ []) n d b = tt
-leaves_own (o ∷ p ∷ os) n d b = tt
-
-inside_own : (x : Target) (n : ℕ) (os : List Opener) (d : Draft) (b : ℕ) → Own x → OwnMove (follow_inside x n os d b)
-inside_own (target.To m) n os d b h = tt
-inside_own target.Deeper n os d b h = tt
-inside_own target.Shallower n os d b h = tt
-inside_own (target.Bracket s) n os d b h = opens_own (has_room d os) _ _ bracket_own
-inside_own (target.Paren s) n os d b h = opens_own (has_room d os) _ _ paren_own
-inside_own target.Leave n os d b h = leaves_own os n d b
-inside_own target.End n os d b h = tt
-inside_own target.Rest n os d b h = tt
-inside_own (target.Bad f) n os d b h = h
-
-transition_move_own : (t : Transition) (n : ℕ) (os : List Opener) (d : Draft) (b : ℕ) → Own t.next → OwnMove (take_transition t n os d b)
-transition_move_own t n [] d b h = follow_own t.next n (perform t.second (perform t.first d)) h
-transition_move_own t n (o ∷ os) d b h = inside_own t.next n (o ∷ os) d b h
-
-step_own : (l : Level) (s : State) (b : ℕ) → OwnMove (step l s b)
-unfolding step
-step_own l s b = transition_move_own (transition (level_in l s.inner) (nat_lt 0 s.depth) s.mode (class_of b) b) s.depth s.inner s.draft b (transition_own (level_in l s.inner) (nat_lt 0 s.depth) s.mode (class_of b) b)
-
-abbrev OwnEnd : Ending → Type 0
-OwnEnd (ending.Bad f) = f ≢ Memory
-OwnEnd e = Unit {0}
-
-context_end_own : (top : Bool) (s : Context) (d e : Effect) → OwnEnd (context_ends top s d e)
-context_end_own top Quoted d e = λ x. cc
-context_end_own top Index d e = λ x. cc
-context_end_own true Bare d e = tt
-context_end_own true Alone d e = tt
-context_end_own false Bare d e = λ x. cc
-context_end_own false Alone d e = λ x. cc
-
-number_end_own : (top : Bool) (s : Context) (d : Option Effect) → OwnEnd (number_ends top s d)
-number_end_own top s (Some d) = context_end_own top s _ d
-number_end_own true Bare None = λ x. cc
-number_end_own true Alone None = λ x. cc
-number_end_own true Quoted None = λ x. cc
-number_end_own true Index None = λ x. cc
-number_end_own false s None = context_end_own false s _ _
-
-rests_own : (top : Bool) (e : Ending) → OwnEnd e → OwnEnd (rests top e)
-rests_own true e h = h
-rests_own false e h = λ x. cc
-
-ends_own : (top : Bool) (m : Mode) → OwnEnd (ends top m)
-unfolding ends
-ends_own top Start = rests_own top _ tt
-ends_own top StartPair = rests_own top _ tt
-ends_own top Comment = rests_own top _ tt
-ends_own top CommentPair = rests_own top _ tt
-ends_own top Gap = rests_own top _ tt
-ends_own top GapPair = rests_own top _ tt
-ends_own top Operand = rests_own top _ tt
-ends_own top (In s) = context_end_own top s _ _
-ends_own top (Pair s) = context_end_own top s _ _
-ends_own top (Join s) = context_end_own top s _ _
-ends_own top (Dollar s) = context_end_own top s _ _
-ends_own top (Colon s) = context_end_own top s _ _
-ends_own top (Name s) = context_end_own top s _ _
-ends_own top (NameBrace s) = λ x. cc
-ends_own top (Number s n) = number_end_own top s (whole n)
-ends_own top BraceFirst = λ x. cc
-ends_own top BraceStar = λ x. cc
-ends_own top BehindStar = rests_own top _ tt
-ends_own top StarPair = rests_own top _ tt
-ends_own top Braced = λ x. cc
-ends_own top BracedPair = λ x. cc
-ends_own top BracedJoin = λ x. cc
-ends_own top (Behind d) = rests_own top _ tt
-ends_own top (BehindPair d) = rests_own top _ (after_own d)
-
-ended_own : (e : Ending) (d : Draft) → OwnEnd e → ended e d ≢ Err Memory
-ended_own (ending.Word x y) d h e = cc
-ended_own ending.Done d h e = cc
-ended_own (ending.Bad f) d h e = h cc
-
-stop_own : (s : State) → stop s ≢ Err Memory
-unfolding stop
-stop_own s = ended_own (ends (is_none s.inner) s.mode) s.draft (ends_own (is_none s.inner) s.mode)
-
-stopped_own : (r : Result (List Word) WordFault) (p : ℕ) → r ≢ Err Memory → kind_of (stopped r p) ≢ Err Memory
-stopped_own (Ok vs) p n e = cc
-stopped_own (Err f) p n e = n (let same : f ≡ Memory = cc in ap Err same)
-
-onward_own : (m : Stepped) (p : ℕ) (more : State → Answer) → OwnMove m → ((s : State) → kind_of (more s) ≢ Err Memory) → kind_of (onward m p more) ≢ Err Memory
-onward_own (Go s) p more o ih e = ih s e
-onward_own (Over vs k) p more o ih e = cc
-onward_own (Fails f) p more o ih e = o cc
-
-pub read_own : (l : Level) (bs : List ℕ) (s : State) (p : ℕ) → kind_of (read l bs s p) ≢ Err Memory
-unfolding read
-read_own l [] s p = stopped_own (stop s) p (stop_own s)
-read_own l (b ∷ bs) s p = onward_own (step l s b) p (λ n. read l bs n (p + 1)) (step_own l s b) (λ n. read_own l bs n (p + 1))
-
 kind_ok : (a : Answer) (x : List Word × ℕ) → kind_of a ≡ Ok x → a ≡ Ok x
 kind_ok (Ok y) x e = cc
 kind_ok (Err f) x e = absurd cc
@@ -276,10 +140,6 @@ pub next_within : (text : List ℕ) (at next : ℕ) (words : List Word) → at �
 next_within text at next words le e =
     let h = range level.Top (drop at text) (fresh Start) at next words (opened text at next words e) in omega (arith, h.1, length-drop at text, le)
 
--- and not before the place where it was sought
-pub next_behind : (text : List ℕ) (at next : ℕ) (words : List Word) → command_at text at ≡ Ok (words, next) → at ≤ next
-next_behind text at next words e = (range level.Top (drop at text) (fresh Start) at next words (opened text at next words e)).0
-
 -- it is further on where there are words
 pub next_onward : (text : List ℕ) (at next : ℕ) (words : List Word) → command_at text at ≡ Ok (words, next) → words ≢ [] → at < next
 next_onward text at next words e ne = begun (drop at text) at next words (opened text at next words e) ne
@@ -289,23 +149,6 @@ pub next_over : (text : List ℕ) (at next : ℕ) (words : List Word) → at ≤
 next_over text at next words le e none =
     let h = all_left (drop at text) (fresh Start) at next fresh_kept (subst (λ ws. read level.Top (drop at text) (fresh Start) at ≡ Ok (ws, next)) none (opened text at next words e)) in
     omega (arith, h, length-drop at text, le)
-
--- a text's own fault is not Memory
-pub never_memory : (text : List ℕ) (at : ℕ) → command_at text at ≢ Err Memory
-unfolding command_at
-never_memory text at = read_own level.Top (drop at text) (fresh Start) at
-
-same_kind : (a : Answer) (f : WordFault) → words_only a ≡ Err f → kind_of a ≡ Err f
-same_kind (Ok x) f e = absurd cc
-same_kind (Err g) f e = cc
-
-pub words_never_memory : (text : List ℕ) → words_of text ≢ Err Memory
-unfolding words_of
-words_never_memory text e = read_own level.List text (fresh Gap) 0 (same_kind (read level.List text (fresh Gap) 0) Memory e)
-
-pub operand_never_memory : (text : List ℕ) (at : ℕ) → operand_at text at ≢ Err Memory
-unfolding operand_at
-operand_never_memory text at = read_own level.Alone (drop at text) (fresh Operand) at
 
 pub operand_within : (text : List ℕ) (at next : ℕ) (words : List Word) → at ≤ length text → operand_at text at ≡ Ok (words, next) → next ≤ length text
 unfolding operand_at

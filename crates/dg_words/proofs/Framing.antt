@@ -11,17 +11,9 @@ pub length-contexts : (fs : List Frame) → length (contexts fs) ≡ length fs
 length-contexts [] = refl
 length-contexts (f ∷ fs) = omega (arith, length-contexts fs)
 
-pub spots_none : (fs : List Frame) → contexts fs ≡ [] → fs ≡ []
-spots_none [] e = refl
-spots_none (f ∷ fs) e = absurd cc
-
 pub spots_empty : (fs : List Frame) → length fs ≡ 0 → contexts fs ≡ []
 spots_empty [] e = refl
 spots_empty (f ∷ fs) e = absurd (omega (arith, e))
-
-pub pieces_none : (fs : List Frame) → contexts fs ≡ [] → pieces fs ≡ []
-pieces_none [] e = refl
-pieces_none (f ∷ fs) e = absurd cc
 
 pub word_stays : (fs : List Frame) (d : Draft) → 0 < length fs → d.indices ≡ contexts fs → d ≡ end_word d.indices d
 word_stays [] d h e = absurd (omega (arith, h))

@@ -3,7 +3,6 @@ pub mod Framing
 pub mod Loop
 pub mod Runs
 pub mod Turning
-pub mod Own
 pub mod Kept
 pub mod Advance
 pub mod First

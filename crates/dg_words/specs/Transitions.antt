@@ -69,10 +69,6 @@ abbrev pub numbered : Level → Context → Digits → Class → ℕ → Option 
 numbered l s n c b (Some v) = counted s n.escape n.left v
 numbered l s n c b None = behind_number (whole n) (in_context l s c b)
 
-abbrev pub is_newline : Class → Bool
-is_newline class.Newline = true
-is_newline c = false
-
 -- a joined line
 abbrev pub joined : Context → Transition
 joined Bare = does effect.Word (target.To Gap)

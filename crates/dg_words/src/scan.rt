@@ -1,10 +1,10 @@
 //! The reading of a command, of the words of a list, and of an operand.
-ghost use Rattle.std.specs.Prelude.{◌≡◌, ◌++◌, ◌∷◌, [], ◌+◌, ◌==◌, ◌<◌, ◌≤◌, ◌≢◌, ◌^◌, ◌⊎◌, OnOk, IfErr, IfOk, MatchOption, MatchResult, length, drop, Ok, Err, ℕ, List};
+ghost use Rattle.std.specs.Prelude.{◌≡◌, ◌∷◌, [], ◌+◌, ◌<◌, ◌≤◌, ◌≢◌, ◌^◌, ◌⊎◌, OnOk, IfErr, IfOk, MatchOption, MatchResult, length, drop, Ok, Err, ℕ, List};
 ghost use Rattle.dg_words.specs.Answers.{ReadsAs, Made};
 ghost use Rattle.dg_words.specs.First.{FirstCommand, FirstFault};
 ghost use Rattle.dg_words.specs.Grammar.Spelling.{IsCommandFault, IsOperandFault, IsWordsFault, SpellsCommand, SpellsOperand};
 ghost use Rattle.dg_words.specs.Grammar.Words.{WordsOf};
-ghost use Rattle.dg_words.specs.Machine.{Go, follow, follow_inside, fresh, has_room, is_none, leaves, level_in, read, context_of, step, stop, stopped, take_transition};
+ghost use Rattle.dg_words.specs.Machine.{Go, follow, follow_inside, fresh, has_room, is_none, leaves, read, context_of, step, stop, stopped, take_transition};
 ghost use Rattle.dg_words.specs.Reading.{command_at, kind_of, operand_at, words_of};
 ghost use Rattle.dg_words.specs.Runs.{Reaches};
 

@@ -1,7 +1,7 @@
 //! What one more byte makes of what is open in a script, by Tcl(n).
-ghost use Rattle.std.specs.Prelude.{◌≡◌, Option};
-ghost use Rattle.dg_lists.specs.Transitions.{behind_effect, is_space, with_digit};
-ghost use Rattle.dg_words.specs.Transitions.{after, behind, behind_pair, behind_star, ends, heard, in_bare, in_brace_first, in_brace_star, in_braced, in_braced_join, in_braced_pair, in_colon, in_comment, in_dollar, in_gap, in_gap_pair, in_index, in_join, in_name, in_name_brace, in_operand, in_pair, in_quoted, in_context, in_star_pair, in_start, in_start_pair, joined, number_ends, numbered, rests, context_ends, transition};
+ghost use Rattle.std.specs.Prelude.{◌≡◌};
+ghost use Rattle.dg_lists.specs.Transitions.{is_space, with_digit};
+ghost use Rattle.dg_words.specs.Transitions.{after, behind, behind_pair, behind_star, ends, heard, in_bare, in_brace_first, in_brace_star, in_braced, in_braced_join, in_braced_pair, in_colon, in_comment, in_dollar, in_gap, in_gap_pair, in_index, in_join, in_name, in_name_brace, in_operand, in_pair, in_quoted, in_context, in_star_pair, in_start, in_start_pair, number_ends, numbered, context_ends, transition};
 
 use crate::kinds::Level;
 use dg_lists::{

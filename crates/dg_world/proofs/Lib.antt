@@ -3,5 +3,4 @@ pub mod NameLemmas
 pub mod TranscriptLemmas
 pub mod WorldLemmas
 pub mod PartLemmas
-pub mod SelectedLemmas
 pub mod SettingLemmas

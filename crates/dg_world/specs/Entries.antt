@@ -1,5 +1,5 @@
 -- When two entries of a session's record are the same.
-use Rattle.std.specs.Prelude.{ℕ, Bool, true, false, ◌&&◌, ◌==◌}
+use Rattle.std.specs.Prelude.{Bool, true, false, ◌&&◌, ◌==◌}
 use Rattle.dg_bytes.specs.Same.{same_bytes, same_words}
 use Rattle.dg_transcript.specs.declared.code.ErrorCode.{ErrorCode}
 use Rattle.dg_transcript.specs.declared.code.ErrorCode.TheVariants.{NotFound, NotPermitted, BrokenPipe, Other}

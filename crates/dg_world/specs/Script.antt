@@ -3,7 +3,6 @@ use Rattle.std.specs.Prelude.{ℕ, Bool, not, ◌&&◌, ◌||◌, nat_eq, nat_le
 use Rattle.std.specs.declared.option.Option.TheVariants.{None}
 use Rattle.std.specs.Option.{unwrap_or}
 use Rattle.std.specs.List.{list_any, last_or, starts_with, ends_with}
-use Rattle.std.specs.Cmp.Lexicographic.{pointwise}
 use Rattle.dg_world.specs.Name.{parts_of}
 use Rattle.dg_bytes.specs.Same.{same_bytes}
 

@@ -1,5 +1,5 @@
 //! Names of files.
-ghost use Rattle.std.specs.Prelude.{◌≡◌, ◌==◌, ◌∷◌, [], length, refl, Some, false, IfOk, IfErr, IsTrue, ◌↔◌, ◌⊎◌, nat_eq};
+ghost use Rattle.std.specs.Prelude.{◌≡◌, ◌==◌, ◌∷◌, [], refl, Some, false, IfOk, IfErr, IsTrue, ◌↔◌, ◌⊎◌, nat_eq};
 ghost use Rattle.std.specs.Ordering.{nat_cmp};
 ghost use Rattle.std.specs.Cmp.Lexicographic.{pointwise, slice_cmp, nat_list_eq_equiv, nat_list_cmp_total, texts_ties, texts_po};
 ghost use Rattle.std.specs.Cmp.{partial_equiv_from_equiv};

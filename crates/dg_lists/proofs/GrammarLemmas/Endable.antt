@@ -91,10 +91,6 @@ pub dot_is : class_of 46 ≡ class.Plain
 unfolding class_of
 dot_is = refl
 
--- a number: a dot ends it, or a digit 0 and a dot where its value is no character yet
-abbrev Surrogate : kinds.Digits → Type 0
-Surrogate n = (n.escape ≡ Long) × (55296 ≤ n.value) × (n.value < 57344)
-
 long_written : (v : ℕ) → v ≤ 1114111 → ((w : Effect) × (written Long v ≡ Some w)) ⊎ ((55296 ≤ v) × (v < 57344))
 long_written v h = low (leb_tells (suc v) 55296)
   where

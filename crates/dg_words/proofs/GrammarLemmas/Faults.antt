@@ -364,12 +364,6 @@ is_no_words fault text e =
     let told : words_of text ≡ Err fault = words_kind (read level.List text (fresh mode.Gap) 0) ∙ ap words_in (e 0) in
     (told, λ ws h. let x = sym (spelled_words_are_read text ws h) ∙ told in absurd cc)
 
-pub words_fault_can_go_on : (text : List ℕ) (fault : WordFault) (place : ℕ) → read level.List text (fresh mode.Gap) 0 ≡ Err (fault, place) → GoesOn IsWords text place
-words_fault_can_go_on text fault place e = goes_as (IsRead level.List mode.Gap) IsWords text place is_words (goes_on level.List mode.Gap text fault place tt tt e)
-
-pub words_fault_is_first : (text : List ℕ) (fault : WordFault) (place : ℕ) → read level.List text (fresh mode.Gap) 0 ≡ Err (fault, place) → StopsAt (IsNoWords fault) text place
-words_fault_is_first text fault place e = stops_as (Tells level.List mode.Gap fault) (IsNoWords fault) text place (is_no_words fault) (stops_at level.List mode.Gap text fault place tt tt e)
-
 words_placed : (a : Answer) (f : WordFault) → words_only a ≡ Err f → kind_of a ≡ Err f
 words_placed (Ok x) f e = absurd cc
 words_placed (Err (g, q)) f e = ap (λ r. Err (kind_in r)) e

@@ -1,7 +1,6 @@
 -- Of what may be wrong at a place of words, one is.
-use Rattle.std.specs.Prelude.{◌≡◌, ◌≢◌, ℕ, suc, ◌+◌, ◌≤◌, ◌<◌, List, [], ◌∷◌, ◌++◌, length, refl, true, false, ◌⊎◌}
+use Rattle.std.specs.Prelude.{◌≡◌, ◌≢◌, ℕ, suc, ◌+◌, ◌≤◌, List, [], ◌∷◌, ◌++◌, length, refl, true, false, ◌⊎◌}
 use Rattle.std.proofs.Common.{inl, inr, ◌∙◌, ap, sym, arith, subst, append_assoc, length-append}
-use Rattle.std.proofs.lemmas.Bool.Decides.{leb_tells}
 use lib.Utf8.{scalar}
 use Rattle.dg_lists.specs.declared.fault.WordFault.{WordFault}
 use Rattle.dg_lists.specs.declared.fault.WordFault.TheVariants as fault
@@ -13,7 +12,6 @@ use Rattle.dg_words.specs.declared.kinds.Level.TheVariants as level
 use Rattle.dg_lists.specs.Classes.{class_of}
 use Rattle.dg_lists.specs.Transitions.{digits_of, letter_of}
 use Rattle.dg_words.specs.Transitions.{after}
-use Rattle.dg_lists.specs.Grammar.Continuing.{GoesOn, IsNot, StopsAt}
 use Rattle.dg_words.specs.Grammar.Ends.{Open, missing}
 use Rattle.dg_lists.specs.Grammar.Escapes.{each, value_from}
 use Rattle.dg_words.specs.Grammar.Saying.{EndsWord, IsWrong, OpensNothing, TooMany, Unwritten, is_hex}

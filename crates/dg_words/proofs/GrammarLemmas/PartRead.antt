@@ -86,10 +86,6 @@ pub atom_indices : (inner : List Opener) (d e : Draft) (a : List ℕ) (q : List 
 atom_indices [] d e a q x = x.2
 atom_indices (o ∷ os) d e a q x = ap (λ (y : Draft). y.indices) x
 
-pub behind_indices : (inner : List Opener) (d e : Draft) (t : List ℕ) (ps : List Piece) → Behind inner d t ps e → e.indices ≡ d.indices
-behind_indices [] d e t ps x = x.2
-behind_indices (o ∷ os) d e t ps x = ap (λ (y : Draft). y.indices) x
-
 pub text_atom : (inner : List Opener) (d : Draft) (a w : List ℕ) → Atom inner d a (with_text w) (moved inner a (add w) d)
 text_atom [] d a w = (refl, refl, refl, λ ps. ap (λ x. d.parts ++ x) (text_text d.text w ps))
 text_atom (o ∷ os) d a w = refl

@@ -497,10 +497,6 @@ list_stops : (ws : List Word) (p : ℕ) → read level.List [] (at [] mode.Gap 0
 unfolding read stop ends
 list_stops ws p = refl
 
-gap_stops : (ws : List Word) (p : ℕ) → read level.Top [] (at [] mode.Gap 0 (base false ws)) p ≡ Ok (ws, p)
-unfolding read stop ends
-gap_stops ws p = refl
-
 command_stops : (t : List ℕ) (ws : List Word) (p : ℕ) → read level.Top [] (at [] (mode_of ws) 0 (commanded [] t [] ws (base false []))) p ≡ Ok (ws, p)
 unfolding read stop ends
 command_stops t [] p = refl

@@ -194,10 +194,6 @@ quoted_behind l stack n g t u a ps e p (PartsEnd.operand_quoted rest h f) = absu
 pub quoted_word : (l : Level) (stack : List Opener) (n : ℕ) → Standing l stack n context.Bare → (t : List ℕ) → PartsLeft l stack n context.Quoted t → PlainLeft l stack n (34 ∷ t)
 quoted_word l stack n g t (PartsLeft.parts u a ps e p q) = quoted_behind l stack n g t u a ps e p q
 
-cons_of : List ℕ → Type 0
-cons_of [] = ⊥
-cons_of (b ∷ bs) = Unit {0}
-
 bare_begins : (l : Level) (b : ℕ) (bs u a : List ℕ) → b ∷ bs ≡ u ++ a → begins (class_of b) ≡ true → (Parted l (b ∷ bs) → ⊥) → Parted l a → BeginsWord u
 bare_begins l b bs [] a e h un q = absurd (un (subst (λ y. Parted l y) (sym e) q))
 bare_begins l b bs (c ∷ cs) a e h un q = subst (λ y. begins (class_of y) ≡ true) (first_same e) h

@@ -1,5 +1,4 @@
-use Rattle.std.proofs.Common.{◌≡◌, ◌∷◌, [], ◌++◌, ◌∙◌, sym, ap, subst, drop, length, arith}
-use Rattle.dg_compiled.specs.Wholes.{Waits, ComesToWhole}
+use Rattle.std.proofs.Common.{◌∷◌, [], ◌∙◌, sym, ap, arith}
 use Rattle.dg_compiled.proofs.WholeLemmas.{begun, advanced, ended-as, one-at, at-end}
 use Rattle.dg_compiled.proofs.wholes.whole_of.Goals as goal
 

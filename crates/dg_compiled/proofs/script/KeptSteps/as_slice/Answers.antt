@@ -1,6 +1,5 @@
-use Rattle.std.proofs.Common.{◌∙◌, ap, sym}
+use Rattle.std.proofs.Common.{◌∙◌}
 use Rattle.std.specs.Arc.{arc_value}
-use Rattle.dg_compiled.specs.Steps.{steps_in}
 use Rattle.dg_compiled.proofs.TextLemmas.{kept-at}
 use Rattle.dg_compiled.proofs.script.KeptSteps.as_slice.Goals as goal
 
