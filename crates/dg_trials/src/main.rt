@@ -2,6 +2,7 @@
 //! whether it came out as it has to, or a file of data, and how much of it was tried. No line depends on how threads run.
 #![tactic(auto)]
 
+mod benches;
 mod files;
 mod growths;
 mod jobs;
@@ -23,7 +24,7 @@ use std::thread::Threads;
 use std::time::Clock;
 
 /// The parts that are tried in turn.
-const PARTS: [&str; 5] = ["jobs", "cores", "sessions", "live", "pipes"];
+const PARTS: [&str; 6] = ["jobs", "cores", "sessions", "live", "pipes", "benches"];
 
 /// Tries a part, with the data of this folder.
 fn try_part<R>(rt: R, folder: &str, part: &str) -> Result<()>
@@ -48,6 +49,7 @@ where
         "sessions" => sessions::try_cases(&rt, rt.alloc()),
         "live" => live::try_files(&rt, folder),
         "pipes" => pipes::try_file(rt, folder),
+        "benches" => benches::try_cases(&rt),
         _ => bail!("there is no part of this name"),
     }
 }

@@ -1,7 +1,7 @@
 //! Workers whose children wait for others.
-use crate::gates::{Signal, Waiting};
-use crate::replies::put_on;
-use crate::working::{passes, put_scripts};
+use crate::benches::gates::{Signal, Waiting};
+use crate::benches::replies::put_on;
+use crate::benches::working::{passes, put_scripts};
 use dg_bench::{Bench, Pass, Room, Work, run_workers};
 use dg_core::Reply;
 use std::alloc::Global;

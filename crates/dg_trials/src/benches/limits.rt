@@ -1,8 +1,8 @@
 //! A bench at its limit, and a pass of another bench.
 ghost use Rattle.std.specs.Prelude.{◌≡◌};
 
-use crate::replies::{closed, of_file, put};
-use crate::twins::{Ran, judge};
+use crate::benches::replies::{closed, of_file, put};
+use crate::benches::twins::{Ran, judge};
 use dg_bench::{Bench, BenchRefusal, Call, Opened, Pass, Room};
 use dg_bytes::Bytes;
 use dg_world::{Answer, Edit, Refusal};

@@ -1,8 +1,8 @@
 -- What the threads are given.
 use denote.Param.Send.{sendable}
 use Rattle.dg_bench.proofs.Crossing.{bench_sync}
-use Rattle.dg_bench_trials.proofs.Crossing.{task_send}
-use Rattle.dg_bench_trials.proofs.edits.edit_both.Goals as goal
+use Rattle.dg_trials.proofs.Crossing.{task_send}
+use Rattle.dg_trials.proofs.benches.edits.edit_both.Goals as goal
 
 pub join-requires-send-F : goal.join-requires-send-F
 join-requires-send-F g c κs within = search (sendable, bench_sync, task_send) depth 20

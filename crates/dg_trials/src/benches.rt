@@ -1,7 +1,5 @@
-//! The program that tries many callers of one bench, and workers. Each line that it writes is a case, and whether it came out as
-//! it has to. No line depends on how threads run.
-#![tactic(auto)]
-
+//! Many callers of one bench, and workers. Each line is a case, and whether it came out as it has to; none depends on how threads
+//! run.
 ghost use Rattle.std.specs.Prelude.{◌≡◌, ◌<◌, ◌≤◌};
 
 mod callers;
@@ -14,7 +12,7 @@ mod turns;
 mod twins;
 mod working;
 
-use crate::limits::SOME_BLOCKS;
+use crate::benches::limits::SOME_BLOCKS;
 use anyhow::Result;
 use dg_bench::{Opened, Room};
 use std::alloc::Global;
@@ -138,15 +136,13 @@ fn try_elsewhere<R: AllocGlobal + Wait>(rt: &R) -> Result<Option<bool>> {
 }
 
 /// Tries all cases.
-fn try_cases<R: Print + AllocGlobal + Threads + Wait + Clock + Sync>(rt: &R) -> Result<()> {
+pub(crate) fn try_cases<R: Print + AllocGlobal + Threads + Wait + Clock + Sync>(
+    rt: &R,
+) -> Result<()> {
     for (name, case) in CASES {
         println!(rt; "{name}: {}", try_often(rt, case)?)?;
     }
     let came_out = try_elsewhere(rt)?;
     println!(rt; "another bench: {}", came_out.unwrap_or(false))?;
     Ok(())
-}
-
-fn main(rt: HostRuntime) -> Result<()> {
-    try_cases(&rt)
 }

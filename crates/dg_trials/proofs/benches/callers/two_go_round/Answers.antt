@@ -1,8 +1,8 @@
 -- What the threads are given.
 use denote.Param.Send.{sendable}
 use Rattle.dg_bench.proofs.Crossing.{bench_sync}
-use Rattle.dg_bench_trials.proofs.Crossing.{caller_send}
-use Rattle.dg_bench_trials.proofs.callers.two_go_round.Goals as goal
+use Rattle.dg_trials.proofs.Crossing.{caller_send}
+use Rattle.dg_trials.proofs.benches.callers.two_go_round.Goals as goal
 
 pub join-requires-send-F : goal.join-requires-send-F
 join-requires-send-F g c κs within = search (sendable, bench_sync, caller_send) depth 20

@@ -1,8 +1,8 @@
 -- What the threads are given.
 use denote.Param.Send.{sendable}
 use Rattle.dg_bench.proofs.Crossing.{bench_sync}
-use Rattle.dg_bench_trials.proofs.Crossing.{share_send}
-use Rattle.dg_bench_trials.proofs.turns.run_and_edit.Goals as goal
+use Rattle.dg_trials.proofs.Crossing.{share_send}
+use Rattle.dg_trials.proofs.benches.callers.three_at_once.Goals as goal
 
 pub join-requires-send-F : goal.join-requires-send-F
 join-requires-send-F g c κs within = search (sendable, bench_sync, share_send) depth 20

@@ -1,5 +1,5 @@
 //! Two threads that edit at once.
-use crate::replies::{closed, put_on};
+use crate::benches::replies::{closed, put_on};
 use dg_bench::{Bench, Call, Pass, Room};
 use dg_world::Edit;
 use std::alloc::Global;

@@ -1,5 +1,5 @@
 -- Which benches they are.
-use Rattle.dg_bench_trials.proofs.try_elsewhere.Given as goal
+use Rattle.dg_trials.proofs.benches.try_elsewhere.Given as goal
 
 abbrev pub ghosts-is_shorter-A-Room : goal.ghosts-is_shorter-A-Room
 ghosts-is_shorter-A-Room g a = record { names = a.one.cells.names }

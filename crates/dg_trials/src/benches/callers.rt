@@ -1,9 +1,9 @@
 //! Two callers that edit, ask and report, while a third runs workers.
-use crate::gates::Signal;
-use crate::pauses::Pauses;
-use crate::replies::{are_same, are_same_replies, closed, put, replays};
-use crate::turns::Share;
-use crate::working::{put_scripts, ready};
+use crate::benches::gates::Signal;
+use crate::benches::pauses::Pauses;
+use crate::benches::replies::{are_same, are_same_replies, closed, put, replays};
+use crate::benches::turns::Share;
+use crate::benches::working::{put_scripts, ready};
 use dg_bench::{Bench, Call, Pass, Receipt, Room, Work, run_workers};
 use dg_bytes::Bytes;
 use dg_core::Reply;

@@ -6,11 +6,11 @@ use Rattle.std.proofs.Crossing.{crosses}
 use Rattle.dg_bench.proofs.Crossing.{pass_send}
 use Rattle.dg_bench.specs.declared.room.Room.{Ghosts}
 use Rattle.dg_bench.proofs.receipt.Receipt.TheSendSync as receipt
-use Rattle.dg_bench_trials.specs.contracts.edits.Task.{the_row as task_row}
-use Rattle.dg_bench_trials.specs.contracts.twins.Twin.{the_row as twin_row}
-use Rattle.dg_bench_trials.specs.contracts.callers.Caller.{the_row as caller_row}
-use Rattle.dg_bench_trials.specs.contracts.gates.Waiting.{the_row as waiting_row}
-use Rattle.dg_bench_trials.specs.contracts.turns.Share.{the_row as share_row}
+use Rattle.dg_trials.specs.contracts.benches.edits.Task.{the_row as task_row}
+use Rattle.dg_trials.specs.contracts.benches.twins.Twin.{the_row as twin_row}
+use Rattle.dg_trials.specs.contracts.benches.callers.Caller.{the_row as caller_row}
+use Rattle.dg_trials.specs.contracts.benches.gates.Waiting.{the_row as waiting_row}
+use Rattle.dg_trials.specs.contracts.benches.turns.Share.{the_row as share_row}
 
 pub task_send : (B : RattleType) (r : Ghosts B.Denot) → IsSend B → IsSend (task_row B r)
 task_send B r s = search (crosses, sendable, pass_send) depth 20

@@ -1,6 +1,6 @@
 //! Workers over stored worlds, and over gates that wait for nothing.
-use crate::gates::{Deaf, Signal, Waiting};
-use crate::replies::{PASSED, closed, is_sum, put_on};
+use crate::benches::gates::{Deaf, Signal, Waiting};
+use crate::benches::replies::{PASSED, closed, is_sum, put_on};
 use dg_bench::{Bench, Call, Pass, Room, Work, run_workers};
 use dg_core::Reply;
 use dg_transcript::encode;

@@ -1,5 +1,5 @@
 //! A script that is edited by one caller, and judged and reported by another, in a thread of its own.
-use crate::replies::{PASSED, closed, is_sum, of_file, put_on};
+use crate::benches::replies::{PASSED, closed, is_sum, of_file, put_on};
 use dg_bench::{Bench, Call, Pass, Receipt, Room};
 use dg_core::Reply;
 use dg_eval::{Job, Turn};
