@@ -1,7 +1,8 @@
 #!/bin/sh
 # Times 100,000 edits of one bench by two threads, 50,000 each: bench/workers/edits.sh
-# It builds in a folder of its own, which it removes again: the program of crates/dg_trials with the first case of its benches alone, at that
-# size. The libraries have to be built (make), and the kit's rt has to be on the path. The times are of whole runs.
+# It builds in a folder of its own, which it removes again: the program of crates/dg_trials with the first case of its benches
+# alone, at that size, which takes some half an hour, since the program is proved. The libraries have to be built (make), and the
+# kit's rt has to be on the path. The times are of whole runs.
 set -e
 top=$(cd "$(dirname "$0")/../.." && pwd)
 work=$(mktemp -d)
