@@ -183,7 +183,7 @@ impl Job {
                 self.steps = ended.steps;
                 self.stage.set(Stage::Finished(ended.readings));
                 let record = Record::from_parts(ended.test, ended.reads, ended.verdict);
-                Ok(Turn::Done(record))
+                Ok(Turn::Done(record.shared(alloc)))
             }
             Arrival::Lost => Err(JobFault::PatternLost),
         }

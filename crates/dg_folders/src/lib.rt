@@ -4,10 +4,11 @@
 mod fault;
 mod listing;
 mod paths;
+mod reading;
 mod suite;
 mod writing;
 
 pub use crate::fault::RunFault;
 pub use crate::paths::{sum_path, transcript_path};
 pub use crate::suite::{Intake, read_suite, read_transcript};
-pub use crate::writing::{write_in_place, write_transcript, write_with_folders};
+pub use crate::writing::{renew, write_in_place, write_transcript, write_with_folders};

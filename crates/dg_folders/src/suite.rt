@@ -2,12 +2,12 @@
 use crate::fault::RunFault;
 use crate::listing::{list_files, names_in};
 use crate::paths::{in_folder, is_tool_folder};
+use crate::reading::read_file;
 use dg_bytes::Bytes;
 use dg_world::{Edit, Refusal};
 use std::alloc::Global;
-use std::io::Read;
+use std::io;
 use std::rt::Files;
-use std::{fs, io};
 
 /// One byte more than a suite's file may have.
 const FILE_READ: u64 = 1_048_577;
@@ -19,18 +19,6 @@ const TRANSCRIPT_READ: u64 = 1_073_741_825;
 pub trait Intake {
     /// Makes an edit, or changes nothing.
     fn take(&mut self, edit: Edit) -> Result<(), Refusal>;
-}
-
-/// The bytes of a file, at most `limit` of them.
-pub(crate) fn read_file<R: Files + AllocGlobal>(
-    rt: &R,
-    path: &str,
-    limit: u64,
-) -> io::Result<Bytes> {
-    let mut bytes = Vec::new(rt.alloc());
-    let file = fs::open(rt, path)?;
-    io::copy(&mut file.take(limit), &mut bytes)?;
-    Ok(Bytes::from_vec(bytes))
 }
 
 /// Reads a file of a suite and hands it on.

@@ -1,11 +1,12 @@
 //! Files that are there whole or as they were.
 use crate::fault::RunFault;
 use crate::paths::beside;
-use crate::suite::read_file;
-use std::fs::OpenOptions;
+use crate::reading::read_as_long;
+use std::fs::{FileTimes, OpenFile, OpenOptions};
 use std::io::{ErrorKind, Write};
 use std::path::Path;
 use std::rt::Files;
+use std::time::{Clock, SystemTime};
 use std::{fs, io};
 
 /// How many runs may write one file at once.
@@ -56,13 +57,33 @@ pub fn write_in_place<R: Files + AllocGlobal>(
     }
 }
 
-/// Whether a file has just these bytes. Of a longer one no more is read than shows that.
+/// Whether a file has just these bytes. One that is longer or shorter is not read.
 fn has_bytes<R: Files + AllocGlobal>(rt: &R, path: &str, bytes: &[u8]) -> bool {
-    let most = (bytes.len() as u64).saturating_add(1);
-    match read_file(rt, path, most) {
-        Ok(found) => found.as_slice() == bytes,
+    match read_as_long(rt, path, bytes.len() as u64) {
+        Ok(Some(found)) => found.as_slice() == bytes,
+        Ok(None) | Err(_) => false,
+    }
+}
+
+/// Whether a file, and no link to one, has just these bytes.
+fn is_file_of<R: Files + AllocGlobal>(rt: &R, path: &str, bytes: &[u8]) -> bool {
+    match fs::symlink_metadata(rt, path) {
+        Ok(found) => found.is_file() && has_bytes(rt, path, bytes),
         Err(_) => false,
     }
+}
+
+/// Gives a file the time of now, as writing it does.
+fn set_time<R: Files + Clock>(rt: &R, path: &str) -> io::Result<()> {
+    let now = SystemTime::now(rt)?;
+    let file = OpenOptions::new().write(true).open(rt, path)?;
+    file.set_times(FileTimes::new().set_modified(now))
+}
+
+/// Whether a file has just these bytes already, and now the time of now too: whoever goes by times, as `make` does, sees it
+/// written. That is done at once, where some file systems take milliseconds to put a new file in the place of an old one.
+pub fn renew<R: Files + AllocGlobal + Clock>(rt: &R, path: &str, bytes: &[u8]) -> bool {
+    is_file_of(rt, path, bytes) && set_time(rt, path).is_ok()
 }
 
 /// Writes a file in a folder that may not be there yet. The folders are made once the file could not be.

@@ -2,6 +2,7 @@
 #![tactic(auto)]
 
 mod law;
+mod reads;
 mod record;
 mod shelf;
 

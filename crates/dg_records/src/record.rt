@@ -2,7 +2,8 @@
 ghost use Rattle.std.specs.Prelude.{◌≡◌, IfOk, IsTrue, ◌↔◌};
 ghost use Rattle.dg_records.specs.Truth.{IsTrueRecord, Agree, holds};
 
-use dg_bytes::{Seq, TryCopy};
+use crate::reads::Reads;
+use dg_bytes::Seq;
 use dg_results::Verdict;
 use dg_world::{Read, TestId, World};
 use std::alloc::{AllocError, Global};
@@ -12,7 +13,7 @@ use std::marker::Model;
 /// gives these answers.
 pub struct Record {
     test: TestId,
-    reads: Seq<Read>,
+    reads: Reads,
     verdict: Verdict,
 }
 
@@ -44,7 +45,23 @@ impl Record {
     {
         Record {
             test,
+            reads: Reads::new(reads),
+            verdict,
+        }
+    }
+
+    /// The same record. From now on a copy costs no copy of what was read, where there is room for what is shared.
+    pub fn shared(self, alloc: Global) -> Record
+        ensures { result ≡ self }
+    {
+        let Record {
+            test,
             reads,
+            verdict,
+        } = self;
+        Record {
+            test,
+            reads: reads.shared(alloc),
             verdict,
         }
     }

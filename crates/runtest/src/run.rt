@@ -14,7 +14,7 @@ use dg_bench::{
 use dg_bytes::{Bytes, Seq};
 use dg_core::Reply;
 use dg_folders::{
-    RunFault, read_suite, read_transcript, sum_path, write_in_place, write_with_folders,
+    RunFault, read_suite, read_transcript, renew, sum_path, write_in_place, write_with_folders,
 };
 use dg_line::{Mode, Plan};
 use dg_pipes::Fresh;
@@ -225,13 +225,17 @@ fn counts_of(calls: &[Call], read: usize) -> Counts {
     counts
 }
 
-/// Writes the report to its file. A run makes the folders that this stands in.
-fn write_report<R: Files + AllocGlobal>(
+/// Writes the report to its file. A run makes the folders that this stands in. A file that is this report already stays, and
+/// takes the time of now.
+fn write_report<R: Files + AllocGlobal + Clock>(
     rt: &R,
     course: &Course,
     report: &[u8],
 ) -> Result<(), RunFault> {
     let path = sum_path(rt.alloc(), course.outdir.as_str(), course.tool.as_str())?;
+    if renew(rt, path.as_str(), report) {
+        return Ok(());
+    }
     match course.mode {
         Mode::Run => write_with_folders(rt, path.as_str(), report),
         Mode::Rejudge | Mode::Session => write_in_place(rt, path.as_str(), report),
