@@ -4,16 +4,21 @@ use std::fs::{self, OpenFile};
 use std::io::{self, Read};
 use std::rt::Files;
 
-/// The bytes of an open file, at most `limit` of them. Room is made once for as many as it has now.
+/// The bytes of an open file, at most `limit` of them: as many as it was long when it was asked, and all that come of one that
+/// has no length, as a pipe has none. Room is made once, and the end of a file that has a length is not read for.
 fn read_open<R: Files + AllocGlobal>(
     rt: &R,
     file: R::File,
     length: u64,
     limit: u64,
 ) -> io::Result<Bytes> {
+    let most = match length {
+        0 => limit,
+        _ => length.min(limit),
+    };
     let room = length.min(limit).saturating_add(1);
     let mut bytes = Vec::with_capacity(rt.alloc(), room as usize)?;
-    file.take(limit).read_to_end(&mut bytes)?;
+    file.take(most).read_to_end(&mut bytes)?;
     Ok(Bytes::from_vec(bytes))
 }
 
@@ -38,5 +43,5 @@ pub(crate) fn read_as_long<R: Files + AllocGlobal>(
     if file.metadata()?.len() != length {
         return Ok(None);
     }
-    Ok(Some(read_open(rt, file, length, length.saturating_add(1))?))
+    Ok(Some(read_open(rt, file, length, length)?))
 }

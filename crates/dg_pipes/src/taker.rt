@@ -9,6 +9,7 @@ use crate::item::{Item, Rule};
 use rtrb::Consumer;
 use std::alloc::Global;
 use std::sync::Wait;
+use std::thread;
 use std::time::{Clock, Duration, Instant};
 
 /// The longest sleep in milliseconds.
@@ -18,6 +19,9 @@ const TICK: u32 = 5;
 const STEP: u32 = 10;
 /// With so few items left in the ring the reader thread is woken.
 const FEW: usize = 32;
+/// How often the ring is looked at before the first sleep, about a tenth of a millisecond: the answer of a child that talks
+/// mostly comes by then, and nobody has to be woken for it.
+const LOOKS: u32 = 300;
 
 /// What was slept and not told yet, in microseconds: less than a step.
 #[derive(Clone, Copy, Default, Drop)]
@@ -26,15 +30,26 @@ pub struct Rest {
 }
 
 impl Rest {
-    // Sleeps until something came, for a tick at most. The milliseconds that passed, in whole steps,
-    // with what was left over before; or those of the limit that are left.
-    fn sleep(&mut self, rt: &(impl Wait + Clock), bells: &Bells, left: u32) -> u32
+    // Looks so often whether something came, and then sleeps until it does, for a tick at most. The
+    // milliseconds that passed, in whole steps, with what was left over before; or those of the limit
+    // that are left.
+    fn sleep(
+        &mut self,
+        rt: &(impl Wait + Clock),
+        ring: &mut Consumer<Item, Global, Rule>,
+        bells: &Bells,
+        looks: u32,
+        left: u32,
+    ) -> u32
+        ensures ring { SameConsumer ring.old ring.new × (received ring.new ≡ received ring.old) }
         ensures within { result ≤ left }
         ensures told { IsTold left result }
     {
         let tick = Duration::from_millis(u64::from(TICK.min(left)));
         let start = Instant::now(rt);
-        bells.came.park_timeout(rt, tick);
+        if !comes(ring, looks) {
+            bells.came.park_timeout(rt, tick);
+        }
         let slept = match start.map(|s| s.elapsed(rt)) {
             Ok(Ok(slept)) => slept,
             Ok(Err(_)) | Err(_) => tick,
@@ -49,6 +64,19 @@ impl Rest {
         self.micros = (past * 1000 + micros % 1000) as u32;
         (millis - past) as u32
     }
+}
+
+// Looks so often whether something came, and lets others run in between.
+fn comes(ring: &mut Consumer<Item, Global, Rule>, looks: u32) -> bool
+    ensures { SameConsumer ring.old ring.new × (received ring.new ≡ received ring.old) }
+{
+    for _ in 0..looks {
+        if !ring.is_empty() {
+            return true;
+        }
+        thread::yield_now();
+    }
+    false
 }
 
 /// The next item, as soon as it is there, within a limit in milliseconds, and how many of them
@@ -69,6 +97,7 @@ pub fn take(
     ensures none { IfNone result.1 ((received ring.new ≡ received ring.old) × (result.0 ≡ limit)) }
 {
     let mut waited = 0;
+    let mut looks = LOOKS;
     for _ in rt.forever() {
         if let Ok(item) = ring.pop() {
             if ring.slots() <= FEW {
@@ -79,7 +108,8 @@ pub fn take(
         if waited >= limit {
             return (limit, None);
         }
-        waited += rest.sleep(rt, bells, limit - waited);
+        waited += rest.sleep(rt, ring, bells, looks, limit - waited);
+        looks = 0;
     }
     unreachable!()
 }

@@ -8,8 +8,7 @@ use Rattle.dg_lists.specs.declared.kinds.Class.TheVariants as class
 use Rattle.dg_words.specs.declared.kinds.Level.{Level}
 use Rattle.dg_words.specs.declared.kinds.Level.TheVariants as level
 use Rattle.dg_lists.specs.declared.kinds.Context.{Context}
-use Rattle.dg_lists.specs.declared.kinds.Context.TheVariants.{Alone}
-use Rattle.dg_lists.specs.declared.kinds.Mode.TheVariants.{Start, Gap, Operand, Dollar}
+use Rattle.dg_lists.specs.declared.kinds.Mode.TheVariants.{Start, Gap, Operand}
 use Rattle.dg_lists.specs.declared.kinds.Target.{Target}
 use Rattle.dg_lists.specs.declared.kinds.Target.TheVariants as target
 use Rattle.dg_words.specs.declared.word.Parsed.{Parsed}
