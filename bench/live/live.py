@@ -4,7 +4,8 @@
 
 LOOP is loop.c, built. Shown are the least and the median of RUNS (15) whole runs, in milliseconds. A live run writes the transcripts
 into a folder that isn't there yet, or over those of an earlier run; how many of these it wrote anew is shown too, of the median and
-the worst of the runs."""
+the worst of the runs. Beside four jobs stand four processes of LOOP, which share the children, and beside a rejudging run `tclsh`,
+where that is there, which evaluates the same scripts with no child: its commands that would talk do nothing."""
 import os
 import pathlib
 import shutil
@@ -16,6 +17,7 @@ import time
 
 SCRIPTS = 100
 ROUNDS = 20
+JOBS = 4
 SCRIPT = """set timeout 10
 spawn cat
 set n 0
@@ -31,11 +33,18 @@ close
 pass "$n lines"
 """ % ROUNDS
 
+SILENT = """foreach it {spawn send close pass fail} {proc $it args {}}
+proc expect list {uplevel 1 [lindex $list 1]}
+foreach it [lsort [glob [lindex $argv 0]/*.exp]] {source $it}
+"""
 
-def timed(words):
-    """The milliseconds of a run, which has to end well."""
+
+def timed(words, processes=1):
+    """The milliseconds of a run, or of so many at once, which have to end well."""
     begun = time.perf_counter()
-    subprocess.run(words, check=True, stdout=subprocess.DEVNULL)
+    runs = [subprocess.Popen(words, stdout=subprocess.DEVNULL) for _ in range(processes)]
+    if any([it.wait() for it in runs]):
+        sys.exit(f"{words[0]} failed")
     return 1000 * (time.perf_counter() - begun)
 
 
@@ -61,12 +70,17 @@ def main(program, loop, runs=15):
         new, old = f"{room}/new", f"{room}/old"
         rows = {
             "the C program": [loop, str(SCRIPTS), str(ROUNDS)],
+            f"the C program, {JOBS} at once": [loop, str(SCRIPTS // JOBS), str(ROUNDS)],
             "live": run + [new],
-            "live, 4 jobs": run + [new, "--jobs", "4"],
+            f"live, {JOBS} jobs": run + [new, "--jobs", str(JOBS)],
             "live, over transcripts": run + [old],
-            "live, 4 jobs, over transcripts": run + [old, "--jobs", "4"],
+            f"live, {JOBS} jobs, over transcripts": run + [old, "--jobs", str(JOBS)],
             "rejudged": run + [old, "--rejudge"],
         }
+        if shutil.which("tclsh"):
+            with open(f"{room}/silent.tcl", "w") as script:
+                script.write(SILENT)
+            rows["tclsh, with no child"] = ["tclsh", f"{room}/silent.tcl", f"{room}/suite/t"]
         timed(run + [old])
         taken = {name: [] for name in rows}
         anew = {name: [] for name in rows if "over" in name}
@@ -74,7 +88,7 @@ def main(program, loop, runs=15):
             for name, words in rows.items():
                 shutil.rmtree(new, ignore_errors=True)
                 before = transcripts(old)
-                taken[name].append(timed(words))
+                taken[name].append(timed(words, JOBS if "at once" in name else 1))
                 if name in anew:
                     anew[name].append(len(transcripts(old).items() - before.items()))
                 if new in words:
