@@ -5,7 +5,7 @@
 LOOP is loop.c, built. Shown are the least and the median of RUNS (15) whole runs, in milliseconds. A live run writes the transcripts
 into a folder that isn't there yet, or over those of an earlier run; how many of these it wrote anew is shown too, of the median and
 the worst of the runs. Beside four jobs stand four processes of LOOP, which share the children, and beside a rejudging run `tclsh`,
-where that is there, which evaluates the same scripts with no child: its commands that would talk do nothing."""
+where that is there, which evaluates the same scripts with no child: each `expect` takes its first action, and nothing else is done."""
 import os
 import pathlib
 import shutil

@@ -1,6 +1,6 @@
 //! What the judging thread takes from a ring.
-ghost use Rattle.std.specs.Prelude.{◌≡◌, ◌≤◌, ◌++◌, [], ◌∷◌, IfSome, IfNone};
-ghost use Rattle.rtrb.specs.Ring.{received, SameConsumer};
+ghost use Rattle.std.specs.Prelude.{◌≡◌, ◌<◌, ◌≤◌, ◌⊎◌, ◌++◌, [], ◌∷◌, IfSome, IfNone, MatchBool, length};
+ghost use Rattle.rtrb.specs.Ring.{known_items, received, SameConsumer};
 ghost use Rattle.dg_pipes.specs.Items.{IsAllowed};
 ghost use Rattle.dg_pipes.specs.Waits.{IsTold};
 
@@ -68,7 +68,8 @@ impl Rest {
 
 // Looks so often whether something came, and lets others run in between.
 fn comes(ring: &mut Consumer<Item, Global, Rule>, looks: u32) -> bool
-    ensures { SameConsumer ring.old ring.new × (received ring.new ≡ received ring.old) }
+    ensures ring { SameConsumer ring.old ring.new × (received ring.new ≡ received ring.old) }
+    ensures found { MatchBool result (0 < length (known_items ring.new)) ((looks ≡ 0) ⊎ (length (known_items ring.new) ≡ 0)) }
 {
     for _ in 0..looks {
         if !ring.is_empty() {
