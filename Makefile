@@ -20,11 +20,11 @@ demo: $(PROGRAM)
 
 # The merge gate: every proof from nothing, the edits that must fail, the tests and the program.
 check:
-	RT_JOBS=$${RT_JOBS:-$$(sh tests/gate/lanes.sh)} $(RT) ci
+	RT="$(RT)" RT_JOBS=$${RT_JOBS:-$$(sh tests/gate/lanes.sh)} python3 tests/gate/check.py
 
 # The merge gate, and docs/TIMES.md: the processor seconds of each crate's proof, tests and wrong bodies.
 times:
-	RT_JOBS=$${RT_JOBS:-$$(sh tests/gate/lanes.sh)} python3 tests/gate/times.py
+	RT="$(RT)" RT_JOBS=$${RT_JOBS:-$$(sh tests/gate/lanes.sh)} python3 tests/gate/times.py
 
 # Tries the wrong bodies that the gate leaves out.
 wrong-bodies:

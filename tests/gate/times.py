@@ -2,12 +2,12 @@
 """Runs the gate and writes docs/TIMES.md anew up to its first heading of the second level: how many processor seconds each crate
 took for its proof, its tests and its wrong bodies.
 
-    python3 tests/gate/times.py              runs `rt ci` at the top of the repository
+    python3 tests/gate/times.py              runs tests/gate/check.py at the top of the repository
     python3 tests/gate/times.py WORD ..      runs another command in its place, as `rt must-fail dg_glob`, and prints the table
 
 Every quarter of a second it adds up what the prover's processes below the command have taken (their own time, and that of the children
 that they have waited for). Whose time it is says the command line: `--crate-name`, and `--test` for tests; wrong bodies are
-checked in a folder of their own, `rt-edit-..`.
+checked in folders of their own, `rt-edit-..` by `rt ci` and `wrong-bodies...` behind it.
 """
 import os
 import resource
@@ -45,7 +45,7 @@ class Process:
         return self.words[self.words.index("--crate-name") + 1]
 
     def kind(self):
-        if "/rt-edit-" in f"{self.folder}/":
+        if "/rt-edit-" in self.folder or "/wrong-bodies." in self.folder:
             return "wrong bodies"
         return "tests" if "--test" in self.words else "proof"
 
@@ -90,11 +90,17 @@ class Times:
         return seconds
 
 
+def named(file):
+    """What the lines of a file name, each with the words behind its colon."""
+    lines = (line.partition(":") for line in (TOP / file).read_text().splitlines() if not line.startswith("#"))
+    return {name.split()[0]: words.split() for name, _, words in lines if name.strip()}
+
+
 def crates():
-    """The crates in the order of crates.txt, each with how many wrong bodies it has."""
-    lines = (TOP / "crates.txt").read_text().splitlines()
-    names = [line.split(":")[0].split()[0] for line in lines if ":" in line and not line.startswith("#")]
-    return {name: len(list((TOP / "crates" / name / "must-fail").glob("*.edit"))) for name in names}
+    """The crates in the order of crates.txt, each with how many of its wrong bodies the gate tries."""
+    behind = named("tests/wrong-bodies/gate.txt")
+    of_rt = {name: list((TOP / "crates" / name / "must-fail").glob("*.edit")) for name in named("crates.txt")}
+    return {name: len(edits) + len(behind.get(name, [])) for name, edits in of_rt.items()}
 
 
 def table(seconds, total):
@@ -121,7 +127,7 @@ def page(rows, minutes):
     commit = subprocess.run(["git", "rev-parse", "--short", "HEAD"], cwd=TOP, capture_output=True, text=True, check=False).stdout.strip()
     return f"""# Times of the gate
 
-Processor seconds of one run of `rt ci` ({os.cpu_count()} processors, {minutes:.0f} minutes; commit {commit}; {kit}), as `make times` measures and writes them.
+Processor seconds of one run of the gate ({os.cpu_count()} processors, {minutes:.0f} minutes; commit {commit}; {kit}), as `make times` measures and writes them.
 
 {rows}
 """
@@ -129,7 +135,7 @@ Processor seconds of one run of `rt ci` ({os.cpu_count()} processors, {minutes:.
 
 def main(words):
     begun = time.time()
-    gate = subprocess.Popen(words or ["rt", "ci"], cwd=None if words else TOP)
+    gate = subprocess.Popen(words or [sys.executable, TOP / "tests/gate/check.py"], cwd=None if words else TOP)
     times = Times()
     while gate.poll() is None:
         times.look(gate.pid)

@@ -130,20 +130,21 @@ def verdict(said, function):
     return "refused"
 
 
-def main():
-    if len(sys.argv) < 2:
-        sys.exit(__doc__)
-    crate, names = sys.argv[1], sys.argv[2:]
+def bodies(crate, names):
+    """These wrong bodies of a crate, or all that stand in its folder `wrong-bodies`."""
     folder = TOP / "crates" / crate
     kept = folder / "wrong-bodies"
     paths = [kept / f"{it}.edit" for it in names] or sorted(kept.glob("*.edit"))
-    refused = True
+    return [read(folder, it) for it in paths]
+
+
+def tried(crate, edits):
+    """Tries wrong bodies of a crate, and gives each with what came of it: `refused`, or why not."""
+    folder = TOP / "crates" / crate
+    for edit in (it for it in edits if not it.function):
+        yield edit, "UNDECIDED: it edits no function"
+    waiting = batches([it for it in edits if it.function])
     with tempfile.TemporaryDirectory(prefix="wrong-bodies.") as scratch:
-        edits = [read(folder, it) for it in paths]
-        for edit in (it for it in edits if not it.function):
-            refused = False
-            print(f"{crate}/{edit.name}: UNDECIDED: it edits no function")
-        waiting = batches([it for it in edits if it.function])
         while waiting:
             batch = waiting.pop(0)
             edited(folder, Path(scratch), batch)
@@ -153,9 +154,18 @@ def main():
                 told = verdict(said, edit.function)
                 if told.startswith("UNDECIDED") and len(batch) > 1:
                     waiting.append([edit])
-                    continue
-                refused = refused and told == "refused"
-                print(f"{crate}/{edit.name}: {told}", flush=True)
+                else:
+                    yield edit, told
+
+
+def main():
+    if len(sys.argv) < 2:
+        sys.exit(__doc__)
+    crate, names = sys.argv[1], sys.argv[2:]
+    refused = True
+    for edit, told in tried(crate, bodies(crate, names)):
+        refused = refused and told == "refused"
+        print(f"{crate}/{edit.name}: {told}", flush=True)
     sys.exit(0 if refused else 1)
 
 

@@ -19,7 +19,7 @@ use Rattle.dg_machine.specs.declared.frame.Pace.{Pace}
 use Rattle.dg_machine.specs.declared.frame.Pace.TheVariants.{Moved, Stands, Over, Lost}
 use Rattle.dg_machine.specs.declared.machine.Machine.{Machine}
 use Rattle.dg_machine.specs.Lost.{HasReadPattern}
-use Rattle.dg_machine.specs.Meaning.{all_back, weight, weight_of, stack_weight, frame_weight, Goes, Opens}
+use Rattle.dg_machine.specs.Meaning.{all_back, weight, weight_of, stack_weight, frame_weight, Goes, RunsAs}
 use Rattle.dg_machine.specs.Opening.{Holds}
 use Rattle.dg_machine.proofs.StepLemmas.{Tries-along}
 
@@ -37,19 +37,19 @@ module _ (n : List ℕ) (s : State) where
 
 -- what asks nothing has opened
 pub Goes-opens : (p : Pace) (f : State → Then → Play Ending) (w v : ℕ) (play : Play Ending) (known : List Read) (old new : Machine) → Goes play known v new p
-    → f old.state (all_back old.stack) ≡ play → known ≡ old.state.known → v ≤ weight_of old + w → Opens f w old new p
+    → f old.state (all_back old.stack) ≡ play → known ≡ old.state.known → v ≤ weight_of old + w → RunsAs f w old new p
 Goes-opens Moved f w v play known old new h e g l = (h.0 ∙ sym e, h.1 ∙ g, (let m : weight_of new < v = h.2 in omega arith))
 Goes-opens (Stands q) f w v play known old new h e g l = absurd h
 Goes-opens (Over x) f w v play known old new h e g l = (e ∙ h.0, h.1 ∙ g)
 Goes-opens Lost f w v play known old new h e g l = subst HasReadPattern g h
 
 -- what has opened here has opened from an equal meaning, now and at another try
-pub Opens-along : (p : Pace) (f g : State → Then → Play Ending) (w v : ℕ) (old new : Machine) → Opens g v old new p
+pub Runs-along : (p : Pace) (f g : State → Then → Play Ending) (w v : ℕ) (old new : Machine) → RunsAs g v old new p
     → f old.state (all_back old.stack) ≡ g old.state (all_back old.stack)
     → ((q : Question) (a : Answer) (s : State)
     → f (learn q a (with_begun old.state s)) (all_back old.stack) ≡ g (learn q a (with_begun old.state s)) (all_back old.stack))
-    → v ≤ w → Opens f w old new p
-Opens-along p f g w v old new h e again l =
+    → v ≤ w → RunsAs f w old new p
+Runs-along p f g w v old new h e again l =
     Tries-along p (g old.state (all_back old.stack)) (f old.state (all_back old.stack)) (λ s. g s (all_back old.stack)) (λ s. f s (all_back old.stack)) v w old new
     h e again l
 

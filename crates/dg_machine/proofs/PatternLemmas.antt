@@ -24,7 +24,7 @@ use Rattle.dg_machine.specs.Lost.{HasReadPattern}
 use Rattle.dg_machine.specs.Patterns.{AreRead, Knows}
 use Rattle.dg_machine.specs.declared.frame.Pace.{Pace}
 use Rattle.dg_machine.specs.declared.machine.Machine.{Machine}
-use Rattle.dg_machine.specs.Meaning.{all_back, weight_of, Goes, RunsAs}
+use Rattle.dg_machine.specs.Meaning.{all_back, weight_of, Goes, command_weight, RunsAs}
 use Rattle.dg_machine.proofs.StepLemmas.{Goes-runs}
 
 -- ---- one pattern
@@ -165,7 +165,7 @@ module _ (args : List (List ℕ)) (m : Search) (e : Ok m ≡ regexp_words args) 
 
 -- `regexp` has come to what it means, and asked nothing
 pub regexp-runs : (args : List (List ℕ)) (play : Play Ending) (old new : Machine) (p : Pace) (v : ℕ) → Goes play old.state.known v new p
-    → do_regexp args old.state (all_back old.stack) ≡ play → v ≤ weight_of old + 2 ^ 250 → RunsAs (do_regexp args) old new p
+    → do_regexp args old.state (all_back old.stack) ≡ play → v ≤ weight_of old + 2 ^ 250 → RunsAs (do_regexp args) command_weight old new p
 regexp-runs args play old new p v h e l =
     Goes-runs p play (do_regexp args old.state (all_back old.stack)) (λ s. do_regexp args s (all_back old.stack)) old.state.known v old new h e refl l
 

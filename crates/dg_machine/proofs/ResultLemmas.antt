@@ -8,7 +8,7 @@ use Rattle.dg_language.specs.State.{State}
 use Rattle.dg_language.specs.Evaluation.{Ending, Then}
 use Rattle.dg_machine.specs.declared.frame.Pace.{Pace}
 use Rattle.dg_machine.specs.declared.machine.Machine.{Machine}
-use Rattle.dg_machine.specs.Meaning.{all_back, weight_of, Comes, Goes, Opens, Tries}
+use Rattle.dg_machine.specs.Meaning.{all_back, weight_of, Comes, Goes, RunsAs, Tries}
 use Rattle.dg_machine.proofs.MachineLemmas.{Goes-along, Goes-comes}
 use Rattle.dg_machine.proofs.LoopLemmas.{Goes-on}
 use Rattle.dg_machine.proofs.GatherLemmas.{Comes-along}
@@ -37,5 +37,5 @@ module _ {E : Type 0} (r : Result Pace E) where
   Goes-runs-ok play play' again known w old new h e f l = IfOk-weaker r _ _ (λ p g. Goes-runs p play play' again known w old new g e f l) h
 
   pub Goes-opens-ok : (f : State → Then → Play Ending) (w v : ℕ) (play : Play Ending) (known : List Read) (old new : Machine) → IfOk r (Goes play known v new)
-      → f old.state (all_back old.stack) ≡ play → known ≡ old.state.known → v ≤ weight_of old + w → IfOk r (Opens f w old new)
+      → f old.state (all_back old.stack) ≡ play → known ≡ old.state.known → v ≤ weight_of old + w → IfOk r (RunsAs f w old new)
   Goes-opens-ok f w v play known old new h e g l = IfOk-weaker r _ _ (λ p j. Goes-opens p f w v play known old new j e g l) h

@@ -32,7 +32,7 @@ use Rattle.dg_machine.specs.declared.frame.Pace.{Pace}
 use Rattle.dg_machine.specs.declared.frame.Pace.TheVariants.{Moved, Over}
 use Rattle.dg_machine.specs.declared.machine.Machine.{Machine}
 use Rattle.dg_machine.specs.Acting.{UsesOne, acting, naming, told_after, after_weight}
-use Rattle.dg_machine.specs.Meaning.{all_back, ends_with, go, rest, weight_of, weight, Comes, Goes, Readies, RunsAs}
+use Rattle.dg_machine.specs.Meaning.{all_back, ends_with, go, rest, weight_of, weight, Comes, Goes, Readies, command_weight, RunsAs}
 use Rattle.dg_machine.specs.Performing.{Performs}
 use Rattle.dg_machine.proofs.AttemptLemmas.{weight-kept}
 use Rattle.dg_machine.proofs.GatherLemmas.{weight-same}
@@ -65,7 +65,7 @@ weight-uses s t c fs u =
 pub sought-runs : (fit : Fit) (id : Option (List ℕ)) (n v : ℕ) (f : ℕ → State → Then → Play Ending) (old mid new : Machine) (p : Pace)
     → mid ≡ record old { state = mid.state } → Seeks fit id old.state mid.state (Ok n)
     → Goes (f n mid.state (all_back mid.stack)) mid.state.known v new p → v ≤ weight_of mid + 2 ^ 250
-    → RunsAs (λ s k. on_session (fit_of fit) id s k (λ m t. f m t k)) old new p
+    → RunsAs (λ s k. on_session (fit_of fit) id s k (λ m t. f m t k)) command_weight old new p
 sought-runs fit id n v f old mid new p e h g l =
     let k = all_back old.stack in
     let stack = ap (λ (x : Machine). x.stack) e in
@@ -77,13 +77,13 @@ sought-runs fit id n v f old mid new p e h g l =
 
 -- a command that is another one, which asks nothing
 pub goes-as : (f g : State → Then → Play Ending) (old new : Machine) (p : Pace) (v : ℕ) → Goes (g old.state (all_back old.stack)) old.state.known v new p
-    → f ≡ g → v ≤ weight_of old + 2 ^ 250 → RunsAs f old new p
+    → f ≡ g → v ≤ weight_of old + 2 ^ 250 → RunsAs f command_weight old new p
 goes-as f g old new p v h e l =
     Goes-runs p (g old.state (all_back old.stack)) (f old.state (all_back old.stack)) (λ s. f s (all_back old.stack)) old.state.known v old new h
     (ap (λ (x : State → Then → Play Ending). x old.state (all_back old.stack)) e) refl l
 
 pub fault-runs : (f : State → Then → Play Ending) (why : List ℕ) (old new : Machine) (p : Pace) (v : ℕ) → Goes (fail why old.state (all_back old.stack)) old.state.known v new p
-    → f ≡ fail why → v ≤ weight_of old + 2 ^ 250 → RunsAs f old new p
+    → f ≡ fail why → v ≤ weight_of old + 2 ^ 250 → RunsAs f command_weight old new p
 fault-runs f why old new p v h e l = goes-as f (fail why) old new p v h e l
 
 -- ---- send, close, wait

@@ -23,7 +23,7 @@ use Rattle.dg_machine.specs.declared.frame.Pace.{Pace}
 use Rattle.dg_machine.specs.declared.frame.Pace.TheVariants.{Moved, Stands, Over, Lost}
 use Rattle.dg_machine.specs.declared.machine.Machine.{Machine}
 use Rattle.dg_machine.specs.Lost.{HasReadPattern}
-use Rattle.dg_machine.specs.Meaning.{all_back, weight_of, ends_with, outside_code, outside_value, Goes, Tries, RunsAs}
+use Rattle.dg_machine.specs.Meaning.{all_back, weight_of, ends_with, outside_code, outside_value, Goes, Tries, command_weight, RunsAs}
 
 -- a command that asks nothing has run
 pub Goes-runs : (p : Pace) (play play' : Play Ending) (again : State → Play Ending) (known : List Read) (w : ℕ) (old new : Machine) → Goes play known w new p
@@ -34,8 +34,8 @@ Goes-runs (Over v) play play' again known w old new h e f l = (e ∙ h.0, h.1 �
 Goes-runs Lost play play' again known w old new h e f l = subst HasReadPattern f h
 
 -- a command that is another one has run as it
-pub runs-as : (old new : Machine) (f g : State → Then → Play Ending) (p : Pace) → RunsAs g old new p → f ≡ g → RunsAs f old new p
-runs-as old new f g p h e = subst (λ x. RunsAs x old new p) (sym e) h
+pub runs-as : (old new : Machine) (f g : State → Then → Play Ending) (p : Pace) → RunsAs g command_weight old new p → f ≡ g → RunsAs f command_weight old new p
+runs-as old new f g p h e = subst (λ x. RunsAs x command_weight old new p) (sym e) h
 
 -- how an end reads outside
 pub outside-reads : (k : Then) (c : Code) (v : List ℕ) (s : State) → outside k c v s ≡ k (outside_code c) (outside_value c v) s
@@ -80,7 +80,7 @@ on_board-learned q a s t = refl
 
 -- a command that was looked up by its name
 pub by-table-as : (d : ℕ) (n : List ℕ) (args : List (List ℕ)) (o : Option Builtin) (old new : Machine) (p : Pace) → o ≡ usable old.state.on_board (builtin_of n)
-    → RunsAs (known_command (evaluate d) o n args) old new p → RunsAs (by_table d n args) old new p
+    → RunsAs (known_command (evaluate d) o n args) command_weight old new p → RunsAs (by_table d n args) command_weight old new p
 by-table-as d n args o old new p e g =
     let k = all_back old.stack in
     Tries-along p (known_command (evaluate d) o n args old.state k) (by_table d n args old.state k)
@@ -89,8 +89,8 @@ by-table-as d n args o old new p e g =
     (omega arith)
 
 pub command-known-as : (d : ℕ) (words : List (List ℕ)) (n : List ℕ) (args : List (List ℕ)) (old new : Machine) (p : Pace) → words ≡ n ∷ args
-    → names.get old.state.procedures n ≡ None → RunsAs (by_table d n args) old new p
-    → RunsAs (command (evaluate d) words) old new p
+    → names.get old.state.procedures n ≡ None → RunsAs (by_table d n args) command_weight old new p
+    → RunsAs (command (evaluate d) words) command_weight old new p
 command-known-as d words n args old new p e h g =
     let k = all_back old.stack in
     Tries-along p (by_table d n args old.state k) (command (evaluate d) words old.state k)

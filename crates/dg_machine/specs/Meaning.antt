@@ -218,13 +218,13 @@ Tries play again w old new (Stands ask) =
 Tries play again w old new (Over c) = (play ≡ ends_with c new.state) × (new.state.known ≡ old.state.known)
 Tries play again w old new Lost = HasReadPattern old.state.known
 
--- What a machine came to open, or to run: it has gone on with so much weight more, or a question stands.
-abbrev pub Opens : (State → Then → Play Ending) → ℕ → Machine → Machine → Pace → Type 0
-Opens f w old new p = Tries (f old.state (all_back old.stack)) (λ s. f s (all_back old.stack)) w old new p
+-- the weight of a command whose words are made
+abbrev pub command_weight : ℕ
+command_weight = 2 ^ 250
 
--- so it is of a command, with the weight of one whose words are made
-abbrev pub RunsAs : (State → Then → Play Ending) → Machine → Machine → Pace → Type 0
-RunsAs f old new p = Opens f (2 ^ 250) old new p
+-- What a machine came to run: it has gone on with so much weight more, or a question stands.
+abbrev pub RunsAs : (State → Then → Play Ending) → ℕ → Machine → Machine → Pace → Type 0
+RunsAs f w old new p = Tries (f old.state (all_back old.stack)) (λ s. f s (all_back old.stack)) w old new p
 
 -- how the code and the value with which a procedure or a file ends read outside of it
 abbrev pub outside_code : Code → Code

@@ -8,7 +8,7 @@ ghost use Rattle.dg_language.specs.Variables.{do_unset, do_variable, unset_all};
 ghost use Rattle.dg_asking.specs.Attempts.{Attempts, EndsAs};
 ghost use Rattle.dg_machine.specs.declared.frame.Control.{Control};
 ghost use Rattle.dg_machine.specs.declared.machine.Machine.{Machine};
-ghost use Rattle.dg_machine.specs.Meaning.{all_back, weight, weight_of, Comes, Goes, RunsAs};
+ghost use Rattle.dg_machine.specs.Meaning.{all_back, weight, weight_of, Comes, Goes, command_weight, RunsAs};
 
 use crate::frame::{Frame, Pace, plain_ask};
 use crate::gather::push_all;
@@ -44,7 +44,7 @@ impl Machine {
         requires { self.old.control ≡ Control.Go }
         ensures { IfOk result (λ p. (f : State → Then → Play Ending) (old : Machine)
             → self.old ≡ record old { state = self.old.state } → Attempts f old.state self.old.state attempt
-            → RunsAs f old self.new p) }
+            → RunsAs f command_weight old self.new p) }
     {
         match attempt {
             Attempt::Ends(outcome) => self.end_as(alloc, outcome),
@@ -63,7 +63,7 @@ impl Machine {
         args: &[Bytes],
     ) -> Result<Pace, AllocError>
         requires { self.old.control ≡ Control.Go }
-        ensures { IfOk result (RunsAs (do_target which args.now) self.old self.new) }
+        ensures { IfOk result (RunsAs (do_target which args.now) command_weight self.old self.new) }
     {
         let attempt = run_target(alloc, &self.state, which, args)?;
         self.come_of(alloc, attempt)
@@ -77,7 +77,7 @@ impl Machine {
         args: &[Bytes],
     ) -> Result<Pace, AllocError>
         requires { self.old.control ≡ Control.Go }
-        ensures { IfOk result (RunsAs (do_flag which args.now) self.old self.new) }
+        ensures { IfOk result (RunsAs (do_flag which args.now) command_weight self.old self.new) }
     {
         let attempt = run_flag(alloc, &mut self.state, which, args)?;
         self.come_of(alloc, attempt)
@@ -91,7 +91,7 @@ impl Machine {
         args: &[Bytes],
     ) -> Result<Pace, AllocError>
         requires { self.old.control ≡ Control.Go }
-        ensures { IfOk result (RunsAs (do_variable which args.now) self.old self.new) }
+        ensures { IfOk result (RunsAs (do_variable which args.now) command_weight self.old self.new) }
     {
         match run_variable(alloc, &mut self.state, which, args)? {
             Some(attempt) => self.come_of(alloc, attempt),
@@ -103,7 +103,7 @@ impl Machine {
     #[tactic(auto, unfolding(dg_language::specs::Variables::do_unset, crate::specs::Meaning::rest, crate::specs::Meaning::go, crate::specs::Meaning::weight, crate::specs::Meaning::stack_weight))]
     fn unset(&mut self, alloc: Global, args: &[Bytes]) -> Result<Pace, AllocError>
         requires { self.old.control ≡ Control.Go }
-        ensures { IfOk result (RunsAs (do_unset args.now) self.old self.new) }
+        ensures { IfOk result (RunsAs (do_unset args.now) command_weight self.old self.new) }
     {
         let (complains, names) = unset_names(args);
         // The call shows the proof that the length is a `usize`.

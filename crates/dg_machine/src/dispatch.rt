@@ -6,7 +6,7 @@ ghost use Rattle.dg_language.specs.Immediate.{immediate};
 ghost use Rattle.dg_language.specs.Builtins.{builtin_of, usable};
 ghost use Rattle.dg_language.specs.Language.{builtin, pure_value, known_command, command, used, evaluate};
 ghost use Rattle.dg_machine.specs.declared.frame.Control.{Control};
-ghost use Rattle.dg_machine.specs.Meaning.{all_back, weight_of, budget, Comes, RunsAs, GoesAs};
+ghost use Rattle.dg_machine.specs.Meaning.{all_back, weight_of, budget, Comes, command_weight, RunsAs, GoesAs};
 
 use crate::frame::{Frame, Pace};
 use crate::machine::Machine;
@@ -48,7 +48,7 @@ impl Machine {
         depth: u32,
     ) -> Result<Pace, AllocError>
         requires { self.old.control ≡ Control.Go }
-        ensures { IfOk result (RunsAs (builtin (evaluate depth) which args.now) self.old self.new) }
+        ensures { IfOk result (RunsAs (builtin (evaluate depth) which args.now) command_weight self.old self.new) }
     {
         match which {
             Builtin::Immediate(which) => self.immediate(alloc, which, args),
@@ -98,7 +98,7 @@ impl Machine {
     ) -> Result<Pace, AllocError>
         requires { self.old.control ≡ Control.Go }
         ensures { IfOk result (RunsAs
-            (λ s k. known_command (evaluate depth) (usable s.on_board (builtin_of name.now)) name.now args.now s k)
+            (λ s k. known_command (evaluate depth) (usable s.on_board (builtin_of name.now)) name.now args.now s k) command_weight
             self.old self.new) }
     {
         match find_builtin(self.state.is_on_board(), name) {
@@ -112,7 +112,7 @@ impl Machine {
     #[tactic(auto, unfolding(dg_language::specs::Language::command, crate::specs::Meaning::rest, crate::specs::Meaning::weight))]
     fn command(&mut self, alloc: Global, words: &[Bytes], depth: u32) -> Result<Pace, AllocError>
         requires { self.old.control ≡ Control.Go }
-        ensures { IfOk result (RunsAs (command (evaluate depth) words.now) self.old self.new) }
+        ensures { IfOk result (RunsAs (command (evaluate depth) words.now) command_weight self.old self.new) }
     {
         let Some((name, args)) = split(words) else {
             self.end(Code::Done, Bytes::new(alloc));

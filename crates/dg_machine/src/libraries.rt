@@ -4,7 +4,7 @@ ghost use Rattle.dg_language.specs.Boards.{after_library, do_load_lib, library_f
 ghost use Rattle.dg_language.specs.Evaluation.{fail};
 ghost use Rattle.dg_language.specs.Language.{evaluate};
 ghost use Rattle.dg_machine.specs.declared.frame.Control.{Control};
-ghost use Rattle.dg_machine.specs.Meaning.{all_back, weight_of, Goes, RunsAs, GoesAs};
+ghost use Rattle.dg_machine.specs.Meaning.{all_back, weight_of, Goes, command_weight, RunsAs, GoesAs};
 
 use crate::frame::{FileText, Frame, Pace, plain_ask};
 use crate::machine::Machine;
@@ -35,7 +35,7 @@ impl Machine {
     ) -> Result<Pace, AllocError>
         requires go { self.old.control ≡ Control.Go }
         requires file { file.now ≡ library_file library.now }
-        ensures { IfOk result (RunsAs (load (evaluate depth) library.now) self.old self.new) }
+        ensures { IfOk result (RunsAs (load (evaluate depth) library.now) command_weight self.old self.new) }
     {
         if self.state.has_begun(file.as_slice()) {
             self.end(Code::Done, Bytes::new(alloc));
@@ -67,7 +67,7 @@ impl Machine {
         depth: u32,
     ) -> Result<Pace, AllocError>
         requires { self.old.control ≡ Control.Go }
-        ensures { IfOk result (RunsAs (do_load_lib (evaluate depth) args.now) self.old self.new) }
+        ensures { IfOk result (RunsAs (do_load_lib (evaluate depth) args.now) command_weight self.old self.new) }
     {
         let Some(library) = only(args) else {
             return self.wrong_count(alloc, b"load_lib");

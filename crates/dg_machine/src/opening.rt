@@ -3,7 +3,7 @@ ghost use Rattle.std.specs.Prelude.{◌≡◌, ◌+◌, ◌<◌, IfOk};
 ghost use Rattle.dg_language.specs.Evaluation.{outside};
 ghost use Rattle.dg_language.specs.Judge.{after_file, first_file, leave_board, open_script, open_tool};
 ghost use Rattle.dg_machine.specs.declared.frame.Control.{Control};
-ghost use Rattle.dg_machine.specs.Meaning.{all_back, weight_of, Comes, Goes, Opens};
+ghost use Rattle.dg_machine.specs.Meaning.{all_back, weight_of, Comes, Goes, RunsAs};
 ghost use Rattle.dg_machine.specs.Opening.{open_next, opening_weight, Holds};
 
 use crate::frame::{FileText, Frame, Opening, Pace, plain_ask};
@@ -33,7 +33,7 @@ impl Machine {
     /// A file that need not be there is evaluated, before the next is opened.
     fn open_first(&mut self, alloc: Global, name: Bytes, next: Opening) -> Result<Pace, AllocError>
         requires { self.old.control ≡ Control.Go }
-        ensures { IfOk result (Opens (first_file name (open_next next)) (opening_weight next + 6) self.old self.new) }
+        ensures { IfOk result (RunsAs (first_file name (open_next next)) (opening_weight next + 6) self.old self.new) }
     {
         if !is_name(name.as_slice()) {
             self.stack.push(Frame::Opening { what: next })?;
@@ -59,7 +59,7 @@ impl Machine {
     #[tactic(auto, unfolding(dg_language::specs::Judge::leave_board, dg_language::specs::State::with_board_made, crate::specs::Meaning::rest, crate::specs::Meaning::go, crate::specs::Meaning::weight, crate::specs::Meaning::stack_weight))]
     fn leave_board(&mut self, alloc: Global) -> Result<Pace, AllocError>
         requires { self.old.control ≡ Control.Go }
-        ensures { IfOk result (Opens leave_board (opening_weight Opening.AfterBoard) self.old self.new) }
+        ensures { IfOk result (RunsAs leave_board (opening_weight Opening.AfterBoard) self.old self.new) }
     {
         self.state.leave_board(alloc);
         self.stack.push(Frame::Opening {
@@ -71,7 +71,7 @@ impl Machine {
     /// The tool's library comes next, and counts as loaded.
     fn open_tool(&mut self, alloc: Global) -> Result<Pace, AllocError>
         requires { self.old.control ≡ Control.Go }
-        ensures { IfOk result (Opens open_tool (opening_weight Opening.Tool) self.old self.new) }
+        ensures { IfOk result (RunsAs open_tool (opening_weight Opening.Tool) self.old self.new) }
     {
         let Some(answer) = self.state.answer_to(&Question::Tool) else {
             let ask = plain_ask(alloc, Question::Tool)?;
@@ -88,7 +88,7 @@ impl Machine {
     /// The script is evaluated.
     fn open_script(&mut self, alloc: Global) -> Result<Pace, AllocError>
         requires { self.old.control ≡ Control.Go }
-        ensures { IfOk result (Opens open_script (opening_weight Opening.Script) self.old self.new) }
+        ensures { IfOk result (RunsAs open_script (opening_weight Opening.Script) self.old self.new) }
     {
         match self.text_of(alloc, self.state.test().script())? {
             FileText::Unanswered(question) => {
@@ -106,7 +106,7 @@ impl Machine {
     /// What is opened next, as far as its question is answered.
     fn open_next(&mut self, alloc: Global, what: &Opening) -> Result<Pace, AllocError>
         requires { self.old.control ≡ Control.Go }
-        ensures { IfOk result (Opens (open_next what.now) (opening_weight what.now) self.old self.new) }
+        ensures { IfOk result (RunsAs (open_next what.now) (opening_weight what.now) self.old self.new) }
     {
         match what {
             Opening::Board => {

@@ -7,7 +7,7 @@ ghost use Rattle.dg_language.specs.Control.{behind_first, head_or_empty};
 ghost use Rattle.dg_language.specs.Matching.{do_regexp, write_found};
 ghost use Rattle.dg_machine.specs.declared.frame.Control.{Control};
 ghost use Rattle.dg_machine.specs.Giving.{giving};
-ghost use Rattle.dg_machine.specs.Meaning.{all_back, weight_of, Comes, Goes, RunsAs};
+ghost use Rattle.dg_machine.specs.Meaning.{all_back, weight_of, Comes, Goes, command_weight, RunsAs};
 ghost use Rattle.dg_machine.specs.Patterns.{AreRead};
 
 use crate::frame::{Frame, Pace, plain_ask};
@@ -29,7 +29,7 @@ impl Machine {
     #[tactic(auto, unfolding(dg_language::specs::Matching::do_regexp))]
     pub(crate) fn regexp(&mut self, alloc: Global, args: &[Bytes]) -> Result<Pace, AllocError>
         requires { self.old.control ≡ Control.Go }
-        ensures { IfOk result (RunsAs (do_regexp args.now) self.old self.new) }
+        ensures { IfOk result (RunsAs (do_regexp args.now) command_weight self.old self.new) }
     {
         let search = match regexp_words(alloc, args)? {
             Ok(search) => search,

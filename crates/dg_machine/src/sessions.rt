@@ -3,7 +3,7 @@ ghost use Rattle.std.specs.Prelude.{◌≡◌, ◌+◌, ◌<◌, IfOk};
 ghost use Rattle.dg_language.specs.Sessions.{close_and_wait, do_close, do_match_max, do_send, do_session, do_spawn, do_wait, send_to, start};
 ghost use Rattle.dg_machine.specs.declared.frame.Control.{Control};
 ghost use Rattle.dg_machine.specs.Acting.{acting, after_weight};
-ghost use Rattle.dg_machine.specs.Meaning.{all_back, weight_of, Goes, RunsAs, GoesAs};
+ghost use Rattle.dg_machine.specs.Meaning.{all_back, weight_of, Goes, command_weight, RunsAs, GoesAs};
 
 use crate::frame::{Acting, After, Frame, Pace};
 use crate::gather::push_all;
@@ -96,7 +96,7 @@ impl Machine {
     /// `send text`.
     fn send(&mut self, alloc: Global, args: &[Bytes]) -> Result<Pace, AllocError>
         requires { self.old.control ≡ Control.Go }
-        ensures { IfOk result (RunsAs (do_send args.now) self.old self.new) }
+        ensures { IfOk result (RunsAs (do_send args.now) command_weight self.old self.new) }
     {
         match send_words(alloc, args)? {
             Ok((id, text)) => match seek_session(alloc, &mut self.state, Fit::Open, id)? {
@@ -110,7 +110,7 @@ impl Machine {
     /// `close`.
     fn close(&mut self, alloc: Global, args: &[Bytes]) -> Result<Pace, AllocError>
         requires { self.old.control ≡ Control.Go }
-        ensures { IfOk result (RunsAs (do_close args.now) self.old self.new) }
+        ensures { IfOk result (RunsAs (do_close args.now) command_weight self.old self.new) }
     {
         match id_words(alloc, b"close", args)? {
             Ok(id) => match seek_session(alloc, &mut self.state, Fit::Open, id)? {
@@ -136,7 +136,7 @@ impl Machine {
     /// `wait`.
     fn wait(&mut self, alloc: Global, args: &[Bytes]) -> Result<Pace, AllocError>
         requires { self.old.control ≡ Control.Go }
-        ensures { IfOk result (RunsAs (do_wait args.now) self.old self.new) }
+        ensures { IfOk result (RunsAs (do_wait args.now) command_weight self.old self.new) }
     {
         match id_words(alloc, b"wait", args)? {
             Ok(id) => match seek_session(alloc, &mut self.state, Fit::Waitable, id)? {
@@ -150,7 +150,7 @@ impl Machine {
     /// `match_max`.
     fn match_max(&mut self, alloc: Global, args: &[Bytes]) -> Result<Pace, AllocError>
         requires { self.old.control ≡ Control.Go }
-        ensures { IfOk result (RunsAs (do_match_max args.now) self.old self.new) }
+        ensures { IfOk result (RunsAs (do_match_max args.now) command_weight self.old self.new) }
     {
         let attempt = run_match_max(alloc, &mut self.state, args)?;
         self.come_of(alloc, attempt)
@@ -164,7 +164,7 @@ impl Machine {
         args: &[Bytes],
     ) -> Result<Pace, AllocError>
         requires { self.old.control ≡ Control.Go }
-        ensures { IfOk result (RunsAs (do_session which args.now) self.old self.new) }
+        ensures { IfOk result (RunsAs (do_session which args.now) command_weight self.old self.new) }
     {
         match which {
             SessionCommand::Spawn => self.spawn(alloc, args),

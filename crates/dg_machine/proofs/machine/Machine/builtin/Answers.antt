@@ -8,3 +8,12 @@ returns-in-Target c = rw c.in-Target.is c.target.ensures
 
 pub returns-in-Session : goal.returns-in-Session
 returns-in-Session c = rw c.in-Session.is c.session.ensures
+
+pub returns-in-Flag : goal.returns-in-Flag
+returns-in-Flag c = rw c.in-Flag.is c.flag.ensures
+
+pub returns-in-LoadLib : goal.returns-in-LoadLib
+returns-in-LoadLib c = rw c.in-LoadLib.is c.load_lib.ensures
+
+pub returns-in-Regexp : goal.returns-in-Regexp
+returns-in-Regexp c = rw c.in-Regexp.is c.regexp.ensures

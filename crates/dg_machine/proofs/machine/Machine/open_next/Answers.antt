@@ -3,7 +3,7 @@ use Rattle.std.proofs.lemmas.Result.{IfOk-weaker}
 use Rattle.dg_language.specs.Judge.{board_file, first_file, leave_board}
 use Rattle.dg_machine.specs.declared.frame.Opening.TheVariants.{Board}
 use Rattle.dg_machine.specs.Opening.{open_next}
-use Rattle.dg_machine.proofs.OpeningLemmas.{board-opens, board-again, Opens-along}
+use Rattle.dg_machine.proofs.OpeningLemmas.{board-opens, board-again, Runs-along}
 use Rattle.dg_machine.proofs.machine.Machine.open_next.Goals as goal
 
 pub returns-in_ok-name-in-Board : goal.returns-in_ok-name-in-Board
@@ -12,7 +12,7 @@ returns-in_ok-name-in-Board c =
     rw c.in-Board.is
     (IfOk-weaker c.open_first.result _ _
     (λ p h.
-    Opens-along p (open_next Board) (first_file c.in_ok-name-in-Board.name leave_board) _ _ _ _ h (board-opens _ _ _ name)
+    Runs-along p (open_next Board) (first_file c.in_ok-name-in-Board.name leave_board) _ _ _ _ h (board-opens _ _ _ name)
     (λ q a s. board-again _ q a c.args.self.now.state s _ name) (omega arith))
     c.open_first.ensures)
 

@@ -1,0 +1,86 @@
+#!/usr/bin/env python3
+"""The merge gate: `rt ci`, which proves every crate from nothing, tries the wrong bodies of crates/*/must-fail and runs the programs;
+and then the wrong bodies that tests/wrong-bodies/gate.txt names, each by its function alone, over the libraries that `rt ci` has left.
+
+    python3 tests/gate/check.py        at the top of the repository; RT_JOBS says how many checks run side by side
+
+The last line is `N passed, M failed`, of both.
+"""
+import os
+import re
+import subprocess
+import sys
+from concurrent.futures import ThreadPoolExecutor
+from contextlib import contextmanager
+from pathlib import Path
+
+TOP = Path(__file__).resolve().parents[2]
+sys.path.insert(0, str(TOP / "tests/wrong-bodies"))
+from batch import bodies, tried
+
+COUNTS = re.compile(r"(\d+) passed, (\d+) failed\n?")
+
+
+@contextmanager
+def own_libraries_aside():
+    """Has `rt ci` leave the libraries that it proves: those that earlier checks of one's own have kept, which it would put back in their
+    place, stand aside meanwhile."""
+    moved = []
+    for crate in (TOP / "crates").iterdir():
+        made, aside = crate / "out/rlib", crate / "out/own-rlib"
+        if made.exists() and not aside.exists():
+            made.rename(aside)
+        if aside.exists():
+            moved.append((made, aside))
+    try:
+        yield
+    finally:
+        for made, aside in moved:
+            subprocess.run(["rm", "-rf", made], check=True)
+            aside.rename(made)
+
+
+def proved():
+    """Runs `rt ci`, and gives how many things passed and failed; nothing where it did not come to its end. What it says is passed on, but
+    for its last line."""
+    counts = None
+    ran = subprocess.Popen([os.environ.get("RT", "rt"), "ci"], cwd=TOP, stdout=subprocess.PIPE, stderr=subprocess.STDOUT, text=True, errors="replace")
+    for line in ran.stdout:
+        found = COUNTS.fullmatch(line)
+        if found:
+            counts = int(found.group(1)), int(found.group(2))
+        else:
+            print(line, end="", flush=True)
+    return counts if ran.wait() == 0 or counts and counts[1] else None
+
+
+def listed():
+    """The crates whose wrong bodies are tried here, each with their names."""
+    lines = (TOP / "tests/wrong-bodies/gate.txt").read_text().splitlines()
+    pairs = (line.partition(":") for line in lines if not line.startswith("#"))
+    return {crate: names.split() for crate, _, names in pairs if crate.strip()}
+
+
+def refused(crate, names):
+    """How many of these wrong bodies the prover refuses, and how many it doesn't."""
+    passed = failed = 0
+    for edit, told in tried(crate, bodies(crate, names)):
+        print(f"wrong body {crate}/{edit.name}: {told}", flush=True)
+        passed, failed = passed + (told == "refused"), failed + (told != "refused")
+    return passed, failed
+
+
+def main():
+    with own_libraries_aside():
+        counts = proved()
+        if counts is None:
+            sys.exit("rt ci did not come to its end")
+        if not counts[1]:
+            with ThreadPoolExecutor(int(os.environ.get("RT_JOBS") or 1)) as lanes:
+                counts = [sum(it) for it in zip(counts, *lanes.map(lambda it: refused(*it), listed().items()))]
+    print(f"{counts[0]} passed, {counts[1]} failed")
+    sys.exit(1 if counts[1] else 0)
+
+
+if __name__ == "__main__":
+    main()
