@@ -357,6 +357,7 @@ impl Machine {
         let repetition = Boxed::new(alloc, repetition)?;
         self.stack.push(Frame::Repeating { repetition })?;
         let start = start.copy(alloc)?;
-        Ok(self.enter(alloc, start, depth)?)
+        let pace = self.enter(alloc, start, depth)?;
+        Ok(pace)
     }
 }
