@@ -14,18 +14,12 @@ use std::thread::Threads;
 const PASSED: &[u8] =
     b"\t\t=== t tests ===\n\nSchedule of variations:\n    unix\n\nRunning target unix\nRunning t/a.exp ...\nPASS: one\n\n\t\t=== t Summary ===\n\n# of expected passes\t\t1\n";
 
-/// The edit that puts this script.
-fn put(alloc: Global, text: &[u8]) -> Result<Edit, AllocError> {
-    Ok(Edit::PutFile(
-        Bytes::from_slice(alloc, b"t/a.exp")?,
-        Bytes::from_slice(alloc, text)?,
-    ))
-}
-
 /// A core that was given this script.
 fn core_with(alloc: Global, text: &[u8]) -> Result<Core, AllocError> {
+    let name = Bytes::from_slice(alloc, b"t/a.exp")?;
+    let script = Edit::PutFile(name, Bytes::from_slice(alloc, text)?);
     let mut core = Core::new(alloc)?;
-    match core.edit(alloc, put(alloc, text)?) {
+    match core.edit(alloc, script) {
         Ok(()) => Ok(core),
         Err(_) => Err(AllocError),
     }
