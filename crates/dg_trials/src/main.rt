@@ -3,6 +3,7 @@
 #![tactic(auto)]
 
 mod benches;
+mod calls;
 mod files;
 mod growths;
 mod jobs;
@@ -13,7 +14,6 @@ mod parts;
 mod pipes;
 mod reports;
 mod sessions;
-mod wanted;
 
 use anyhow::{Result, bail};
 use std::env;
@@ -24,7 +24,7 @@ use std::thread::Threads;
 use std::time::Clock;
 
 /// The parts that are tried in turn.
-const PARTS: [&str; 6] = ["jobs", "cores", "sessions", "live", "pipes", "benches"];
+const PARTS: [&str; 6] = ["cores", "threads", "sessions", "live", "pipes", "benches"];
 
 /// Tries a part, with the data of this folder.
 fn try_part<R>(rt: R, folder: &str, part: &str) -> Result<()>
@@ -44,8 +44,8 @@ where
 {
     match part {
         "growths" => growths::try_all(&rt, folder),
-        "jobs" => jobs::try_cases(&rt, rt.alloc()),
-        "cores" => reports::try_cases(&rt, rt.alloc()),
+        "cores" => calls::try_file(&rt, folder),
+        "threads" => reports::try_threads(&rt, rt.alloc()),
         "sessions" => sessions::try_cases(&rt, rt.alloc()),
         "live" => live::try_files(&rt, folder),
         "pipes" => pipes::try_file(rt, folder),

@@ -1,11 +1,7 @@
-//! Cores over one script or a few: what is evaluated and compared, patterns, and what goes to another thread.
-mod edits;
+//! Cores that no row tries: one that goes to another thread, and growths that are refused.
 pub mod growth;
-mod moments;
-mod patterns;
 
 use crate::lines::tell;
-use crate::wanted::PASSED;
 use anyhow::Result;
 use dg_bytes::Bytes;
 use dg_core::Core;
@@ -14,27 +10,17 @@ use std::alloc::{AllocError, Global};
 use std::thread;
 use std::thread::Threads;
 
-/// The edit that puts this script.
-fn put(alloc: Global, text: &[u8]) -> Result<Edit, AllocError> {
-    Ok(Edit::PutFile(
-        Bytes::from_slice(alloc, b"t/a.exp")?,
-        Bytes::from_slice(alloc, text)?,
-    ))
-}
+/// The report of a passing script t/a.exp, written out by hand.
+const PASSED: &[u8] =
+    b"\t\t=== t tests ===\n\nSchedule of variations:\n    unix\n\nRunning target unix\nRunning t/a.exp ...\nPASS: one\n\n\t\t=== t Summary ===\n\n# of expected passes\t\t1\n";
 
 /// A core that was given this script.
 fn core_with(alloc: Global, text: &[u8]) -> Result<Core, AllocError> {
+    let name = Bytes::from_slice(alloc, b"t/a.exp")?;
+    let script = Edit::PutFile(name, Bytes::from_slice(alloc, text)?);
     let mut core = Core::new(alloc)?;
-    match core.edit(alloc, put(alloc, text)?) {
+    match core.edit(alloc, script) {
         Ok(()) => Ok(core),
-        Err(_) => Err(AllocError),
-    }
-}
-
-/// The report and the status of a core that is settled.
-fn settled(alloc: Global, core: &mut Core) -> Result<(Bytes, u8), AllocError> {
-    match core.settle(alloc) {
-        Ok(sum) => Ok(sum),
         Err(_) => Err(AllocError),
     }
 }
@@ -66,41 +52,11 @@ fn goes_to_another_thread(rt: &impl Threads, alloc: Global) -> Result<bool, Allo
     Ok(second.join(rt))
 }
 
-/// Tries all cases.
-pub fn try_cases(rt: &(impl Print + Threads), alloc: Global) -> Result<()> {
+/// Tries a core that goes to another thread.
+pub fn try_threads(rt: &(impl Print + Threads), alloc: Global) -> Result<()> {
     tell(
         rt,
         "a core goes to another thread",
         goes_to_another_thread(rt, alloc),
-    )?;
-    tell(
-        rt,
-        "an edit compares what it touches",
-        edits::compares_what_it_touches(alloc),
-    )?;
-    tell(
-        rt,
-        "a record of two moments",
-        moments::waits_for_both(alloc),
-    )?;
-    tell(
-        rt,
-        "a pattern keeps its first answer",
-        patterns::keeps_its_first_answer(alloc),
-    )?;
-    tell(
-        rt,
-        "a report evaluates nothing",
-        patterns::evaluates_nothing(alloc),
-    )?;
-    tell(
-        rt,
-        "a new pattern leaves what is held",
-        patterns::leaves_what_is_held(alloc),
-    )?;
-    tell(
-        rt,
-        "a record of another book",
-        patterns::waits_for_its_pattern(alloc),
     )
 }
