@@ -18,7 +18,7 @@ demo: $(PROGRAM)
 	$(PROGRAM) --session < examples/first.session
 	sh examples/demo.sh
 
-# The merge gate: every proof from nothing, the edits that must fail, the tests and the program.
+# The merge gate: every proof from nothing, wrong bodies, the tests and the program.
 check:
 	RT="$(RT)" RT_JOBS=$${RT_JOBS:-$$(sh tests/gate/lanes.sh)} python3 tests/gate/check.py
 
@@ -26,7 +26,7 @@ check:
 times:
 	RT="$(RT)" RT_JOBS=$${RT_JOBS:-$$(sh tests/gate/lanes.sh)} python3 tests/gate/times.py
 
-# Tries the wrong bodies that the gate leaves out.
+# Tries the wrong bodies that `rt ci` leaves out, each over its whole crate.
 wrong-bodies:
 	RT="$(RT)" sh tests/wrong-bodies/run.sh
 

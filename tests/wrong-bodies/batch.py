@@ -1,6 +1,6 @@
 #!/usr/bin/env python3
-"""Tries wrong bodies that the gate leaves out (crates/CRATE/wrong-bodies), many at a time: the prover has to refuse each edited
-function.
+"""Tries wrong bodies of crates/CRATE/wrong-bodies, many at a time: the prover has to refuse each edited function. The gate tries
+some so (gate.txt).
 
     python3 tests/wrong-bodies/batch.py CRATE [NAME ..]     all of a crate, or these
 

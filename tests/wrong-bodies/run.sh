@@ -1,7 +1,7 @@
 #!/bin/sh
-# Tries the wrong bodies that the gate leaves out (crates/NAME/wrong-bodies): the prover has to refuse each. Those of the
-# gate stand beside them, in crates/NAME/must-fail. Each is tried over what an earlier check of its crate kept, in seconds
-# to a minute, those of runtest in three to five; where nothing is kept, the crate is proved first.
+# Tries the wrong bodies that `rt ci` leaves out (crates/NAME/wrong-bodies), each over its whole crate: the prover has to
+# refuse each. Those of `rt ci` stand beside them, in crates/NAME/must-fail. Each is tried over what an earlier check of its
+# crate kept, in seconds to a minute, those of runtest in three to five; where nothing is kept, the crate is proved first.
 #
 #   sh tests/wrong-bodies/run.sh [NAME..]     all crates that have some, or these
 set -e
