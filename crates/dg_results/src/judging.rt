@@ -104,7 +104,7 @@ impl Judging {
 
     /// A test that passed. The line is UNRESOLVED after an error or three warnings, else KPASS
     /// under the kfail flag, else XPASS under the xfail flag, else PASS.
-    fn pass(&mut self, alloc: Global, message: &[u8]) -> Result<(), AllocError>
+    pub fn pass(&mut self, alloc: Global, message: &[u8]) -> Result<(), AllocError>
         ensures ok { OnOk result (Adds self.old self.new (Pass message.now)) }
         ensures err { OnErr result (self.new ≡ self.old) }
     {
@@ -114,7 +114,7 @@ impl Judging {
 
     /// A test that failed. The line is UNRESOLVED after an error or three warnings, else KFAIL
     /// under the kfail flag, else XFAIL under the xfail flag, else FAIL.
-    fn fail(&mut self, alloc: Global, message: &[u8]) -> Result<(), AllocError>
+    pub fn fail(&mut self, alloc: Global, message: &[u8]) -> Result<(), AllocError>
         ensures ok { OnOk result (Adds self.old self.new (Fail message.now)) }
         ensures err { OnErr result (self.new ≡ self.old) }
     {
@@ -123,7 +123,7 @@ impl Judging {
     }
 
     /// A test without a clear result.
-    fn unresolved(&mut self, alloc: Global, message: &[u8]) -> Result<(), AllocError>
+    pub fn unresolved(&mut self, alloc: Global, message: &[u8]) -> Result<(), AllocError>
         ensures ok { OnOk result (Adds self.old self.new (Unresolved message.now)) }
         ensures err { OnErr result (self.new ≡ self.old) }
     {
@@ -131,7 +131,7 @@ impl Judging {
     }
 
     /// A test that was not run.
-    fn untested(&mut self, alloc: Global, message: &[u8]) -> Result<(), AllocError>
+    pub fn untested(&mut self, alloc: Global, message: &[u8]) -> Result<(), AllocError>
         ensures ok { OnOk result (Adds self.old self.new (Untested message.now)) }
         ensures err { OnErr result (self.new ≡ self.old) }
     {
@@ -139,7 +139,7 @@ impl Judging {
     }
 
     /// A test that the target has no support for.
-    fn unsupported(&mut self, alloc: Global, message: &[u8]) -> Result<(), AllocError>
+    pub fn unsupported(&mut self, alloc: Global, message: &[u8]) -> Result<(), AllocError>
         ensures ok { OnOk result (Adds self.old self.new (Unsupported message.now)) }
         ensures err { OnErr result (self.new ≡ self.old) }
     {
@@ -148,7 +148,7 @@ impl Judging {
 
     /// An error of the test itself. It adds one to the count of errors, or sets it to a number.
     /// A count goes up to 4,294,967,295 and stays there.
-    fn perror(
+    pub fn perror(
         &mut self,
         alloc: Global,
         message: &[u8],
@@ -164,7 +164,7 @@ impl Judging {
 
     /// A warning. It adds one to the count of warnings, or sets it to a number.
     /// A count goes up to 4,294,967,295 and stays there.
-    fn warning(
+    pub fn warning(
         &mut self,
         alloc: Global,
         message: &[u8],
@@ -179,7 +179,7 @@ impl Judging {
     }
 
     /// A message alone.
-    fn note(&mut self, alloc: Global, message: &[u8]) -> Result<(), AllocError>
+    pub fn note(&mut self, alloc: Global, message: &[u8]) -> Result<(), AllocError>
         ensures ok { OnOk result (Adds self.old self.new (Note message.now)) }
         ensures err { OnErr result (self.new ≡ self.old) }
     {
@@ -187,28 +187,28 @@ impl Judging {
     }
 
     /// The next result is expected to be a failure. The caller has matched the target.
-    fn setup_xfail(&mut self)
+    pub fn setup_xfail(&mut self)
         ensures { Adds self.old self.new SetupXfail }
     {
         self.marks.xfail = true;
     }
 
     /// The next result isn't expected to be a failure. The caller has matched the target.
-    fn clear_xfail(&mut self)
+    pub fn clear_xfail(&mut self)
         ensures { Adds self.old self.new ClearXfail }
     {
         self.marks.xfail = false;
     }
 
     /// The next result is a known failure. The caller has matched the target.
-    fn setup_kfail(&mut self)
+    pub fn setup_kfail(&mut self)
         ensures { Adds self.old self.new SetupKfail }
     {
         self.marks.kfail = true;
     }
 
     /// The next result is no known failure. The caller has matched the target.
-    fn clear_kfail(&mut self)
+    pub fn clear_kfail(&mut self)
         ensures { Adds self.old self.new ClearKfail }
     {
         self.marks.kfail = false;

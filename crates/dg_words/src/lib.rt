@@ -1,4 +1,4 @@
-//! The words of a script.
+//! The words of a script, and the lists and byte texts that they are made of.
 #![tactic(auto)]
 
 mod draft;
@@ -19,3 +19,5 @@ pub use crate::grammar::{
 };
 pub use crate::scan::{first_command, first_fault, parse_command, parse_operand, parse_words};
 pub use crate::word::{Parsed, Part, Parts, Word};
+pub use dg_bytes::{Bytes, Seq, TryCopy};
+pub use dg_lists::{WordFault, list_text, split_list};
