@@ -10,7 +10,7 @@ PROGRAM = crates/runtest/out/runtest
 all: $(PROGRAM)
 
 $(PROGRAM): crates.txt $(shell find crates -path '*/out' -prune -o -type f \( -name '*.rt' -o -name '*.antt' \) -print)
-	RT="$(RT)" python3 tests/gate/build.py runtest
+	RT="$(RT)" python3 tools/build.py runtest
 	@test -x $(PROGRAM) && touch $(PROGRAM)
 
 # Builds what it must, judges a session, and then a suite with children and by what these did.
@@ -20,11 +20,11 @@ demo: $(PROGRAM)
 
 # The merge gate: every proof from nothing, wrong bodies, the tests and the program.
 check:
-	RT="$(RT)" RT_JOBS=$${RT_JOBS:-$$(sh tests/gate/lanes.sh)} python3 tests/gate/check.py
+	RT="$(RT)" RT_JOBS=$${RT_JOBS:-$$(sh tools/lanes.sh)} python3 tools/check.py
 
 # The merge gate, and docs/TIMES.md: the processor seconds of each crate's proof, tests and wrong bodies.
 times:
-	RT="$(RT)" RT_JOBS=$${RT_JOBS:-$$(sh tests/gate/lanes.sh)} python3 tests/gate/times.py
+	RT="$(RT)" RT_JOBS=$${RT_JOBS:-$$(sh tools/lanes.sh)} python3 tools/times.py
 
 # Tries the wrong bodies that `rt ci` leaves out, each over its whole crate.
 wrong-bodies:

@@ -22,7 +22,7 @@ from dataclasses import dataclass
 from pathlib import Path
 
 TOP = Path(__file__).resolve().parents[2]
-sys.path.insert(0, str(TOP / "tests/gate"))
+sys.path.insert(0, str(TOP / "tools"))
 from only import command, root_of
 
 FUNCTION = r"(?m)^([ ]*)(?:pub(?:\([a-z]+\))? )?(?:const )?fn (\w+)"

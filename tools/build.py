@@ -1,10 +1,10 @@
 #!/usr/bin/env python3
 """Builds a program and the crates that it stands on, several side by side.
 
-    python3 tests/gate/build.py PROGRAM
+    python3 tools/build.py PROGRAM
 
 A crate is built as soon as those below it are, the one with the longest chain of crates above it first. RT_LANES says how many are
-built at a time (else tests/gate/lanes.sh), RT which command `rt` is. The program comes last, by itself.
+built at a time (else tools/lanes.sh), RT which command `rt` is. The program comes last, by itself.
 
 The longest chain is most of the work, and two jobs on one crate are not twice as fast as one. So the crate that begins it has a job
 for each processor, and those beside it have one job each and give way to it. Where crates are built one by one `rt` chooses the
@@ -25,7 +25,7 @@ import tempfile
 import time
 from pathlib import Path
 
-TOP = Path(__file__).resolve().parents[2]
+TOP = Path(__file__).resolve().parents[1]
 CRATES = TOP / "crates"
 RT = shlex.split(os.environ.get("RT") or "rt")
 PROCESSORS = len(os.sched_getaffinity(0))
@@ -74,7 +74,7 @@ def lanes():
     """How many crates are built at a time."""
     said = os.environ.get("RT_LANES")
     if not said:
-        said = subprocess.run(["sh", TOP / "tests/gate/lanes.sh"], stdout=subprocess.PIPE, text=True, check=False).stdout
+        said = subprocess.run(["sh", TOP / "tools/lanes.sh"], stdout=subprocess.PIPE, text=True, check=False).stdout
     return max(1, int(said.strip() or 1))
 
 

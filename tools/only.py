@@ -2,7 +2,7 @@
 """Checks some functions of a crate, and what they call in it, over the libraries that the last run of the gate here left, in a
 minute to a few. (`rt check` in a clone that has nothing of its own first proves all that lies below.)
 
-    python3 tests/gate/only.py CRATE FUNCTION ..     as: dg_forms dg_forms::names::find_builtin
+    python3 tools/only.py CRATE FUNCTION ..     as: dg_forms dg_forms::names::find_builtin
 
 What is checked is kept in the crate's folder `out/only`. The last line is `only=N proved=M`.
 """
@@ -10,7 +10,7 @@ import subprocess
 import sys
 from pathlib import Path
 
-TOP = Path(__file__).resolve().parents[2]
+TOP = Path(__file__).resolve().parents[1]
 
 
 def kit():

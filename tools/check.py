@@ -2,7 +2,7 @@
 """The merge gate: `rt ci`, which proves every crate from nothing, tries the wrong bodies of crates/*/must-fail and runs the programs;
 and then the wrong bodies that tests/wrong-bodies/gate.txt names, each by its function alone, over the libraries that `rt ci` has left.
 
-    python3 tests/gate/check.py        at the top of the repository; RT_JOBS says how many checks run side by side
+    python3 tools/check.py        at the top of the repository; RT_JOBS says how many checks run side by side
 
 The last line is `N passed, M failed`, of both.
 """
@@ -14,7 +14,7 @@ from concurrent.futures import ThreadPoolExecutor
 from contextlib import contextmanager
 from pathlib import Path
 
-TOP = Path(__file__).resolve().parents[2]
+TOP = Path(__file__).resolve().parents[1]
 sys.path.insert(0, str(TOP / "tests/wrong-bodies"))
 from batch import bodies, tried
 

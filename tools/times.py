@@ -2,8 +2,8 @@
 """Runs the gate and writes docs/TIMES.md anew up to its first heading of the second level: how many processor seconds each crate
 took for its proof, its tests and its wrong bodies.
 
-    python3 tests/gate/times.py              runs tests/gate/check.py at the top of the repository
-    python3 tests/gate/times.py WORD ..      runs another command in its place, as `rt must-fail dg_glob`, and prints the table
+    python3 tools/times.py              runs tools/check.py at the top of the repository
+    python3 tools/times.py WORD ..      runs another command in its place, as `rt must-fail dg_glob`, and prints the table
 
 Every quarter of a second it adds up what the prover's processes below the command have taken (their own time, and that of the children
 that they have waited for). Whose time it is says the command line: `--crate-name`, and `--test` for tests; wrong bodies are
@@ -17,7 +17,7 @@ import time
 from collections import defaultdict
 from pathlib import Path
 
-TOP = Path(__file__).resolve().parents[2]
+TOP = Path(__file__).resolve().parents[1]
 TICKS = os.sysconf("SC_CLK_TCK")
 KINDS = ("proof", "tests", "wrong bodies")
 
@@ -135,7 +135,7 @@ Processor seconds of one run of the gate ({os.cpu_count()} processors, {minutes:
 
 def main(words):
     begun = time.time()
-    gate = subprocess.Popen(words or [sys.executable, TOP / "tests/gate/check.py"], cwd=None if words else TOP)
+    gate = subprocess.Popen(words or [sys.executable, TOP / "tools/check.py"], cwd=None if words else TOP)
     times = Times()
     while gate.poll() is None:
         times.look(gate.pid)

@@ -2,7 +2,7 @@
 """Tells on which functions the last check from nothing of a crate spent its time.
 
     cd crates/NAME; rm -rf out/incremental; rt check --jobs 1
-    python3 ../../tests/gate/costs.py [NUMBER]       the dearest functions, and what the phases of the check took
+    python3 ../../tools/costs.py [NUMBER]       the dearest functions, and what the phases of the check took
 
 A check writes a file for each part of a function's proof as soon as it is done with it, so with one job the time between two files
 is what the later one took. The parts: `Lts` is the borrow checker's, `Proof` the contract's, `Tie`, `Kinds` and `Layout` those of types
