@@ -6,7 +6,7 @@ PROGRAM = crates/runtest/out/runtest
 # The proved program, or the quick one where there is none yet.
 EITHER = RUNTEST=$$(RT="$(RT)" sh tools/program.sh) && export RUNTEST
 
-.PHONY: all quick demo dev rows counts check times reckon wrong-bodies bench kills growths examples tools install clean
+.PHONY: all quick demo dev rows counts check times reckon wrong-bodies bench kills growths examples install clean
 
 # Proves the program and all that it stands on, several crates side by side, and builds it: about an hour.
 all: $(PROGRAM)
@@ -69,10 +69,6 @@ growths: $(PROGRAM)
 # terminals, children. The gate does all this too.
 examples:
 	$(EITHER) && python3 tools/tests.py "$$RUNTEST"
-
-# Tries the tools themselves.
-tools:
-	python3 tests/tools/tools.py
 
 install: $(PROGRAM)
 	install -d $(DESTDIR)$(PREFIX)/bin

@@ -1,5 +1,5 @@
 #!/usr/bin/env python3
-"""Tries the program by the scripts tests/NAME/run.sh.
+"""Tries the program, and these tools, by the scripts tests/NAME/run.sh.
 
     python3 tools/tests.py PROGRAM [NAME ..]      all of them, or these: as program kills
 
@@ -14,7 +14,7 @@ from pathlib import Path
 
 TOP = Path(__file__).resolve().parents[1]
 # the tests in their order, each with its words
-TESTS = {"examples": ["live"], "sum": [], "contrib": [], "farm": [], "program": [], "kills": ["20"]}
+TESTS = {"tools": [], "examples": ["live"], "sum": [], "contrib": [], "farm": [], "program": [], "kills": ["20"]}
 SKIPPED = 77
 LONGEST = 1200  # how many seconds a test may take
 

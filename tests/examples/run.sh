@@ -32,7 +32,10 @@ for tool in sh awk sed terminal; do
     boards=unix
     programs=$tool
     case $tool in
-    sh) boards="unix strict" ;;
+    sh)
+        boards="unix strict"
+        programs="sh tr"
+        ;;
     terminal) programs="script stty env sh" ;;
     esac
     judge "$tool" "$boards" --rejudge

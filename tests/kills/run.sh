@@ -7,7 +7,12 @@
 # whole, of the run before or of this one, and the next run has to work, and to leave just the files that an undisturbed run leaves.
 # What the killed one was writing may stand beside its place, as NAME.N.new. Half of the moments are near the time in which files
 # are written. A kill that comes when the run has ended is none: another moment is drawn, COUNT times 10 at most.
+#
+# It wants awk, ps and setsid; where one isn't there it says so and ends with 77.
 set -e
+for program in awk ps setsid; do
+    command -v $program > /dev/null || { echo "skipped: there is no $program here"; exit 77; }
+done
 top=$(cd "$(dirname "$0")/../.." && pwd)
 runtest=${RUNTEST:-$top/crates/runtest/out/runtest}
 count=${1:-100}
