@@ -1,11 +1,12 @@
 # Writes a session in which each script of files of cases is put and reported, and the answers that it must give.
 #
-#     tclsh session.tcl STDIN STDOUT words.cases ..
+#     tclsh session.tcl STDIN STDOUT words.cases ..       tools/rows.sh names them all (make rows)
 #
-# Both files begin with what stands in `first.session` and `first.answers`, and end with `last.session` and `last.answers`, `suites.session` and `suites.answers`. A script is not put twice in turn. In a script a line
-# `+++ NAME` begins the text of another file, which is put before it and removed after its report; `+++ transcript` begins that of its
-# transcript. In a file of rows a row is a request and its answer, with a tab between them: `\n`, `\xHH` and such stand for bytes, and
-# what stands in `<` and `>` for its digits.
+# Both files begin with what stands in `first.session` and `first.answers`, and end with `last.session` and `last.answers`,
+# `suites.session` and `suites.answers`. A script is not put twice in turn. In a script a line `+++ NAME` begins the text of another
+# file, which is put before it and removed after its report; `+++ transcript` begins that of its transcript. In a file of rows a row
+# is a request and its answer, with a tab between them: `\n`, `\xHH` and such stand for bytes, and what stands in `<` and `>` for its
+# digits.
 source [file join [file dirname [info script]] cases.tcl]
 
 # The counts of a report in their order: the class, and what the report calls it.
