@@ -4,7 +4,8 @@
     python3 tools/tests.py PROGRAM [NAME ..]      all of them, or these: as program kills
 
 Each script gets the program in RUNTEST. It ends with status 0 where all is as it has to be, with 77 where a program that it wants is
-not on the path; then it says which. The last line is `N passed, M failed`, with how many were skipped, if any.
+not on the path; then it says which. tests/program is left out for a quick program (make quick), which is too slow for it and takes
+memory otherwise. The last line is `N passed, M failed`, with how many were skipped, if any.
 """
 import os
 import subprocess
@@ -15,6 +16,7 @@ from pathlib import Path
 TOP = Path(__file__).resolve().parents[1]
 # the tests in their order, each with its words
 TESTS = {"tools": [], "examples": ["live"], "sum": [], "contrib": [], "farm": [], "program": [], "kills": ["20"]}
+FOR_THE_PROVED = ("program",)
 SKIPPED = 77
 LONGEST = 1200  # how many seconds a test may take
 
@@ -29,8 +31,15 @@ def outcome(status):
     return {0: "passed", SKIPPED: "skipped"}.get(status, "failed")
 
 
+def is_quick(program):
+    """Whether a program was built before any proof: such a one has checks of memory built in."""
+    return b"AddressSanitizer" in Path(program).read_bytes()
+
+
 def tried(program, name):
     """Runs a test, and gives what came of it and what it wrote."""
+    if name in FOR_THE_PROVED and is_quick(program):
+        return "skipped", f"skipped: {program} was built before any proof; this wants the proved one\n"
     words = ["sh", TOP / "tests" / name / "run.sh", *TESTS[name]]
     how = {"stdin": subprocess.DEVNULL, "stdout": subprocess.PIPE, "stderr": subprocess.STDOUT}
     try:

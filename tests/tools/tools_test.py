@@ -196,6 +196,15 @@ class Tests(InFolder):
             self.assertIn(it, said.getvalue())
 
 
+    def test_a_quick_program_is_not_put_to_all_tests(self):
+        tests.TESTS = {"program": []}
+        self.put("tests/program/run.sh", "exit 0\n")
+        with redirect_stdout(io.StringIO()):
+            quick_one, proved_one = self.put("quick", "ELF .. AddressSanitizer .."), self.put("proved", "ELF ..")
+            self.assertEqual(tests.told(quick_one, ["program"])["skipped"], ["program"])
+            self.assertEqual(tests.told(proved_one, ["program"])["passed"], ["program"])
+
+
 class Rows(unittest.TestCase):
     @unittest.skipUnless(shutil.which("tclsh"), "there is no tclsh here")
     def test_the_session_of_the_gate_is_the_one_of_the_cases(self):
