@@ -21,7 +21,7 @@ quick:
 
 # Judges a session, and then a suite with children and by what these did.
 demo:
-	$(EITHER) && "$$RUNTEST" --session < examples/first.session && sh examples/demo.sh
+	@$(EITHER) && "$$RUNTEST" --session < examples/first.session && sh examples/demo.sh
 
 # Proves one crate over what earlier checks kept, and first what lies below it where nothing is kept: make dev C=dg_glob
 dev:
@@ -58,7 +58,7 @@ bench: $(PROGRAM)
 
 # Kills runs at 100 random moments: every file is whole after each, no child is left, and the next run works.
 kills:
-	$(EITHER) && sh tests/kills/run.sh
+	@$(EITHER) && sh tests/kills/run.sh
 
 # Counts the growths of evaluations, by valgrind.
 growths: $(PROGRAM)
@@ -68,7 +68,7 @@ growths: $(PROGRAM)
 # Then compares and merges reports, as people do with them, and tries what a user sees of the program: words, faults, sessions,
 # terminals, children. The gate does all this too.
 examples:
-	$(EITHER) && python3 tools/tests.py "$$RUNTEST"
+	@$(EITHER) && python3 tools/tests.py "$$RUNTEST"
 
 install: $(PROGRAM)
 	install -d $(DESTDIR)$(PREFIX)/bin
