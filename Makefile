@@ -76,7 +76,7 @@ install: $(PROGRAM)
 	install -d $(DESTDIR)$(PREFIX)/share/man/man1
 	install -m 644 runtest.1 $(DESTDIR)$(PREFIX)/share/man/man1/runtest.1
 	install -d $(DESTDIR)$(PREFIX)/share/doc/runtest
-	cp -R README.md docs $(DESTDIR)$(PREFIX)/share/doc/runtest/
+	cp -R README.md LICENSE docs examples $(DESTDIR)$(PREFIX)/share/doc/runtest/
 
 clean:
 	rm -rf crates/*/out out

@@ -51,14 +51,15 @@ def proved():
     """Runs `rt ci`, and gives how many things passed and failed; nothing where it did not come to its end. What it says is passed on, but
     for its last line."""
     counts = None
-    ran = subprocess.Popen([os.environ.get("RT", "rt"), "ci"], cwd=TOP, stdout=subprocess.PIPE, stderr=subprocess.STDOUT, text=True, errors="replace")
-    for line in ran.stdout:
-        found = COUNTS.fullmatch(line)
-        if found:
-            counts = int(found.group(1)), int(found.group(2))
-        else:
-            print(line, end="", flush=True)
-    return counts if ran.wait() == 0 or counts and counts[1] else None
+    words = [os.environ.get("RT", "rt"), "ci"]
+    with subprocess.Popen(words, cwd=TOP, stdout=subprocess.PIPE, stderr=subprocess.STDOUT, text=True, errors="replace") as ran:
+        for line in ran.stdout:
+            found = COUNTS.fullmatch(line)
+            if found:
+                counts = int(found.group(1)), int(found.group(2))
+            else:
+                print(line, end="", flush=True)
+    return counts if ran.returncode == 0 or counts and counts[1] else None
 
 
 def listed():

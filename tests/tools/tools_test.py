@@ -8,9 +8,11 @@ import tempfile
 import unittest
 from contextlib import redirect_stdout
 from pathlib import Path
+from unittest.mock import patch
 
 TOP = Path(__file__).resolve().parents[2]
 sys.path.insert(0, str(TOP / "tools"))
+import check
 import counts
 import duplicates
 import quick
@@ -203,6 +205,46 @@ class Tests(InFolder):
             quick_one, proved_one = self.put("quick", "ELF .. AddressSanitizer .."), self.put("proved", "ELF ..")
             self.assertEqual(tests.told(quick_one, ["program"])["skipped"], ["program"])
             self.assertEqual(tests.told(proved_one, ["program"])["passed"], ["program"])
+
+
+class Gate(InFolder):
+    """The gate, with an `rt` that does what a shell script says, and wrong bodies and tests that aren't tried."""
+
+    def gate(self, rt, bodies, *tests_told):
+        """What the gate ends with, and the lines that it writes."""
+        command = str(self.put("rt", f"#!/bin/sh\n{rt}\n", 0o755))
+        tests_told = iter([dict(zip(("passed", "failed", "skipped"), it)) for it in tests_told])
+        said = io.StringIO()
+        with patch.dict(os.environ, {"RT": command, "RT_JOBS": "2"}), patch.object(check, "TOP", self.here), redirect_stdout(said):
+            with patch.object(check, "listed", return_value=dict(enumerate(bodies))), patch.object(check, "refused", lambda at, it: it):
+                with patch.object(check.tests, "told", lambda *_: next(tests_told)), self.assertRaises(SystemExit) as ended:
+                    (self.here / "crates").mkdir()
+                    check.main()
+        return ended.exception.code, said.getvalue().splitlines()
+
+    def test_all_three_are_added_up(self):
+        status, said = self.gate("echo '90 passed, 0 failed'", [(3, 0), (2, 0)], (["a", "b"], [], ["c"]), ([], [], []))
+        self.assertEqual((status, said[-1]), (0, "97 passed, 0 failed"))
+
+    def test_a_test_that_fails_beside_checks_has_a_second_try(self):
+        status, said = self.gate("echo '90 passed, 0 failed'", [(3, 0)], (["a"], ["b"], []), (["b"], [], []))
+        self.assertEqual((status, said[-1]), (0, "95 passed, 0 failed"))
+
+    def test_a_test_that_fails_twice_has_failed(self):
+        status, said = self.gate("echo '90 passed, 0 failed'", [(3, 0)], (["a"], ["b"], []), ([], ["b"], []))
+        self.assertEqual((status, said[-1]), (1, "94 passed, 1 failed"))
+
+    def test_a_wrong_body_that_is_let_through_fails(self):
+        status, said = self.gate("echo '90 passed, 0 failed'", [(3, 1)], (["a"], [], []), ([], [], []))
+        self.assertEqual((status, said[-1]), (1, "94 passed, 1 failed"))
+
+    def test_behind_a_failed_proof_nothing_is_tried(self):
+        status, said = self.gate("echo 'dg_glob NOT PROVED'; echo '89 passed, 1 failed'; exit 1", [(3, 0)])
+        self.assertEqual((status, said), (1, ["dg_glob NOT PROVED", "89 passed, 1 failed"]))
+
+    def test_a_run_that_broke_off_has_no_last_line(self):
+        status, said = self.gate("echo 'proving'; exit 137", [(3, 0)])
+        self.assertEqual((status, said), ("rt ci did not come to its end", ["proving"]))
 
 
 class Rows(unittest.TestCase):
