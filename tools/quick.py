@@ -12,6 +12,7 @@ A program that was built so is for trying things. It may stop where a proved one
 import fcntl
 import hashlib
 import os
+import re
 import shlex
 import shutil
 import signal
@@ -26,6 +27,9 @@ from pathlib import Path
 RT = shlex.split(os.environ.get("RT") or "rt")
 HOLD = 3  # how many seconds the program is kept running
 SCRIPT = f"spawn sleep {HOLD}\nexpect eof {{}} timeout {{}}\nwait\npass \"a child ran\"\n"
+NEEDED = 4_500_000  # how much memory compiling takes, in kB
+KILLED = """`rt try` was ended before it had compiled the program: most likely the memory did not suffice. It takes some four gigabytes.
+Call this again when they are free."""
 NO_FILE = """`rt try` compiled and ran the program, and left no file of it that could be taken: this kit keeps none where it is looked for
 (a file `program` below TMPDIR). There is no quick build with this kit. Build the proved program: make (about an hour)."""
 
@@ -96,6 +100,24 @@ class Taken:
         return next((it for it in reversed(self.files) if is_whole(it) and version(it)), None)
 
 
+def free_memory():
+    """How much memory can be used, in kB, or nothing where that isn't told."""
+    try:
+        lines = Path("/proc/meminfo").read_text().splitlines()
+    except OSError:
+        return None
+    return next((int(it.split()[1]) for it in lines if it.startswith("MemAvailable:")), None)
+
+
+def why_none(said, status):
+    """Why there is no program, by what `rt try` said and its status."""
+    if re.search(r"^(checked: ended|run=ended) ", said, re.MULTILINE):
+        return NO_FILE
+    if said.strip() in ("", "run=none proved=no"):
+        return KILLED
+    return f"rt try ended with status {status}, see above"
+
+
 def suite(folder):
     """A suite whose one script starts a child that sleeps; gives the words that run it."""
     script = folder / "suite/hold.all/hold.exp"
@@ -131,13 +153,14 @@ def build(top, made):
     made.mkdir(parents=True, exist_ok=True)
     begun = time.monotonic()
     print("quick: compiling the program before any proof, in 3 to 8 minutes", flush=True)
+    if (free_memory() or NEEDED) < NEEDED:
+        print("quick: that takes some four gigabytes of memory, and fewer are free: it may be ended for that", flush=True)
     wanted = sum_of_sources(top)
     with tempfile.TemporaryDirectory(prefix="build-", dir=made) as folder:
         program, said, status = tried(top, Path(folder))
         if not program:
-            ran = "run=ended" in said or "checked: ended" in said
             print(said, end="", file=sys.stderr)
-            print(f"quick: no program: {NO_FILE if ran else f'rt try ended with status {status}, see above'}", file=sys.stderr)
+            print(f"quick: no program: {why_none(said, status)}", file=sys.stderr)
             return 1
         for line in said.splitlines():
             if line.startswith("rt: a check will refuse this") or "run=" in line and "run=ended status=0" not in line:

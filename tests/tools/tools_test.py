@@ -93,6 +93,11 @@ class Quick(InFolder):
         self.assertIn("this kit keeps none", ran.stdout)
         self.assertIn("Build the proved program: make", ran.stdout)
 
+    def test_a_try_that_was_killed_is_told(self):
+        ran = self.built("echo 'run=none proved=no' >&2; exit 2")
+        self.assertEqual(ran.returncode, 1)
+        self.assertIn("the memory did not suffice", ran.stdout)
+
     def test_what_is_not_compiled_is_told(self):
         ran = self.built("echo 'src/main.rt:1: error[no-such-thing]' >&2; exit 2")
         self.assertEqual(ran.returncode, 1)
