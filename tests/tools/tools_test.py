@@ -15,6 +15,7 @@ sys.path.insert(0, str(TOP / "tools"))
 import check
 import counts
 import duplicates
+import links
 import quick
 import reckon
 import tests
@@ -250,6 +251,22 @@ class Gate(InFolder):
     def test_a_run_that_broke_off_has_no_last_line(self):
         status, said = self.gate("echo 'proving'; exit 137", [(3, 0)])
         self.assertEqual((status, said), ("rt ci did not come to its end", ["proving"]))
+
+
+class Links(InFolder):
+    def test_a_link_leads_to_a_file_or_a_heading(self):
+        document = self.put("docs/A.md", "# One thing\n")
+        self.put("docs/B.md", "## What `x` is: two words\n")
+        for link in ("B.md", "B.md#what-x-is-two-words", "#one-thing", "../docs"):
+            self.assertTrue(links.leads(document, link), link)
+        for link in ("C.md", "B.md#what", "#two"):
+            self.assertFalse(links.leads(document, link), link)
+
+    def test_all_links_of_the_documents_lead_somewhere(self):
+        said = io.StringIO()
+        with redirect_stdout(said):
+            status = links.main()
+        self.assertEqual((status, said.getvalue()), (0, ""))
 
 
 class Rows(unittest.TestCase):
