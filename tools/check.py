@@ -3,13 +3,14 @@
 
     python3 tools/check.py        at the top of the repository; RT_JOBS says how many checks run side by side
 
-First `rt ci` proves every crate from nothing, tries the wrong bodies of crates/*/must-fail and runs the programs. Where all of it
-passed, two things follow side by side, over what it left: the wrong bodies that tests/wrong-bodies/gate.txt names, each by its
+First come the tests of the tools and of the documents' links, in seconds: where one fails, all else waits for its mending. Then `rt ci`
+proves every crate from nothing, tries the wrong bodies of crates/*/must-fail and runs the programs. Where all of it passed, two
+things follow side by side, over what it left: the wrong bodies that tests/wrong-bodies/gate.txt names, each by its
 function alone, and the tests of the program (tools/tests.py), over the program that was proved. A test that fails beside the wrong
 bodies is tried once more behind them, and only that counts. One that wants a program which is not on the path says so, and counts
 neither way.
 
-The last line is `N passed, M failed`, of all three.
+The last line is `N passed, M failed`, of all these.
 """
 import os
 import re
@@ -78,26 +79,39 @@ def refused(crate, names):
     return passed, failed
 
 
+def in_advance():
+    """Runs the tests that want no program, and gives how many passed and failed."""
+    found = tests.told(PROGRAM, [it for it in tests.there() if it in tests.WITHOUT_A_PROGRAM])
+    return len(found["passed"]), len(found["failed"])
+
+
 def behind(lanes):
     """Tries what comes behind `rt ci`, so many checks side by side, and gives how many things passed and failed. A test of the program that
     waits may fail beside these checks, where the machine is slow: it is tried once more behind them, and only that counts."""
     with ThreadPoolExecutor(lanes) as checks, ThreadPoolExecutor(1) as beside:
-        first = beside.submit(tests.told, PROGRAM, tests.there())
+        first = beside.submit(tests.told, PROGRAM, [it for it in tests.there() if it not in tests.WITHOUT_A_PROGRAM])
         counts = [sum(it) for it in zip((0, 0), *checks.map(lambda it: refused(*it), listed().items()))]
         first = first.result()
     again = tests.told(PROGRAM, first["failed"])
     return counts[0] + len(first["passed"] + again["passed"]), counts[1] + len(again["failed"])
 
 
+def ended(counts):
+    print(f"{counts[0]} passed, {counts[1]} failed")
+    sys.exit(1 if counts[1] else 0)
+
+
 def main():
+    first = in_advance()
+    if first[1]:
+        ended(first)
     with own_libraries_aside():
         counts = proved()
         if counts is None:
             sys.exit("rt ci did not come to its end")
         if not counts[1]:
             counts = [sum(it) for it in zip(counts, behind(int(os.environ.get("RT_JOBS") or 1)))]
-    print(f"{counts[0]} passed, {counts[1]} failed")
-    sys.exit(1 if counts[1] else 0)
+    ended([sum(it) for it in zip(first, counts)])
 
 
 if __name__ == "__main__":

@@ -16,6 +16,7 @@ from pathlib import Path
 TOP = Path(__file__).resolve().parents[1]
 # the tests in their order, each with its words
 TESTS = {"tools": [], "examples": ["live"], "sum": [], "contrib": [], "farm": [], "program": [], "kills": ["20"]}
+WITHOUT_A_PROGRAM = ("tools",)
 FOR_THE_PROVED = ("program",)
 SKIPPED = 77
 LONGEST = 1200  # how many seconds a test may take
@@ -38,6 +39,8 @@ def is_quick(program):
 
 def tried(program, name):
     """Runs a test, and gives what came of it and what it wrote."""
+    if name not in WITHOUT_A_PROGRAM and not os.access(program, os.X_OK):
+        return "failed", f"there is no program {program}\n"
     if name in FOR_THE_PROVED and is_quick(program):
         return "skipped", f"skipped: {program} was built before any proof; this wants the proved one\n"
     words = ["sh", TOP / "tests" / name / "run.sh", *TESTS[name]]

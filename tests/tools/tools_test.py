@@ -198,9 +198,9 @@ class Tests(InFolder):
     def test_each_counts_once_and_is_told(self):
         said = io.StringIO()
         with redirect_stdout(said):
-            found = tests.told("/some/program", tests.there())
+            found = tests.told(self.put("some/program", mode=0o755), tests.there())
         self.assertEqual(found, {"passed": ["good"], "failed": ["bad"], "skipped": ["lacking"]})
-        for it in ("it is /some/program", "== tests/bad: failed", "why", "skipped: no x"):
+        for it in (f"it is {self.here}/some/program", "== tests/bad: failed", "why", "skipped: no x"):
             self.assertIn(it, said.getvalue())
 
 
@@ -208,9 +208,11 @@ class Tests(InFolder):
         tests.TESTS = {"program": []}
         self.put("tests/program/run.sh", "exit 0\n")
         with redirect_stdout(io.StringIO()):
-            quick_one, proved_one = self.put("quick", "ELF .. AddressSanitizer .."), self.put("proved", "ELF ..")
+            quick_one = self.put("quick", "ELF .. AddressSanitizer ..", 0o755)
+            proved_one = self.put("proved", "ELF ..", 0o755)
             self.assertEqual(tests.told(quick_one, ["program"])["skipped"], ["program"])
             self.assertEqual(tests.told(proved_one, ["program"])["passed"], ["program"])
+            self.assertEqual(tests.told(self.here / "absent", ["program"])["failed"], ["program"])
 
 
 class Gate(InFolder):
@@ -219,7 +221,7 @@ class Gate(InFolder):
     def gate(self, rt, bodies, *tests_told):
         """What the gate ends with, and the lines that it writes."""
         command = str(self.put("rt", f"#!/bin/sh\n{rt}\n", 0o755))
-        tests_told = iter([dict(zip(("passed", "failed", "skipped"), it)) for it in tests_told])
+        tests_told = iter([dict(zip(("passed", "failed", "skipped"), it)) for it in tests_told or [([], [], [])]])
         said = io.StringIO()
         with patch.dict(os.environ, {"RT": command, "RT_JOBS": "2"}), patch.object(check, "TOP", self.here), redirect_stdout(said):
             with patch.object(check, "listed", return_value=dict(enumerate(bodies))), patch.object(check, "refused", lambda at, it: it):
@@ -228,20 +230,26 @@ class Gate(InFolder):
                     check.main()
         return ended.exception.code, said.getvalue().splitlines()
 
-    def test_all_three_are_added_up(self):
-        status, said = self.gate("echo '90 passed, 0 failed'", [(3, 0), (2, 0)], (["a", "b"], [], ["c"]), ([], [], []))
-        self.assertEqual((status, said[-1]), (0, "97 passed, 0 failed"))
+    NONE = ([], [], [])
+
+    def test_all_are_added_up(self):
+        status, said = self.gate("echo '90 passed, 0 failed'", [(3, 0), (2, 0)], (["tools"], [], []), (["a", "b"], [], ["c"]), self.NONE)
+        self.assertEqual((status, said[-1]), (0, "98 passed, 0 failed"))
+
+    def test_nothing_is_proved_where_the_tools_fail(self):
+        status, said = self.gate("echo 'proving'", [(3, 0)], ([], ["tools"], []))
+        self.assertEqual((status, said), (1, ["0 passed, 1 failed"]))
 
     def test_a_test_that_fails_beside_checks_has_a_second_try(self):
-        status, said = self.gate("echo '90 passed, 0 failed'", [(3, 0)], (["a"], ["b"], []), (["b"], [], []))
+        status, said = self.gate("echo '90 passed, 0 failed'", [(3, 0)], self.NONE, (["a"], ["b"], []), (["b"], [], []))
         self.assertEqual((status, said[-1]), (0, "95 passed, 0 failed"))
 
     def test_a_test_that_fails_twice_has_failed(self):
-        status, said = self.gate("echo '90 passed, 0 failed'", [(3, 0)], (["a"], ["b"], []), ([], ["b"], []))
+        status, said = self.gate("echo '90 passed, 0 failed'", [(3, 0)], self.NONE, (["a"], ["b"], []), ([], ["b"], []))
         self.assertEqual((status, said[-1]), (1, "94 passed, 1 failed"))
 
     def test_a_wrong_body_that_is_let_through_fails(self):
-        status, said = self.gate("echo '90 passed, 0 failed'", [(3, 1)], (["a"], [], []), ([], [], []))
+        status, said = self.gate("echo '90 passed, 0 failed'", [(3, 1)], self.NONE, (["a"], [], []), self.NONE)
         self.assertEqual((status, said[-1]), (1, "94 passed, 1 failed"))
 
     def test_behind_a_failed_proof_nothing_is_tried(self):
