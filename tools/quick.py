@@ -113,7 +113,7 @@ def why_none(said, status):
     """Why there is no program, by what `rt try` said and its status."""
     if re.search(r"^(checked: ended|run=ended) ", said, re.MULTILINE):
         return NO_FILE
-    if said.strip() in ("", "run=none proved=no"):
+    if "error" not in said and said.splitlines()[-1:] in ([], ["run=none proved=no"]):
         return KILLED
     return f"rt try ended with status {status}, see above"
 
