@@ -34,8 +34,8 @@ PLANTED = {
     "apart": ('expect "ab" {fail x} "a" {pass x}', transcript(b"a", "chunk 700 62"), ["entries 2 and 3 are joined (0.700 s apart"]),
     "two cuts": ('expect -re {^one two t} {pass x} -re {^o$} {expect -re {^ne} {pass x} -re {^n$} {fail x}}', transcript(b"one two three"), ['entry 2 is cut: "o" | "ne two three"', 'entry 2 is cut: "on" | "e two three"']),
     "departs": ('expect "go" {send "a\\n"} "g" {send "b\\n"}\npass x', transcript(b"go\n", "sent 610a"), ['entry 2 is cut: "g" | "o\\n"']),
-    "late": ('for {set i 0} {$i < 50} {incr i} {expect "line $i\\n"}\nexpect "yes" {pass x} "y" {fail x}', transcript(*[f"line {it}\n".encode() for it in range(50)], b"yes"), ['line 49\\ny" | "es"']),
-    "deep": ('expect -re {(^|\\n)end (\\d+)} {}\nif {$expect_out(2,string) == 77} {pass x} else {fail x}', transcript(*[b"some output\n" * 80] * 4, b"end 77\n"), ['end 7" | "7\\n"']),
+    "late": ('for {set i 0} {$i < 12} {incr i} {expect "line $i\\n"}\nexpect "yes" {pass x} "y" {fail x}', transcript(*[f"line {it}\n".encode() for it in range(12)], b"yes"), ['line 11\\ny" | "es"']),
+    "deep": ('expect -re {(^|\\n)end (\\d+)} {}\nif {$expect_out(2,string) == 77} {pass x} else {fail x}', transcript(*[b"some output\n" * 20] * 3, b"end 77\n"), ['end 7" | "7\\n"']),
     "forgets": ('expect "begin*end" {pass x} timeout {fail x}', transcript(b"begin" + b"." * 900, b"." * 900 + b"end", b"." * 300, "silence 10000"), []),
 }
 # Tests that look like races and are none.
@@ -129,7 +129,7 @@ def answer(rng, lines):
 def dialogue(rng):
     """A dialogue that is drawn: its script, which waits for whole lines, and its transcript."""
     script, told, word = ["spawn cat", "set timeout 60"], [], lambda: "".join(rng.choice("abcxyz") for _ in range(rng.randint(1, 9)))
-    for turn in range(rng.randint(1, 12)):
+    for turn in range(rng.randint(1, 8)):
         asked = word()
         script.append(f'send "{asked}\\n"')
         told.append(f"sent {(asked + chr(10)).encode().hex()}")
@@ -146,7 +146,7 @@ def dialogue(rng):
             told += answer(rng, [f"value = {number}\n".encode()])
             script.append(f'expect -re {{value = (\\d+)\\n}} {{note $expect_out(1,string)}}\nif {{$expect_out(1,string) == {number}}} {{pass "number {turn}"}} else {{fail "number {turn}"}}')
         elif kind == "long":
-            told += answer(rng, [b"%05d " % it + b"." * rng.randint(0, 70) + b"\n" for it in range(rng.randint(10, 90))] + [b"the end\n"])
+            told += answer(rng, [b"%05d " % it + b"." * rng.randint(0, 40) + b"\n" for it in range(rng.randint(3, 20))] + [b"the end\n"])
             script.append(f'expect -re {{(^|\\n)the end\\n}} {{pass "long {turn}"}}')
         elif kind == "quiet":
             told.append("silence 2000")
