@@ -119,10 +119,11 @@ class Recording:
 
     def anywhere(self, random, most):
         """Pieces of random lengths around one that is drawn too, from a byte to all that came."""
-        kept, room = set(), self.room()
+        kept = set()
+        least = 4 * sum(len(it.data) for it in self.stretches) // max(self.room(), 1) + 1
         for stretch in self.stretches:
             length = len(stretch.data)
-            around = max(int(2 ** random.uniform(0, min(length, most).bit_length())), 4 * length // max(room, 1) + 1)
+            around = max(int(2 ** random.uniform(0, min(length, most).bit_length())), least)
             at = random.randint(1, min(2 * around, most))
             while at < length:
                 kept.add((stretch.number, at))

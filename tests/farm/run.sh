@@ -1,6 +1,6 @@
-#!/bin/bash
-# Runs a suite of 80 tests on hosts of this machine, as examples/farm does: tests/farm/run.sh [PROGRAM], that which RUNTEST names or
-# which was built (make) if unsaid. Each report has to be that of one run, to the byte, also where hosts or the controller end in the
+#!/bin/sh
+# Runs a suite of 80 tests on hosts of this machine, as examples/farm does: tests/farm/run.sh [PROGRAM [PART..]], that which RUNTEST
+# names or which was built (make) if unsaid. The parts are shards, parallel and slurm; all if unsaid. Each report has to be that of one run, to the byte, also where hosts or the controller end in the
 # middle; and where tests are missing there has to be none.
 #
 # Nothing leaves the loopback. It wants to be root for sshd and Slurm. What isn't installed is left out, and told. It ends the
@@ -12,10 +12,13 @@ RUNTEST=${1:-${RUNTEST:-$top/crates/runtest/out/runtest}}
 RUNTEST=$(cd "$(dirname "$RUNTEST")" && pwd)/$(basename "$RUNTEST")
 MERGE=$top/contrib/runtest-merge
 export RUNTEST MERGE
+[ $# -lt 2 ] || { shift; parts=" $* "; }
+parts=${parts:- shards parallel slurm }
 work=$(mktemp -d)
 chmod 755 "$work"
-down() { sh "$here/hosts" "$work/ssh" down; bash "$here/cluster" "$work/slurm" down; }
+down() { sh "$here/hosts" "$work/ssh" down; sh "$here/cluster" "$work/slurm" down; }
 trap 'down > /dev/null 2>&1; sleep 1; rm -rf "$work"' EXIT
+trap 'exit 1' HUP INT TERM
 wrong=0
 bad() { echo "farm: $1"; wrong=$((wrong + 1)); }
 cd "$work" || exit 1
@@ -48,7 +51,7 @@ python3 "$here/suite.py" suite 40 300
 # shellcheck disable=SC2086
 "$RUNTEST" $options --target_board "$boards" --outdir one > /dev/null
 [ $? = 1 ] || bad "one run: another status than 1"
-EARLIER=$work/one/transcripts SLICE_SECONDS=1
+EARLIER=$work/one/transcripts SLICE_SECONDS=${SLICE_SECONDS:-1}
 export EARLIER SLICE_SECONDS
 
 try_list() {
@@ -58,7 +61,8 @@ try_list() {
     LC_ALL=C sort list | cmp - there || bad "the list is not that of the transcripts"
     [ "$(wc -l < list)" = 80 ] || bad "the list has not 80 tests"
     "$farm/cut" slices 1 "$EARLIER" < list
-    cat slices/*-unix slices/*-slow | LC_ALL=C sort | cmp - <(awk '{print $2}' list | LC_ALL=C sort) || bad "the slices are not the list"
+    awk '{print $2}' list | LC_ALL=C sort > names
+    cat slices/*-unix slices/*-slow | LC_ALL=C sort | cmp - names || bad "the slices are not the list"
 }
 
 try_shards() {
@@ -98,7 +102,7 @@ try_parallel() {
     setsid "$farm/farm-parallel" c unit suite "$boards" 1/h1 1/h2 1/h3 > c.sum 2> c.err &
     run=$!
     until_some c/got 2 $run
-    kill -9 -$run 2> /dev/null
+    kill -9 -- -"$run" 2> /dev/null
     wait $run 2> /dev/null
     before=$(ls c/got | wc -l)
     [ "$before" -lt "$(ls c/slices | wc -l)" ] || bad "the controller had ended before it was killed"
@@ -116,25 +120,31 @@ try_parallel() {
 }
 
 try_slurm() {
-    n1_FEATURES=unix,slow n2_FEATURES=unix n3_FEATURES=slow bash "$here/cluster" "$work/slurm" up 3 "$((port + 1))" || { bad "the cluster did not come up"; return; }
+    n1_FEATURES=unix,slow n2_FEATURES=unix n3_FEATURES=slow sh "$here/cluster" "$work/slurm" up 3 "$((port + 1))" || { bad "the cluster did not come up"; return; }
     . "$work/slurm/env"
-    PINNED=1 SLICE_SECONDS=2 "$farm/farm-slurm" s unit suite "$boards" -- "word=it's a word" > s.sum 2> s.err
+    PINNED=1 SLICE_SECONDS=$((2 * SLICE_SECONDS)) "$farm/farm-slurm" s unit suite "$boards" -- "word=it's a word" > s.sum 2> s.err
     same $? s.sum "Slurm on three nodes"
 }
 
 has() { for it; do command -v "$it" > /dev/null || [ -x "/usr/sbin/$it" ] || return 1; done; }
 
 try_list
-try_shards
-if has parallel ssh sshd rsync perl && [ "$(id -u)" = 0 ]; then
-    try_parallel
-else
-    echo "farm: left out: hosts by GNU parallel, since parallel, sshd or rsync is not there, or this is not root"
-fi
-if has sbatch slurmctld slurmd munged && [ "$(id -u)" = 0 ]; then
-    try_slurm
-else
-    echo "farm: left out: Slurm, since slurmctld, slurmd or munged is not there, or this is not root"
-fi
+case $parts in *" shards "*) try_shards ;; esac
+case $parts in
+*" parallel "*)
+    if has parallel ssh sshd rsync perl && [ "$(id -u)" = 0 ]; then
+        try_parallel
+    else
+        echo "farm: left out: hosts by GNU parallel, since parallel, sshd or rsync is not there, or this is not root"
+    fi ;;
+esac
+case $parts in
+*" slurm "*)
+    if has sbatch slurmctld slurmd munged && [ "$(id -u)" = 0 ]; then
+        try_slurm
+    else
+        echo "farm: left out: Slurm, since slurmctld, slurmd or munged is not there, or this is not root"
+    fi ;;
+esac
 echo "farm: $wrong wrong"
 [ $wrong = 0 ]
