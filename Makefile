@@ -65,7 +65,7 @@ growths: $(PROGRAM)
 	python3 tests/growths/growths.py $(PROGRAM)
 
 # Judges the example suites by their stored transcripts, and beside these with children: their reports are the stored ones.
-# Then compares and merges reports, as people do with them, and tries what a user sees of the program: words, faults, sessions,
+# Then tries the programs of contrib, a suite on several hosts, and what a user sees of the program: words, faults, sessions,
 # terminals, children. The gate does all this too.
 examples:
 	@$(EITHER) && python3 tools/tests.py "$$RUNTEST"
@@ -73,6 +73,9 @@ examples:
 install: $(PROGRAM)
 	install -d $(DESTDIR)$(PREFIX)/bin
 	install -m 755 $(PROGRAM) $(DESTDIR)$(PREFIX)/bin/runtest
+	install -m 755 contrib/runtest-* $(DESTDIR)$(PREFIX)/bin
+	install -d $(DESTDIR)$(PREFIX)/share/runtest/runtestlib
+	install -m 644 contrib/runtestlib/*.py $(DESTDIR)$(PREFIX)/share/runtest/runtestlib
 	install -d $(DESTDIR)$(PREFIX)/share/man/man1
 	install -m 644 runtest.1 $(DESTDIR)$(PREFIX)/share/man/man1/runtest.1
 	install -d $(DESTDIR)$(PREFIX)/share/doc/runtest
