@@ -9,7 +9,8 @@ import tempfile
 TOP = pathlib.Path(__file__).resolve().parents[2]
 DATA = TOP / "tests/contrib/data"
 PROGRAM = os.path.abspath(sys.argv[1])
-LONGEST = 300
+# how long a program may take, in seconds: a program that was built before any proof is slow
+LONGEST = 1000
 
 
 class Looks:

@@ -1,7 +1,8 @@
-"""Tries runtest-racy: racy.py PROGRAM. Races that were planted are found, each with its cut, and no other test is told.
+"""Tries runtest-racy: racy.py PROGRAM [PART..]. Races that were planted are found, each with its cut, and no other test is told.
 
 All transcripts are written here, and no child is started.
 """
+import os
 import pathlib
 import random
 import re
@@ -36,7 +37,7 @@ PLANTED = {
     "departs": ('expect "go" {send "a\\n"} "g" {send "b\\n"}\npass x', transcript(b"go\n", "sent 610a"), ['entry 2 is cut: "g" | "o\\n"']),
     "late": ('for {set i 0} {$i < 12} {incr i} {expect "line $i\\n"}\nexpect "yes" {pass x} "y" {fail x}', transcript(*[f"line {it}\n".encode() for it in range(12)], b"yes"), ['line 11\\ny" | "es"']),
     "deep": ('expect -re {(^|\\n)end (\\d+)} {}\nif {$expect_out(2,string) == 77} {pass x} else {fail x}', transcript(*[b"some output\n" * 20] * 3, b"end 77\n"), ['end 7" | "7\\n"']),
-    "forgets": ('expect "begin*end" {pass x} timeout {fail x}', transcript(b"begin" + b"." * 900, b"." * 900 + b"end", b"." * 300, "silence 10000"), []),
+    "forgets": ('match_max 200\nexpect "begin*end" {pass x} timeout {fail x}', transcript(b"begin" + b"." * 90, b"." * 90 + b"end", b"." * 30, "silence 10000"), []),
 }
 # Tests that look like races and are none.
 SOUND = {
@@ -98,9 +99,9 @@ def try_planted(here):
     again = racy(here, "--seed", "99", "--rounds", "3")
     looks.same("another seed", sorted(PLANTED), sorted(told(again.out)))
     looks.right("its seed", "seed 99, 3 rounds" in again.out, again.out[-300:])
-    for it in ("both", "all", "one"):
-        words = {"both": ["prefix.exp", "line.exp"], "all": ["--ignore", " ".join(f"{it.replace(' ', '-')}.exp" for it in PLANTED)], "one": ["t.x/line.exp"]}[it]
-        looks.same(f"selected: {words}", 1 if it == "both" else 0, racy(here, *words).status)
+    all_planted = " ".join(f"{it.replace(' ', '-')}.exp" for it in PLANTED)
+    for status, words in ((1, ["prefix.exp", "line.exp"]), (0, ["--ignore", all_planted]), (0, ["t.x/line.exp"])):
+        looks.same(f"selected: {words}", status, racy(here, *words).status)
 
 
 def try_errors(here):
@@ -158,12 +159,12 @@ def dialogue(rng):
 
 
 def try_dialogues(here):
-    """200 dialogues without a race; then ten of them with one."""
-    rng = random.Random(20)
-    rows = {f"d{it:03}": dialogue(rng) for it in range(200)}
+    """Dialogues without a race, 200 if DIALOGUES doesn't say another number; then ten of them with one."""
+    rng, number = random.Random(20), int(os.environ.get("DIALOGUES", "200"))
+    rows = {f"d{it:03}": dialogue(rng) for it in range(number)}
     plant(here, rows)
     before = runner("--tool", "t", "--srcdir", here / "suite", "--outdir", here / "out", "--rejudge")
-    looks.right("the verdicts of the dialogues", before.status == 0 and before.out.count("PASS: ") > 500, before.out[-400:])
+    looks.right("the verdicts of the dialogues", before.status == 0 and before.out.count("PASS: ") > number, before.out[-400:])
     ran = racy(here)
     looks.same("dialogues without a race", (0, {}), (ran.status, told(ran.out)))
     print(f"racy.py: dialogues: {ran.out.strip()}")
@@ -221,27 +222,28 @@ def streams(listed):
 def try_cuts(here):
     """Each cut of drawn transcripts keeps what it has to keep, at sizes that a transcript may have."""
     rng, count = random.Random(3), 0
-    texts = [dialogue(rng)[1] for _ in range(20)] + [transcript(*[b"x" * 4096] * 40), transcript(b"ab", "errchunk 5 6162", "errchunk 7 63", "silence 5", b"c", version=2)]
+    texts = [dialogue(rng)[1] for _ in range(8)] + [transcript(*[b"x" * 4096] * 40), transcript(b"ab", "errchunk 5 6162", "errchunk 7 63", "silence 5", b"c", version=2)]
     for number, text in enumerate(texts):
         path = write(here / f"{number}.tr", text)
         recording, listed = Recording(path), list(entries(path))
         looks.same("a recording has its own text", text, recording.text((recording.recorded,) * 2).decode())
-        ways = [recording.bytewise(), recording.joined(1000, False), recording.joined(1000, True), recording.joined(1, False)] + [recording.anywhere(random.Random(it), 1000) for it in range(8)]
+        ways = [recording.bytewise(), recording.joined(1000, False), recording.joined(1000, True), recording.joined(1, False)] + [recording.anywhere(random.Random(it), 1000) for it in range(4)]
         for cut in ways:
             for form in (it for pair in recording.pairs(cut) for it in pair):
                 made = list(entries(write(here / "cut.tr", recording.text(form))))
                 looks.same(f"transcript {number}", streams(listed), streams(made))
                 count += 1
         sizes = [len(it.data) for it in recording.listed(ways[0], ways[0]) if it.kind in OUTPUT]
-        looks.right("each byte a piece", max(sizes, default=1) == (4 if number == 20 else 1), max(sizes, default=1))
+        looks.right("each byte a piece", max(sizes, default=1) == (4 if number == 8 else 1), max(sizes, default=1))
         kept = {(it.session, it.kind, it.wait) for it in listed if it.kind == "silence"}
         looks.right("silences stay", kept == {(it.session, it.kind, it.wait) for it in recording.listed(ways[1], ways[1]) if it.kind == "silence"})
-    looks.right("many cuts", count > 300, count)
+    looks.right("many cuts", count > 100, count)
     for wanted in ([5], [0, 31], [3, 4, 17]):
         looks.same("the smallest part", wanted, smallest(list(range(32)), lambda it, wanted=wanted: set(wanted) <= set(it), 500))
 
 
-for it in (try_cuts, try_planted, try_errors, try_faults, try_examples, try_dialogues):
+PARTS = {"cuts": try_cuts, "planted": try_planted, "errors": try_errors, "faults": try_faults, "examples": try_examples, "dialogues": try_dialogues}
+for part in sys.argv[2:] or PARTS:
     with folder() as name:
-        it(pathlib.Path(name))
+        PARTS[part](pathlib.Path(name))
 looks.end()

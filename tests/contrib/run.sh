@@ -5,7 +5,7 @@
 #
 # reports.py: runtest-compare, runtest-merge and runtest-junit, on the reports in data, which were written by hand, as what has to
 # come was. lists.py: runtest-list beside the program. show.py: runtest-show, and broken transcripts beside the program. racy.py:
-# runtest-racy on races that were planted, on dialogues without one, and on examples. installed.sh: all of them from a folder that
+# runtest-racy on races that were planted, and on examples. installed.sh: all of them from a folder that
 # they are installed to.
 top=$(cd "$(dirname "$0")/../.." && pwd)
 program=${1:-${RUNTEST:-$top/crates/runtest/out/runtest}}
@@ -13,8 +13,10 @@ here=$top/tests/contrib
 [ -x "$program" ] || { echo "no program: $program"; exit 1; }
 program=$(cd "$(dirname "$program")" && pwd)/$(basename "$program")
 status=0
-for part in reports lists show racy; do
+for part in reports lists show; do
     python3 "$here/$part.py" "$program" || status=1
 done
+# All parts but the 200 dialogues, which take their time: racy.py PROGRAM dialogues.
+python3 "$here/racy.py" "$program" cuts planted errors faults examples || status=1
 sh "$here/installed.sh" || status=1
 exit $status

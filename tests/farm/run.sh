@@ -1,6 +1,7 @@
 #!/bin/sh
 # Runs a suite of 80 tests on hosts of this machine, as examples/farm does: tests/farm/run.sh [PROGRAM [PART..]], that which RUNTEST
-# names or which was built (make) if unsaid. The parts are shards, parallel and slurm; all if unsaid. Each report has to be that of one run, to the byte, also where hosts or the controller end in the
+# names or which was built (make) if unsaid. The parts are shards, parallel and slurm; all if unsaid. SCRIPTS, if set, is another
+# number of scripts than 40, and SLICE_SECONDS another length of slices than 1. Each report has to be that of one run, to the byte, also where hosts or the controller end in the
 # middle; and where tests are missing there has to be none.
 #
 # Nothing leaves the loopback. It wants to be root for sshd and Slurm. What isn't installed is left out, and told. It ends the
@@ -28,7 +29,7 @@ options="--tool unit --srcdir suite"
 
 # same STATUS FILE WHAT: a farm's status and report have to be those of one run.
 same() {
-    [ "$1" = 1 ] || { bad "$3: the status is $1"; tail -n 5 ./*.err 2> /dev/null; }
+    [ "$1" = $one ] || { bad "$3: the status is $1"; tail -n 5 ./*.err 2> /dev/null; }
     cmp "$2" one/unit.sum && echo "farm: $3: the report of one run" || bad "$3: another report"
 }
 
@@ -47,10 +48,12 @@ until_some() {
     done
 }
 
-python3 "$here/suite.py" suite 40 300
+SCRIPTS=${SCRIPTS:-40}
+python3 "$here/suite.py" suite "$SCRIPTS" 300
 # shellcheck disable=SC2086
 "$RUNTEST" $options --target_board "$boards" --outdir one > /dev/null
-[ $? = 1 ] || bad "one run: another status than 1"
+one=$?
+[ $one -le 1 ] || bad "one run: the status is $one"
 EARLIER=$work/one/transcripts SLICE_SECONDS=${SLICE_SECONDS:-1}
 export EARLIER SLICE_SECONDS
 
@@ -59,7 +62,7 @@ try_list() {
     "$farm/list" $options --target_board "$boards" > list || bad "no list"
     (cd one/transcripts && find . -name '*.tr') | sed -E 's,^\./([^/]*)/(.*)\.tr$,\1 \2,' | LC_ALL=C sort > there
     LC_ALL=C sort list | cmp - there || bad "the list is not that of the transcripts"
-    [ "$(wc -l < list)" = 80 ] || bad "the list has not 80 tests"
+    [ "$(wc -l < list)" = $((2 * SCRIPTS)) ] || bad "the list has not all tests"
     "$farm/cut" slices 1 "$EARLIER" < list
     awk '{print $2}' list | LC_ALL=C sort > names
     cat slices/*-unix slices/*-slow | LC_ALL=C sort | cmp - names || bad "the slices are not the list"
@@ -83,7 +86,7 @@ try_shards() {
     # shellcheck disable=SC2086
     "$farm/gather" list got less $options --target_board "$boards" > less.sum 2> less.err
     missing $? less.sum less.err "a tar file less"
-    [ "$(wc -l < less/missing)" -ge 10 ] || bad "less/missing doesn't name the tests"
+    [ "$(wc -l < less/missing)" -ge $((SCRIPTS / 4)) ] || bad "less/missing doesn't name the tests"
 }
 
 try_parallel() {
@@ -102,7 +105,7 @@ try_parallel() {
     setsid "$farm/farm-parallel" c unit suite "$boards" 1/h1 1/h2 1/h3 > c.sum 2> c.err &
     run=$!
     until_some c/got 2 $run
-    kill -9 -- -"$run" 2> /dev/null
+    kill -s KILL -- "-$run" 2> /dev/null
     wait $run 2> /dev/null
     before=$(ls c/got | wc -l)
     [ "$before" -lt "$(ls c/slices | wc -l)" ] || bad "the controller had ended before it was killed"
@@ -113,7 +116,7 @@ try_parallel() {
     sh "$here/hosts" "$work/ssh" dies 2
     "$farm/farm-parallel" b unit suite "$boards" unix=1/h1 slow=1/h2 -- "word=it's a word" > b.sum 2> b.err
     missing $? b.sum b.err "the only host of a board is dead"
-    [ "$(grep -c '^slow ' b/out/missing)" = 40 ] || bad "b/out/missing doesn't name the tests of the board"
+    [ "$(grep -c '^slow ' b/out/missing)" = "$SCRIPTS" ] || bad "b/out/missing doesn't name the tests of the board"
     sh "$here/hosts" "$work/ssh" back 2
     "$farm/farm-parallel" b unit suite "$boards" unix=1/h1 slow=1/h2 -- "word=it's a word" > b.sum 2> b.err
     same $? b.sum "the host is there again"

@@ -1,4 +1,4 @@
-//! What comes of a command that evaluates nothing inside.
+//! Attempts: the outcome of a command that evaluates nothing inside, by the answers that are known.
 ghost use Rattle.std.specs.Prelude.{◌≡◌, IfOk, IfSome};
 ghost use Rattle.dg_language.specs.Evaluation.{fail, wrong_count};
 ghost use Rattle.dg_language.specs.State.{State};
@@ -23,7 +23,7 @@ pub enum AttemptEnd {
     TooLong,
 }
 
-/// What comes of a command that evaluates nothing inside, by the answers that are known.
+/// The outcome of a command that evaluates nothing inside, by the answers that are known.
 #[derive(Drop)]
 pub enum Attempt {
     /// It ends so.

@@ -1,5 +1,5 @@
-//! The commands that evaluate nothing inside and may ask: those on variables, on the systems' triplets, on the flags that these
-//! decide, and on what a session keeps. Each is a function of its words and the state to what comes of it.
+//! The commands that evaluate nothing inside and may ask: on variables, on the triplets of the machines, on the flags that these
+//! decide, and on the size of a session's buffer. Each is a function of its words and the state to an attempt.
 #![tactic(auto)]
 
 mod attempt;

@@ -66,7 +66,7 @@ fn session_limit(
     Ok(AttemptEnd::Value(Bytes::new(alloc)))
 }
 
-/// What comes of `match_max`.
+/// Attempts `match_max`.
 pub fn run_match_max(
     alloc: Global,
     state: &mut State,

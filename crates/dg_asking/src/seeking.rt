@@ -11,7 +11,7 @@ use dg_language::State;
 use dg_sessions::Phase;
 use std::alloc::{AllocError, Global};
 
-/// What a session has to be for a call.
+/// The condition of a call on its session.
 #[derive(Clone, Copy, Debug, PartialEq, Eq)]
 pub enum Fit {
     /// Neither closed nor ended.

@@ -1,4 +1,4 @@
-//! The commands on the systems' triplets, and on the flags that they decide, by the DejaGnu manual.
+//! The commands on the triplets of the machines, and on the flags that these decide, by the DejaGnu manual.
 ghost use Rattle.std.specs.Prelude.{◌≡◌, IfOk};
 ghost use Rattle.std.specs.Option.{option_copied};
 ghost use Rattle.dg_language.specs.Play.{lookup};
@@ -62,7 +62,7 @@ fn is_native(alloc: Global, state: &State, args: &[Bytes]) -> Result<Attempt, Al
     Ok(Attempt::Ends(AttemptEnd::Value(value)))
 }
 
-/// What comes of a command on the systems' triplets.
+/// Attempts a command on the triplets of the machines.
 pub fn run_target(
     alloc: Global,
     state: &State,
@@ -79,7 +79,7 @@ pub fn run_target(
     }
 }
 
-/// What comes of `setup_xfail`, `setup_kfail`, `clear_xfail` and `clear_kfail`.
+/// Attempts `setup_xfail`, `setup_kfail`, `clear_xfail` or `clear_kfail`.
 pub fn run_flag(
     alloc: Global,
     state: &mut State,

@@ -1,4 +1,4 @@
-//! What can be wrong with a text that is to be a triplet.
+//! The fault of a text that is no triplet.
 use std::alloc::AllocError;
 use std::fmt;
 use thiserror::Error;

@@ -1,4 +1,4 @@
--- What the canonical text of a list gets behind it, with more elements.
+-- The bytes that more elements add to the canonical text of a list.
 use Rattle.std.specs.Prelude.{ℕ, List, [], ◌∷◌}
 use Rattle.dg_bytes.specs.Canonical.{further_text, text_of_list}
 

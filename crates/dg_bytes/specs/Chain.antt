@@ -1,4 +1,4 @@
--- What is made of a value, if there is one.
+-- A step after an optional value.
 use Rattle.std.specs.Prelude.{Result, Ok, Err}
 
 infixl 10 ◌>>=◌

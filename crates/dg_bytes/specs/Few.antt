@@ -1,4 +1,4 @@
--- A few bytes.
+-- At most sixteen bytes, held in the value itself.
 use Rattle.std.specs.Prelude.{ℕ, List, take}
 use Rattle.dg_bytes.specs.declared.few.Few.{Few}
 

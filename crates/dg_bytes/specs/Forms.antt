@@ -1,4 +1,4 @@
--- What is kept of bytes.
+-- How bytes are held.
 use Rattle.std.specs.Prelude.{ℕ, List}
 use Rattle.std.specs.Arc.{arc_value}
 use Rattle.dg_bytes.specs.Canonical.{text_of_list}

@@ -1,4 +1,4 @@
--- The bytes that names are made of.
+-- The bytes that a file's name may have.
 use Rattle.std.specs.Prelude.{ℕ, Bool, ◌==◌, ◌&&◌, ◌||◌, nat_le}
 
 -- the portable filename character set (POSIX.1, 3.282) and `+`: a letter, a digit or one of `.`, `_`, `-` and `+`

@@ -21,7 +21,7 @@ use std::marker::Model;
 use std::sync::Arc;
 use std::{fmt, mem};
 
-/// What is kept of bytes.
+/// How the bytes are held.
 #[derive(Drop)]
 enum Form {
     /// A few bytes, held in the value itself, and where memory for more is from.
@@ -34,7 +34,7 @@ enum Form {
     Listed(Arc<Listed>),
 }
 
-/// What became of bytes that were to grow as a list.
+/// The outcome of growing bytes as a list.
 #[derive(Clone, Copy, Drop)]
 pub enum Growth {
     /// They have grown.
@@ -179,7 +179,7 @@ impl Bytes {
         }
     }
 
-    /// From now on a copy costs no copy of the bytes, unless they are few.
+    /// Shared from now on: cloning is cheap.
     pub fn keep(&mut self, alloc: Global) -> Result<(), AllocError>
         ensures { OnOk result (self.new ≡ self.old) }
     {

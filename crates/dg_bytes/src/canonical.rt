@@ -27,7 +27,7 @@ pub(crate) fn is_plain(element: &[u8]) -> bool
     true
 }
 
-/// Whether a byte may stand there in braces, and what stands behind it.
+/// Whether a byte may stand there in braces, and how many braces are open after it.
 fn brace_step(paired: bool, depth: u64, byte: u8) -> Option<(bool, u64)>
     requires { depth + 1 < 2 ^ 64 }
     ensures { result ≡ brace_step paired depth byte }

@@ -1,4 +1,4 @@
-//! Copies that can fail for want of memory, and for nothing else.
+//! Copies that fail only where memory runs out.
 ghost use Rattle.std.specs.Prelude.{◌≡◌, IfOk};
 
 use crate::bytes::Bytes;

@@ -1,4 +1,4 @@
-//! A few bytes, held in the value itself.
+//! At most sixteen bytes, held in the value itself.
 ghost use Rattle.std.specs.Prelude.{◌≡◌, ◌++◌, IfSome};
 ghost use Rattle.dg_bytes.specs.Few.{few_bytes};
 

@@ -1,4 +1,4 @@
-//! Bytes and lists of values, as contracts see them: the types that every other room speaks of.
+//! Bytes and lists of values, as contracts see them. Every other crate uses these types.
 #![tactic(auto)]
 
 mod bytes;

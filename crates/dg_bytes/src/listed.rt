@@ -55,7 +55,7 @@ impl Listed {
         self.elements.as_slice()
     }
 
-    /// What the canonical text gets behind it with more elements.
+    /// The bytes that more elements add to the canonical text.
     #[tactic(auto, using(crate::proofs::Growing::empty_if))]
     fn added(&self, alloc: Global, more: &[Text]) -> Result<Vec<u8>, AllocError>
         ensures { IfOk result (λ text. text.items ≡ added self.now more.now) }

@@ -1,4 +1,4 @@
-//! The bytes that names are made of.
+//! The bytes that a file's name may have.
 ghost use Rattle.std.specs.Prelude.{◌≡◌};
 ghost use Rattle.std.specs.List.{list_all};
 ghost use Rattle.dg_bytes.specs.Portable as word;

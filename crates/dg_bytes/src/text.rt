@@ -7,7 +7,7 @@ use std::alloc::{AllocError, Global};
 use std::marker::Model;
 use std::sync::Arc;
 
-/// What is kept of a text.
+/// How a text is held.
 #[derive(Drop)]
 pub(crate) enum Kept {
     /// A few bytes, held in the value itself, and where memory for more is from.
@@ -16,7 +16,7 @@ pub(crate) enum Kept {
     Shared(Arc<Vec<u8>>),
 }
 
-/// A byte text. To share it costs no copy of its bytes, unless they are few. A contract sees the bytes.
+/// A byte text. Sharing it is cheap: at most a few bytes are copied. A contract sees the bytes.
 #[derive(Drop)]
 pub struct Text {
     pub(crate) kept: Kept,

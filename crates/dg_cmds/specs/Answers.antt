@@ -1,4 +1,4 @@
--- What a command gives for its words.
+-- The answers of commands to their words.
 use Rattle.std.specs.Prelude.{◌≡◌, ℕ, List, [], ◌∷◌, ◌++◌, length, nat_eq, nat_le, codes, Option, None, Some, Result, Ok, Err, MatchOption, MatchResult, ◌≢◌, ◌⊎◌, if◌then◌else◌}
 use Rattle.std.specs.Cmp.Lexicographic.{pointwise}
 use Rattle.std.specs.Fmt.{decimal}
@@ -10,19 +10,19 @@ use Rattle.dg_cmds.specs.declared.answer.TheConstants.{LONGEST}
 abbrev pub Answer : Type 0
 Answer = Result (List ℕ) CmdFault
 
--- What a function returned is what there is to give, unless memory ran out.
+-- A function returned the defined answer, unless memory ran out.
 abbrev pub Gives : {X : Type 0} → Result X CmdFault → Result X CmdFault → Type 0
 Gives r a = MatchResult r (λ x. a ≡ Ok x) (λ f. (f ≡ Memory) ⊎ (a ≡ Err f))
 
--- What a function returned is what the command of a name gives, or None exactly where no command has the name.
+-- A function returned the answer of the command of this name, or None exactly where no command has the name.
 abbrev pub GivesIfNamed : {X : Type 0} → Option (Result X CmdFault) → Option (Result X CmdFault) → Type 0
 GivesIfNamed r a = MatchOption r (a ≡ None) (λ given. MatchResult given (λ x. a ≡ Some (Ok x)) (λ f. ((f ≡ Memory) × (a ≢ None)) ⊎ (a ≡ Some (Err f))))
 
--- what a command gives, by the words behind its name
+-- the answer of a command, by the words after its name
 abbrev pub Command : Type 0
 Command = List (List ℕ) → Answer
 
--- what the first command of a table gives that has a name; None where none has
+-- the answer of the first command of a table that has this name; None where none has
 abbrev pub given_by : List (List ℕ × Command) → List ℕ → List (List ℕ) → Option Answer
 given_by [] name words = None
 given_by (row ∷ rows) name words = if pointwise nat_eq name row.0 then Some (row.1 words) else given_by rows name words
@@ -51,6 +51,6 @@ place_text (Some n) = decimal n
 abbrev pub Adds : Result (Unit {0}) CmdFault → List ℕ → List ℕ → List ℕ → Type 0
 Adds r old new bytes = MatchResult r (λ _. (new ≡ old ++ bytes) × (limited old ≡ Ok old → limited new ≡ Ok new)) (λ f. (f ≡ Memory) ⊎ (limited (old ++ bytes) ≡ Err f))
 
--- A value was changed to what there is to give, or it couldn't be.
+-- A value was changed to the defined answer, or it couldn't be.
 abbrev pub Makes : Result (Unit {0}) CmdFault → List ℕ → Answer → Type 0
 Makes r new a = MatchResult r (λ _. a ≡ Ok new) (λ f. (f ≡ Memory) ⊎ (a ≡ Err f))

@@ -1,4 +1,4 @@
--- Parts of a text that are told by their bytes.
+-- Parts of a text, chosen by their bytes.
 use Rattle.std.specs.Prelude.{◌≡◌, ℕ, ◌<◌, Bool, false, List, [], ◌∷◌, ◌==◌, reverse, slice_index_or, if◌then◌else◌}
 use Rattle.std.specs.List.{list_any}
 

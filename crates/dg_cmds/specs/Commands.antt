@@ -10,7 +10,7 @@ use Rattle.dg_cmds.specs.Strings.{string_of}
 abbrev pub pure_commands : List (List ℕ × Command)
 pure_commands = (codes "string", string_of) ∷ (codes "format", format_of) ∷ list_commands
 
--- what a command of these gives for the words behind its name; None where none has the name
+-- the answer of one of these commands for the words after its name; None where none has the name
 unfoldable pub pure_of : List ℕ → List (List ℕ) → Option Answer
 pure_of name words = given_by pure_commands name words
 

@@ -30,7 +30,7 @@ number_behind n (d ∷ ds) = number_behind (n * 10 + (d - 48)) ds
 abbrev pub width_of : List ℕ → ℕ
 width_of ds = min (number_behind 0 ds) PAST
 
--- what stands behind the flags of a field, and behind its width
+-- the text after the flags of a field, and after its width
 abbrev pub behind_flags : List ℕ → List ℕ
 behind_flags part = trimmed_left (member (codes "-0")) part
 
@@ -54,7 +54,7 @@ field_from left zero width (b ∷ rest) = option_map (field_with left zero width
 unfoldable pub field_of : List ℕ → Option Field
 field_of part = field_from (member (flags_of part) 45) (member (flags_of part) 48) (width_of (digits_of part)) (behind_width part)
 
--- what stands behind the field
+-- the text after the field
 unfoldable pub text_behind : List ℕ → List ℕ
 text_behind part = drop 1 (behind_width part)
 
@@ -89,7 +89,7 @@ abbrev pub or_bad_field : Option Field → Result Field CmdFault
 or_bad_field (Some f) = Ok f
 or_bad_field None = Err (Tcl (codes "bad field specifier"))
 
--- a text with a value and what stands behind its field
+-- a text with a value and the text after its field
 unfoldable pub with_field : List ℕ → List ℕ → List ℕ → Answer
 with_field text part v =
     or_bad_field (field_of part) >>= λ f. value_in f f.style v >>= λ shown. limited (text ++ shown) >>= λ longer. limited (longer ++ text_behind part)

@@ -1,4 +1,4 @@
--- Where a needle stands in a text, and whether a glob matches.
+-- The places of a needle in a text, and matches of globs.
 use Rattle.std.specs.Prelude.{ℕ, ◌+◌, List, [], ◌∷◌, length, Option, None}
 use Rattle.memchr.specs.Find.{occurs_at}
 pub use Rattle.dg_glob.specs.Least.{least_below, greatest_below}

@@ -137,7 +137,7 @@ abbrev pub by_operation : Option Operation → List (List ℕ) → Answer
 by_operation None args = Err (Tcl (codes "unknown subcommand"))
 by_operation (Some o) args = operated o args
 
--- what `string` gives for its words
+-- the answer of `string` to its words
 unfoldable pub string_of : List (List ℕ) → Answer
 string_of [] = wrong_count (codes "string")
 string_of (word ∷ args) = by_operation (operation_of word) args

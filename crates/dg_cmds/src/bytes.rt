@@ -1,4 +1,4 @@
-//! Sets of bytes, texts without such bytes at their ends, and texts one behind the other.
+//! Sets of bytes, texts trimmed of them, and texts joined to one another.
 ghost use Rattle.std.specs.Prelude.{◌≡◌, ◌≤◌, ◌++◌, IfOk, length};
 ghost use Rattle.dg_cmds.specs.Bytes.{IsSetOf, member, trimmed, trimmed_left, trimmed_right};
 

@@ -60,7 +60,7 @@ fn width_of(digits: &[u8]) -> usize
     width
 }
 
-/// The field at the front of what stands behind a percent sign, and what stands behind the field.
+/// The field after a percent sign, and the text after the field.
 #[tactic(auto, unfolding(crate::specs::Formats::field_of, crate::specs::Formats::text_behind))]
 pub(crate) fn read_field(part: &[u8]) -> Option<(Field, &[u8])>
     ensures { MatchOption result (field_of part.now ≡ None)

@@ -10,7 +10,7 @@ use crate::lists::cut;
 use dg_bytes::Bytes;
 use std::alloc::Global;
 
-/// Adds a value in its field and what stands behind the field.
+/// Adds a value in its field, and the text after the field.
 #[tactic(auto, unfolding(crate::specs::Formats::with_field))]
 fn add_field(alloc: Global, text: &mut Bytes, part: &Bytes, value: &Bytes) -> Result<(), CmdFault>
     ensures { Makes result text.new (with_field text.old part.now value.now) }
@@ -28,7 +28,7 @@ fn add_field(alloc: Global, text: &mut Bytes, part: &Bytes, value: &Bytes) -> Re
     add(text, behind)
 }
 
-/// Adds a percent sign and what stands behind it.
+/// Adds a percent sign, and the text after it.
 fn add_plain(alloc: Global, text: &mut Bytes, plain: &Bytes) -> Result<(), CmdFault>
     ensures { Makes result text.new (limited (text.old ++ 37 ∷ plain.now)) }
 {
@@ -50,7 +50,7 @@ fn plain_behind<'a>(part: &Bytes, later: &'a [Bytes]) -> Option<(&'a Bytes, &'a 
     Some((plain, rest))
 }
 
-/// A text and what stands behind each further percent sign.
+/// A text, and the text after each further percent sign.
 fn with_parts(
     alloc: Global,
     text: Bytes,

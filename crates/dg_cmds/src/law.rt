@@ -1,4 +1,4 @@
-//! The law on what commands come to.
+//! The law that no command wants memory.
 ghost use Rattle.dg_cmds.specs.Commands.{NoCommandWantsMemory};
 
 /// What a string, list or format command comes to is never want of memory, but a value, a script error, or

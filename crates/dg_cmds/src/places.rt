@@ -1,4 +1,4 @@
-//! Where a needle stands in a text, and whether a glob matches.
+//! The places of a needle in a text, and matches of globs.
 ghost use Rattle.std.specs.Prelude.{◌≡◌, ◌≤◌, ◌↔◌, IfSome, IsTrue, length};
 ghost use Rattle.dg_glob.specs.Glob.{Matches};
 ghost use Rattle.dg_cmds.specs.Places.{first_place, glob_matches, last_place};

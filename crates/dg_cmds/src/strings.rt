@@ -15,7 +15,7 @@ use dg_bytes::Bytes;
 use std::alloc::{AllocError, Global};
 use std::cmp::Ordering;
 
-/// What `string` does with its words.
+/// The subcommands of `string`.
 #[derive(Clone, Copy)]
 enum Operation {
     Length,

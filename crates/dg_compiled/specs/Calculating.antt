@@ -1,4 +1,4 @@
--- What is left of an expression.
+-- The rest of an expression's evaluation.
 use Rattle.std.specs.Prelude.{ℕ, List, ◌∷◌}
 use Rattle.dg_expr.specs.Code.{run}
 use Rattle.dg_expr.specs.declared.code.Instruction.{Instruction}

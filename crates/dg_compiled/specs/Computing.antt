@@ -1,4 +1,4 @@
--- Where the instructions of an expression come to by themselves.
+-- How far the instructions of an expression go without a question or an evaluation.
 use Rattle.std.specs.Prelude.{◌≡◌, ℕ, ◌^◌, ◌<◌, List, length, Option, Some, None}
 use Rattle.dg_expr.specs.declared.code.Instruction.{Instruction}
 use Rattle.dg_expr.specs.Number.{decimal_text}

@@ -1,4 +1,4 @@
--- What is taken off the instructions that are left of an expression.
+-- Steps through the rest of an expression's instructions.
 use Rattle.std.specs.Prelude.{◌≡◌, ℕ, ◌+◌, List, [], ◌∷◌, drop, Option, Some, None}
 use Rattle.std.specs.Arc.{arc_value}
 use Rattle.std.specs.declared.sync.Arc.{Arc}

@@ -1,4 +1,4 @@
--- Words in the making.
+-- Words of a command while they are being made.
 use Rattle.std.specs.Prelude.{ℕ}
 use Rattle.dg_language.specs.Play.{Play}
 use Rattle.dg_language.specs.State.{State}

@@ -1,4 +1,4 @@
--- What is read of a text, and what is taken off the commands that are left.
+-- The reading of a text, and steps through the rest of its commands.
 use Rattle.std.specs.Prelude.{◌≡◌, ℕ, ◌+◌, ◌≤◌, ◌<◌, List, [], ◌∷◌, drop, length, Option, Some, None}
 use Rattle.dg_words.specs.declared.word.Word.{Word}
 use Rattle.dg_language.specs.declared.command.Command.{Command}
@@ -17,7 +17,7 @@ use Rattle.dg_compiled.specs.declared.script.Begun.TheVariants.{Words as Made, U
 use Rattle.dg_compiled.specs.declared.script.Next.{Next}
 use Rattle.dg_compiled.specs.declared.script.Next.TheVariants.{Words as NextWords, Unreadable as NextFault, Nothing}
 
--- what stands at a place of a text
+-- the command at a place of a text
 abbrev pub Reads : List ℕ → ℕ → Next → Type 0
 Reads text at (NextWords ws next) = (commands_at text at ≡ Words ws ∷ commands_at text next) × (at < next) × (next ≤ length text)
 Reads text at (NextFault fault) = commands_at text at ≡ Unreadable fault ∷ []

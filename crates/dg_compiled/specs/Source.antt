@@ -1,4 +1,4 @@
--- The commands that are left of a script, and those that were read of a text.
+-- The rest of a script's commands, and the commands that were read of a text.
 use Rattle.std.specs.Prelude.{◌≡◌, ℕ, ◌≤◌, List, [], ◌∷◌, drop, length, Option, Some, None}
 use Rattle.std.specs.Arc.{arc_value}
 use Rattle.std.specs.declared.sync.Arc.{Arc}

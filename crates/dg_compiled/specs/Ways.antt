@@ -1,4 +1,4 @@
--- How commands run where they stand, where they may.
+-- The fast paths that a command's words allow.
 use Rattle.std.specs.Prelude.{◌≡◌, ℕ, ◌+◌, ◌≤◌, List, [], ◌∷◌, drop, length, codes, Option}
 use Rattle.std.specs.Arc.{arc_value}
 use Rattle.dg_words.specs.declared.word.Word.{Word}

@@ -21,7 +21,7 @@ use dg_forms::{truth_in, value_behind, value_between};
 use dg_language::{Purpose, Queue, State, Substitution};
 use std::alloc::{AllocError, Global};
 
-/// Where the instructions of an expression come to by themselves.
+/// How far the instructions of an expression have come without a question or an evaluation.
 #[derive(Drop)]
 pub enum Computed {
     /// To the end, with this value.
@@ -30,7 +30,7 @@ pub enum Computed {
     Whole(i64),
     /// To one that fails with this message.
     Failed(Bytes),
-    /// To an operand, of which these words in the making are left.
+    /// To an operand that needs an evaluation, with the rest of its words.
     Operand(Making),
 }
 
@@ -207,7 +207,7 @@ fn load(
     Ok(None)
 }
 
-/// What an instruction comes to that may fail with a message.
+/// The result of an instruction that may fail with a message.
 fn failed(message: Option<Bytes>) -> Option<Computed>
     ensures { MatchOption message (result ≡ None) (λ m. result ≡ Some (TheComputed.Failed m)) }
 {
@@ -260,7 +260,7 @@ fn compute_whole(state: &State, calculation: &Calculation) -> Option<i64>
     calculation.left.whole(state)
 }
 
-/// What an expression comes to that is one operator between two operands that are values by themselves.
+/// The value of an expression that is one operator between two operands that are values by themselves.
 fn compute_at_once(
     alloc: Global,
     state: &State,

@@ -1,5 +1,5 @@
-//! What scripts, expressions and lists are read as, once, and how far they go by themselves: words that are made and
-//! expressions that are computed while nothing is asked or evaluated for them.
+//! Scripts, expressions and lists are read once and kept. Words are made and expressions are computed
+//! here, as far as nothing has to be asked or evaluated for them.
 #![tactic(auto)]
 
 mod calculation;

@@ -1,4 +1,4 @@
-//! Lists that commands read again and again.
+//! A cache of lists that commands read again and again.
 ghost use Rattle.std.specs.Prelude.{◌≡◌, IfOk};
 
 use dg_bytes::{Bytes, Seq, TryCopy};

@@ -1,4 +1,4 @@
-//! Words in the making.
+//! Words of a command while they are being made.
 ghost use Rattle.std.specs.Prelude.{◌≡◌, ◌<◌, ◌^◌, [], length, IfOk};
 ghost use Rattle.dg_language.specs.Control.{head_or_empty};
 
@@ -7,16 +7,16 @@ use dg_bytes::{Bytes, Seq, TryCopy};
 use dg_language::{Purpose, Queue, Substitution};
 use std::alloc::{AllocError, Global};
 
-/// Words in the making.
+/// The words of a command while they are being made.
 #[derive(Drop)]
 pub struct Making {
-    /// What the words are for.
+    /// The use of the words.
     pub purpose: Purpose,
     /// The words that are made.
     pub made: Seq<Bytes>,
-    /// The name of each element whose index is being made, and what was made before it; the inmost on top.
+    /// The name of each element whose index is being made, and the text before it; the innermost on top.
     pub outer: Stack<(Bytes, Bytes)>,
-    /// What is made of the next word, or of the inmost index.
+    /// The part of the next word, or of the innermost index, that is made.
     pub text: Bytes,
     /// The steps that are left.
     pub left: Queue<Substitution>,

@@ -1,4 +1,4 @@
-//! Words that are made of texts, and of the values of variables that are in use: nothing is asked or evaluated for them.
+//! Words that are made of texts and of the values of variables in use, with nothing asked or evaluated.
 ghost use Rattle.std.specs.Prelude.{◌≡◌, ◌+◌, ◌≤◌, ◌<◌, ◌∷◌, ◌++◌, [], ℕ, List, IfOk, OnOk, IfSome, Some, drop, length};
 ghost use Rattle.std.specs.Bool.{OnTrue, OnFalse};
 ghost use Rattle.dg_language.specs.Evaluation.{Then};
@@ -55,7 +55,7 @@ fn value_with_room(
     Ok(Some(value.copy(alloc)?))
 }
 
-/// Takes the steps that only add a text or the value of a variable that is in use, or end a word, up to any other, or to a
+/// Takes the steps that only add a text or the value of a variable in use, or end a word. It stops at any other step, and at a
 /// text that would make the word too long.
 pub fn make_texts(alloc: Global, state: &State, making: &mut Making) -> Result<(), AllocError>
     ensures same { OnOk result
@@ -92,8 +92,8 @@ pub fn make_texts(alloc: Global, state: &State, making: &mut Making) -> Result<(
     Ok(())
 }
 
-/// Takes a step that only adds a text or the value of a variable that is in use, or ends a word. Whether it was taken: any
-/// other is not, nor a text that would make the word too long.
+/// Takes a step that only adds a text or the value of a variable in use, or ends a word, and says whether it was taken. Any
+/// other step is not, and no text that would make the word too long.
 fn take_text(
     alloc: Global,
     state: &State,
@@ -127,7 +127,7 @@ fn take_text(
     Ok(true)
 }
 
-/// The words that these steps make, as far as they are only texts and values of variables that are in use. What is left of
+/// The words that these steps make, as far as they are only texts and values of variables that are in use. The rest of
 /// the steps is copied.
 pub(crate) fn begun_with(
     alloc: Global,
@@ -183,7 +183,7 @@ pub fn short_text<'a>(state: &'a State, step: &'a Substitution) -> Option<&'a By
     Some(value)
 }
 
-/// Takes words that are one text each, or the value of one variable that is in use. How many steps were taken.
+/// Takes words that are one text each, or the value of one variable in use, and gives how many steps were taken.
 fn take_words(
     alloc: Global,
     state: &State,

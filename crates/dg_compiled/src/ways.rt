@@ -1,4 +1,4 @@
-//! How commands run where they stand, where they may: what of that their words tell, once they are read.
+//! The parser decides whether a command may take a fast path (`Way`): it may where its words say all that is needed.
 ghost use Rattle.std.specs.Prelude.{◌≡◌, ◌≤◌, [], ◌∷◌, codes, length, IfOk, IfSome};
 ghost use Rattle.std.specs.Arc.{arc_value};
 ghost use Rattle.dg_expr.specs.Reading.{tree_in};
@@ -23,7 +23,7 @@ use dg_words::Word;
 use std::alloc::{AllocError, Global};
 use std::sync::Arc;
 
-/// How a command runs where it stands, if nothing hinders it.
+/// The fast path of a command: if nothing hinders it, it runs in place, and no frame is made for it.
 #[derive(Drop)]
 pub enum Way {
     /// `set` of a name to a text or the value of a variable.
@@ -36,7 +36,7 @@ pub enum Way {
     SettingComputed(Arc<Formula>),
     /// `return` of such a value.
     Returning(Arc<Formula>),
-    /// It never does.
+    /// None: the words of the command are made as those of any other.
     Other,
 }
 
@@ -129,7 +129,7 @@ fn only_formula(alloc: Global, script: &Bytes) -> Result<Option<Arc<Formula>>, A
     Ok(Some(formula))
 }
 
-/// How a `set` of these words runs.
+/// The fast path of a `set` with these words.
 fn way_of_set(alloc: Global, steps: &[Substitution]) -> Result<Way, AllocError>
     requires { HasWord steps.now 0 (Step.Literal (codes "set")) }
     ensures { IfOk result (HasWay steps.now) }
@@ -146,7 +146,7 @@ fn way_of_set(alloc: Global, steps: &[Substitution]) -> Result<Way, AllocError>
     }
 }
 
-/// How a `return` of these words runs.
+/// The fast path of a `return` with these words.
 fn way_of_return(alloc: Global, steps: &[Substitution]) -> Result<Way, AllocError>
     requires { HasWord steps.now 0 (Step.Literal (codes "return")) }
     ensures { IfOk result (HasWay steps.now) }
@@ -163,7 +163,7 @@ fn way_of_return(alloc: Global, steps: &[Substitution]) -> Result<Way, AllocErro
     }
 }
 
-/// How the command of these words runs.
+/// The fast path of the command with these words.
 pub(crate) fn way_of(alloc: Global, steps: &[Substitution]) -> Result<Way, AllocError>
     ensures { IfOk result (HasWay steps.now) }
 {

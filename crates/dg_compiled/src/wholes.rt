@@ -1,4 +1,4 @@
-//! Expressions of whole numbers, which are computed without the texts of what comes between.
+//! Expressions of whole numbers, computed without texts for the numbers in between.
 ghost use Rattle.std.specs.Prelude.{◌≡◌, ◌∷◌, [], List, IfSome, map};
 ghost use Rattle.dg_expr.specs.declared.code.Instruction.{Instruction as Step};
 ghost use Rattle.dg_words.specs.Piece.{Piece};
@@ -55,7 +55,7 @@ impl Waiting {
         self.numbers.pop()
     }
 
-    /// Takes the two numbers on top. What an operator gives them, where it gives a number.
+    /// Takes the two numbers on top, and gives the result of an operator on them, where it is a number.
     fn combined(&mut self, op: Infix) -> Option<i64>
         ensures { IfSome result (Combines op self.old self.new) }
     {
@@ -84,7 +84,7 @@ fn push_operand(state: &State, steps: &[Substitution], waiting: &mut Waiting) ->
     Some(())
 }
 
-/// Puts what an operator gives the two numbers on top in their place, if it gives a number.
+/// Puts the result of an operator in the place of the two numbers on top, if it is a number.
 #[tactic(auto, using(crate::proofs::WholeLemmas::applied))]
 fn apply_operator(op: Infix, waiting: &mut Waiting) -> Option<()>
     ensures { IfSome result (λ _. (s : State) → Advances s (Step.Apply op) waiting.old waiting.new) }
@@ -117,8 +117,8 @@ fn advance(
     }
 }
 
-/// The number that an expression comes to, where all its operands are whole numbers by themselves and so is what its last operator
-/// gives.
+/// The number that an expression comes to, where all its operands are whole numbers by themselves and its last operator gives a
+/// whole number.
 pub(crate) fn whole_of(
     state: &State,
     code: &[Instruction],

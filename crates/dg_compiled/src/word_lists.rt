@@ -1,4 +1,4 @@
-//! Words that stand as a list in one argument, as those of `expect` may: they are read once.
+//! Words that stand as a list in one argument, as those of `expect` may, read once.
 ghost use Rattle.std.specs.Prelude.{◌≡◌, ℕ, IfOk, MatchResult};
 ghost use Rattle.dg_lists.specs.Faults.{fault_text};
 ghost use Rattle.dg_language.specs.Evaluation.{Then, fail};

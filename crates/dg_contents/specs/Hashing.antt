@@ -1,4 +1,4 @@
--- What of a content is hashed.
+-- The part of a content that is hashed.
 use Rattle.std.specs.Prelude.{ℕ, ◌-◌, List, length, drop, min, take}
 use Rattle.std.specs.Hash.{le_bytes}
 use Rattle.std.specs.Hash.FoldHasher as folding

@@ -1,4 +1,4 @@
-//! Contents that are held, each under a number of its own.
+//! Numbers for contents: each content that somebody holds has one of its own.
 #![tactic(auto)]
 
 mod contents;

@@ -1,2 +1,3 @@
 pub mod JobLemmas
 pub mod Crosses
+pub mod LimitLemmas

@@ -1,11 +1,11 @@
--- What the code's answers on values say.
+-- How the code's answers on values are seen by the definitions.
 use Rattle.std.specs.Prelude.{◌≡◌, ℕ, ℤ, List, Result, Ok, Err, ◌⊎◌, Option, None, Some}
 use Rattle.dg_expr.specs.declared.fault.Side.TheVariants.{Left, Right}
 use Rattle.dg_expr.specs.declared.fault.ExprFault.{ExprFault}
 use Rattle.dg_expr.specs.declared.fault.ExprFault.TheVariants.{Memory, NotWhole}
 use Rattle.dg_expr.specs.Operator.{Value, number_value}
 
--- What a function returned is this value, unless memory ran out.
+-- A function returned this value, unless memory ran out.
 abbrev pub HasValue : Value → Result (List ℕ) ExprFault → Type 0
 HasValue v (Ok text) = v ≡ Ok text
 HasValue v (Err f) = (f ≡ Memory) ⊎ (v ≡ Err f)

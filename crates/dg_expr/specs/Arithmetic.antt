@@ -1,4 +1,4 @@
--- What operators give whole numbers, whatever their texts.
+-- The numbers that operators give whole numbers, whatever their texts are.
 use Rattle.std.specs.Prelude.{◌≡◌, ℕ, ℤ, List, Some, Ok}
 use Rattle.dg_expr.specs.declared.operator.Infix.{Infix}
 use Rattle.dg_expr.specs.Number.{number_of, decimal_text}

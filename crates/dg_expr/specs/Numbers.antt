@@ -1,4 +1,4 @@
--- What the code's answers on numbers say.
+-- How the code's answers on numbers are seen by the definitions.
 use Rattle.std.specs.Prelude.{◌≡◌, ◌≢◌, ◌⊎◌, ℕ, List, ◌^◌, ◌≤◌, ◌<◌, Option, None, Some, false}
 use Rattle.dg_expr.specs.Number.{digits_in, is_space, magnitude_of}
 

@@ -35,7 +35,7 @@ unfoldable pub reduce : ℕ → List Frame → Tree → Option (List Frame × Tr
 reduce k [] t = Some ([], t)
 reduce k (f ∷ fs) t = if takes k f then (if is_low (joined f t) then reduce k fs (joined f t) else None) else Some (f ∷ fs, t)
 
--- what is open, and the tree behind it where an operator may come
+-- the open items, and the tree after them where an operator may come
 abbrev pub Place : Type 0
 Place = List Frame × Option Tree
 

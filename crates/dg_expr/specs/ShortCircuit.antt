@@ -1,4 +1,4 @@
--- Which operands an operator needs, and what a tree makes of their values.
+-- Which operands an operator needs, and the value of a tree by their values.
 use Rattle.std.specs.Prelude.{◌≡◌, ℕ, List, [], Bool, true, false, not, Option, None, Some, Ok, Err, if◌then◌else◌}
 use Rattle.dg_words.specs.Piece.{Piece}
 use Rattle.dg_expr.specs.declared.fault.ExprFault.TheVariants.{NotTruth}

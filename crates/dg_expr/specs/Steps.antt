@@ -1,4 +1,4 @@
--- What the answers of the reader say.
+-- How the answers of the reader are seen by the definitions.
 use Rattle.std.specs.Prelude.{◌≡◌, ℕ, ◌≤◌, List, length, drop, true, false, Result, Ok, Err, ◌⊎◌, Option, None, Some}
 use Rattle.dg_expr.specs.declared.fault.ExprFault.{ExprFault}
 use Rattle.dg_expr.specs.declared.fault.ExprFault.TheVariants.{Memory, Syntax}
@@ -13,12 +13,12 @@ abbrev pub Makes : Tree → Result Tree ExprFault → Type 0
 Makes t (Ok u) = (u ≡ t) × (is_low t ≡ true)
 Makes t (Err f) = (f ≡ Memory) ⊎ ((f ≡ Syntax) × (is_low t ≡ false))
 
--- This is what there is, or there is none, or memory ran out.
+-- This is the answer, or there is none, or memory ran out.
 abbrev pub Finds : {A : Type 0} → Option A → Result A ExprFault → Type 0
 Finds o (Ok x) = o ≡ Some x
 Finds o (Err f) = (f ≡ Memory) ⊎ ((f ≡ Syntax) × (o ≡ None))
 
--- The same with what is open then.
+-- The same with the items that are open then.
 abbrev pub Leads : {A : Type 0} → Option (List Frame × A) → List Frame → Result A ExprFault → Type 0
 Leads o fs (Ok x) = o ≡ Some (fs, x)
 Leads o fs (Err f) = (f ≡ Memory) ⊎ ((f ≡ Syntax) × (o ≡ None))

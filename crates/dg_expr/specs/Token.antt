@@ -27,7 +27,7 @@ is_digit b = nat_le 48 b && nat_le b 57
 abbrev pub is_run_byte : ℕ → Bool
 is_run_byte b = is_letter b || is_digit b || b == 46 || b == 95
 
--- what a byte begins: a quote, a brace and a bracket begin a word of the language
+-- the kind of lexeme that a byte begins: a quote, a brace and a bracket begin a word of the language
 unfoldable pub kind_of : ℕ → Kind
 kind_of b =
     if is_space b then kind.Space else
@@ -126,7 +126,7 @@ lexeme_by kind.Dollar b bs = read_lexeme true (operand_at (b ∷ bs) 0)
 lexeme_by kind.Word b bs = read_lexeme false (operand_at (b ∷ bs) 0)
 lexeme_by kind.Sign b bs = sign_lexeme b bs
 
--- What a text begins with: a token or a gap, or nothing that an expression has.
+-- The beginning of a text: a token or a gap, or nothing that an expression has.
 unfoldable pub lexeme_at : List ℕ → Option Lexeme
 lexeme_at [] = None
 lexeme_at (b ∷ bs) = lexeme_by (kind_of b) b bs

@@ -19,7 +19,7 @@ marks (One op a) = marks a ++ inr (inl op) ∷ []
 marks (Two op a b) = marks a ++ (marks b ++ inr (inr (inl op)) ∷ [])
 marks (Choice c a b) = marks c ++ (marks a ++ (marks b ++ inr (inr (inr tt)) ∷ []))
 
--- what a node makes of the trees before it, last first
+-- the trees, last first, once a node has taken its children from their front
 abbrev pub over_one : Prefix → List Tree → List Tree
 over_one op [] = []
 over_one op (a ∷ ts) = One op a ∷ ts

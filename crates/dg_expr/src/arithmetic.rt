@@ -45,7 +45,7 @@ fn ratio(x: i64, y: i64) -> Option<i64>
     Some(x.div_euclid(y))
 }
 
-/// What the quotient by a divisor above 0 leaves.
+/// The remainder of the division by a divisor above 0.
 fn residue(x: i64, y: i64) -> Option<i64>
     ensures { IfSome result (λ z. divided remainder x y ≡ Ok (decimal_text z)) }
 {

@@ -31,7 +31,7 @@ fn beginning(first: &[u8], second: &[u8], third: &[u8], text: &[u8]) -> u8
     u8::from(begins(first, text)) + u8::from(begins(second, text)) + u8::from(begins(third, text))
 }
 
-/// What is said where just one word begins so.
+/// The truth, where one of these counts is 1 and the other one 0.
 fn told(holds: u8, fails: u8) -> Option<bool>
     ensures { result ≡ told holds fails }
 {

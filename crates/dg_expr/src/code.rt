@@ -95,7 +95,7 @@ fn add_truth(
     add(code, Instruction::Truth)
 }
 
-/// Adds what follows the code of the left operand.
+/// Adds the instructions after the code of the left operand.
 fn add_right(
     code: &mut Seq<Instruction>,
     op: Infix,
@@ -111,7 +111,7 @@ fn add_right(
     }
 }
 
-/// Adds what follows the code of a condition: the code of both branches, of which one is passed over.
+/// Adds the instructions after the code of a condition: the code of both branches, of which one is passed over.
 fn add_branches(
     code: &mut Seq<Instruction>,
     first: Seq<Instruction>,

@@ -1,4 +1,4 @@
-//! What is open while an expression is read.
+//! The open items while an expression is read.
 ghost use Rattle.std.specs.Prelude.{◌≡◌, ◌∷◌, [], List, IsTrue, IsFalse, MatchOption, OnOk, None, Some};
 ghost use Rattle.dg_expr.specs.Grammar.{level_of};
 ghost use Rattle.dg_expr.specs.declared.frame.Frame.{Frame};
@@ -23,7 +23,7 @@ pub enum Frame {
     Branch(Tree, Tree),
 }
 
-/// What is open. A contract sees the innermost first.
+/// The open items. A contract sees the innermost first.
 #[derive(Drop)]
 pub struct Frames {
     inner: Vec<Frame>,

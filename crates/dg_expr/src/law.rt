@@ -1,4 +1,4 @@
-//! What the value of a tree and the values of operators have in common.
+//! Laws: the value of a tree is made of the values that its operators give.
 ghost use Rattle.std.specs.Prelude.{ℕ, ◌≡◌, List, Err};
 ghost use Rattle.dg_expr.specs.declared.fault.ExprFault.TheVariants.{Memory};
 ghost use Rattle.dg_expr.specs.declared.operator.Infix.{Infix};

@@ -1,4 +1,4 @@
-//! What the text of an expression is made of.
+//! The tokens of an expression's text.
 ghost use Rattle.std.specs.Prelude.{◌≡◌, None};
 ghost use Rattle.dg_expr.specs.Token.{doubled_sign, is_digit, is_letter, is_run_byte, kind_of, double_sign, sign_with_equals, single_sign};
 
@@ -6,7 +6,7 @@ use crate::operator::{Infix, Prefix};
 use crate::whole::is_space;
 use dg_words::Parts;
 
-/// A token. What `+` and `-` are depends on where they stand.
+/// A token. Where `+` and `-` stand decides what they are.
 #[derive(Drop)]
 pub enum Token {
     Operand(Parts),
@@ -20,14 +20,14 @@ pub enum Token {
     Colon,
 }
 
-/// What begins at a place: a token, or none where tokens are kept apart, and how many bytes it takes.
+/// The lexeme at a place: a token, or none where tokens are kept apart, and how many bytes it takes.
 #[derive(Drop)]
 pub struct Lexeme {
     pub token: Option<Token>,
     pub length: usize,
 }
 
-/// What a byte begins.
+/// The kind of lexeme that a byte begins.
 #[derive(Clone, Copy)]
 pub enum Kind {
     Space,

@@ -102,7 +102,7 @@ fn quotient(x: i64, y: i64) -> i128
     }
 }
 
-/// What the quotient leaves, which has the divisor's sign.
+/// The remainder, which has the divisor's sign.
 fn remainder(x: i64, y: i64) -> i128
     requires { y ≢ pos 0 }
     ensures { result ≡ remainder x y }

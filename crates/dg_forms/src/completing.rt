@@ -1,4 +1,4 @@
-//! What commands come to that evaluate nothing inside and ask nothing: completions and errors.
+//! Completions and errors of the commands that evaluate nothing inside and ask nothing.
 ghost use Rattle.std.specs.Prelude.{◌≡◌, IfOk, Err};
 ghost use Rattle.dg_language.specs.Completing.{completes, gives, does};
 ghost use Rattle.dg_language.specs.Evaluation.{wrong_count};

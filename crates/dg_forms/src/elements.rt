@@ -1,4 +1,4 @@
-//! Lists that are kept beside their texts.
+//! Texts that carry their lists.
 ghost use Rattle.std.specs.Prelude.{◌≡◌, MatchResult, Ok, Err};
 ghost use Rattle.dg_language.specs.Evaluation.{list_in};
 

@@ -29,7 +29,7 @@ fn kind_named(word: &Bytes) -> Option<PatternKind>
     }
 }
 
-/// What a pattern of a kind waits for.
+/// The wait of a pattern of this kind.
 fn awaited_as(alloc: Global, kind: PatternKind, pattern: &Bytes) -> Result<Awaited, AllocError>
     ensures { IfOk result (λ a. a ≡ awaited_as kind pattern.now) }
 {
@@ -40,7 +40,7 @@ fn awaited_as(alloc: Global, kind: PatternKind, pattern: &Bytes) -> Result<Await
     })
 }
 
-/// What a word without a kind waits for.
+/// The wait of a word without a kind.
 fn awaited_by(alloc: Global, word: &Bytes) -> Result<Awaited, AllocError>
     ensures { IfOk result (λ a. a ≡ awaited_by word.now) }
 {

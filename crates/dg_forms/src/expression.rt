@@ -1,4 +1,4 @@
-//! What an expression is computed by: its code, its operators' values, truth, and the message of each fault.
+//! Parts of the evaluation of expressions: code, the values of operators, truth, and the message of each fault.
 ghost use Rattle.std.specs.Prelude.{◌≡◌, ◌++◌, [], IfOk};
 ghost use Rattle.dg_expr.specs.Operator.{value_of, value_of_one};
 ghost use Rattle.dg_expr.specs.Reading.{tree_in};

@@ -49,7 +49,7 @@ pub(crate) const IMMEDIATE_COMMANDS: [Row; 22] = [
     (b"board_info", Immediate(BoardInfo), false),
 ];
 
-/// What a command comes to with these arguments: a completion, or the message of an error.
+/// Runs a command with these arguments: gives its completion, or the message of an error.
 pub fn run_immediate(
     alloc: Global,
     state: &State,

@@ -53,7 +53,7 @@ const FURTHER_COMMANDS: [Row; 31] = [
     (b"expect", Expect, true),
 ];
 
-/// What stands beside a name in the first row that has it.
+/// The entry of a name in the first row that has it.
 fn search(rows: &[Row], name: &[u8]) -> Option<(Builtin, bool)>
     ensures { result ≡ with_name name.now (map (λ r. (r.0.now, r.1, r.2)) rows.now) }
 {

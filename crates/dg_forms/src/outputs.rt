@@ -1,4 +1,4 @@
-//! What `expect` writes of a match and of an end, by expect(1).
+//! The variables that `expect` writes after a match and at an end, by expect(1).
 ghost use Rattle.std.specs.Prelude.{◌≡◌, ◌++◌, ◌+◌, ◌≤◌, codes, decimal, length, IfOk, OnOk, IfSome};
 ghost use Rattle.std.specs.List.{All};
 ghost use Rattle.dg_match.specs.Hits.{LiesBetween};

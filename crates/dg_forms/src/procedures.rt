@@ -1,4 +1,4 @@
-//! Procedures: their parameters, and what calls bind them to.
+//! Procedures: their parameters, and the values that a call binds them to.
 ghost use Rattle.std.specs.Prelude.{◌≡◌, ◌<◌, [], IfOk, MatchOption, Some, None, nat_lt};
 ghost use Rattle.dg_scope.specs.Scopes.{value_limit};
 ghost use Rattle.dg_lists.specs.Canonical.{text_of_list};
@@ -151,7 +151,7 @@ pub(crate) fn procedure(
     }
 }
 
-/// What a call's arguments are bound to; none if their count is wrong.
+/// The values of the parameters in a call; none if the count of arguments is wrong.
 pub fn bindings(
     alloc: Global,
     parameters: &[Parameter],

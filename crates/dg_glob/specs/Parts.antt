@@ -16,7 +16,7 @@ abbrev pub begins_steadily : List ℕ → Bool
 begins_steadily [] = false
 begins_steadily (x ∷ p) = if x == 42 then false else (if x == 91 then closes_alike (items p) else true)
 
--- what is left behind such an item
+-- the rest after such an item
 abbrev pub behind_item : List ℕ → List ℕ
 behind_item [] = []
 behind_item (x ∷ p) = if x == 91 then past_close p else (if x == 92 then drop 1 p else p)

@@ -29,7 +29,7 @@ abbrev pub begins_with_star : List ℕ → Bool
 begins_with_star [] = false
 begins_with_star (x ∷ p) = x == 42
 
--- the mark of what is left of a pattern, if anything is
+-- the mark of the rest of a pattern, if there is a rest
 abbrev pub marked_left : List ℕ → Option (List ℕ) → Bool
 marked_left marks None = false
 marked_left marks (Some q) = marked marks (length q)

@@ -1,8 +1,8 @@
--- What the steps of a search for a match say.
+-- The steps of a search for a match.
 use Rattle.std.specs.Prelude.{ℕ, min, Bool, IsTrue, ⊤, Option, Some, None, MatchOption, List, [], ◌∷◌, ◌++◌, ◌≡◌, ◌≤◌, ◌<◌, ◌-◌, length, drop}
 use Rattle.dg_glob.specs.Glob.{Matches}
 
--- The pattern matches what stands in the text before this rest of it.
+-- The pattern matches the part of the text before this rest of it.
 pub record Leaves (pattern text rest : List ℕ) : Type 0 where
   pub taken : List ℕ
   pub split : text ≡ taken ++ rest

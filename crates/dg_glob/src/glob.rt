@@ -47,7 +47,7 @@ fn binds_end(pattern: &[u8]) -> bool
     false
 }
 
-/// The pattern without what binds it.
+/// The pattern without the `^` and `$` that bind it.
 pub(crate) fn body(pattern: &[u8]) -> &[u8]
     ensures { result.now ≡ word.body pattern.now }
 {

@@ -70,7 +70,7 @@ fn after_bracket(pattern: &[u8], byte: u8) -> Option<&[u8]>
     None
 }
 
-/// What is left of a pattern whose first byte stands for itself, where that is this byte.
+/// The rest of a pattern whose first byte stands for itself, where that is this byte.
 fn after_escaped(pattern: &[u8], byte: u8) -> Option<&[u8]>
     ensures { option_copied result ≡ word.after_escaped pattern.now byte }
 {
@@ -87,7 +87,7 @@ pub(crate) fn is_plain(byte: u8) -> bool
     !matches!(byte, b'*' | b'?' | b'[' | b'\\')
 }
 
-/// What is left of a pattern once its first item has taken the byte.
+/// The rest of a pattern once its first item has taken the byte.
 pub(crate) fn after_item(pattern: &[u8], byte: u8) -> Option<&[u8]>
     ensures { option_copied result ≡ word.after_item pattern.now byte }
 {

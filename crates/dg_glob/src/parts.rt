@@ -1,4 +1,4 @@
-//! A glob by its parts, the items between its stars, and the search for them one behind the other.
+//! The parts of a glob (the items between its stars), and the search for them one after another.
 ghost use Rattle.std.specs.Prelude.{◌≡◌, ◌≤◌, ◌<◌, ◌∷◌, ℕ, List, IfOk, IfSome, IfNone, false, length};
 ghost use Rattle.dg_glob.specs.Glob as spec;
 ghost use Rattle.dg_glob.specs.Glob.{IsSpan};
@@ -24,7 +24,7 @@ fn begins_steadily(pattern: &[u8]) -> bool
     }
 }
 
-/// What is left of a pattern behind such an item.
+/// The rest of a pattern after such an item.
 fn behind_item(pattern: &[u8]) -> &[u8]
     ensures { result.now ≡ word.behind_item pattern.now }
 {
@@ -174,7 +174,7 @@ impl Model for Parts {
     ghost invariant = { λ p. (p.body.items ≡ spec.body p.glob.items) × AreParts p.body.items p.parts.items (parts_of p.glob.items) };
 }
 
-/// What is left of a pattern behind a star at its front.
+/// The rest of a pattern after a star at its front.
 fn behind_star(pattern: &[u8]) -> Option<&[u8]>
     ensures some { IfSome result (λ behind. pattern.now ≡ 42 ∷ behind.now) }
     ensures none { IfNone result (begins_with_star pattern.now ≡ false) }

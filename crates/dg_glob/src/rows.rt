@@ -1,4 +1,4 @@
-//! A search that marks places of the pattern, for one whose brackets lead to several places.
+//! A search that marks places of the pattern, for patterns whose brackets lead to several places.
 ghost use Rattle.std.specs.Prelude.{◌≡◌, ◌<◌, ◌≤◌, ◌/◌, ◌↔◌, ◌∷◌, length, drop, IsTrue, IfSome, IfNone, if◌then◌else◌};
 ghost use Rattle.dg_glob.specs.Rows as word;
 ghost use Rattle.dg_glob.specs.Search.{IsAnswer};

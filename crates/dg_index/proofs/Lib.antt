@@ -1,5 +1,6 @@
 pub mod Crosses
 pub mod IndexLemmas
+pub mod RecentLemmas
 pub mod KeptLemmas
 pub mod LookingLemmas
 pub mod MarksLemmas

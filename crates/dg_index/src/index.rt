@@ -57,7 +57,8 @@ impl Named {
         ensures { IsTrue result → IsOneOf self.now (topic_of question.now) }
     {
         match question {
-            Question::Tool | Question::Triplet(_) | Question::Variable(_) => self.selection,
+            Question::Steps | Question::Tool | Question::Triplet(_) | Question::Variable(_) =>
+                self.selection,
             _ => match &self.last {
                 Some(topic) => topic.covers(question),
                 None => false,

@@ -9,6 +9,7 @@ mod marks;
 mod numbers;
 mod places;
 mod placing;
+mod recent;
 mod topic;
 mod touching;
 

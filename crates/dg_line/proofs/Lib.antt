@@ -1,3 +1,4 @@
 pub mod WordLemmas
+pub mod NumberLemmas
 pub mod PlanLemmas
 pub mod SelectLemmas

@@ -1,4 +1,4 @@
--- What becomes of a text that gets more elements as a list.
+-- A text that gets more elements as a list.
 use Rattle.std.specs.Prelude.{◌≡◌, ℕ, ◌<◌, ◌≤◌, ⊤, List, ◌++◌, length, Ok, Err}
 use Rattle.dg_lists.specs.declared.fault.ListFault.{ListFault}
 use Rattle.dg_lists.specs.declared.fault.ListFault.TheVariants.{Memory, TooLong, NoList}

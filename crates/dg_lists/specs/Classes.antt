@@ -1,4 +1,4 @@
--- What a byte is to the grammar.
+-- The class of each byte in the grammar.
 use Rattle.std.specs.Prelude.{ℕ, Bool, true, false, if◌then◌else◌, ◌==◌, nat_lt}
 use Rattle.dg_lists.specs.declared.kinds.Class.{Class}
 use Rattle.dg_lists.specs.declared.kinds.Class.TheVariants.{Blank, Newline, Semicolon, Hash, Quote, Open, Close, LeftBracket, RightBracket, LeftParen, RightParen, Backslash, Dollar, Colon, Star, Name, Plain}

@@ -1,4 +1,4 @@
--- What one more byte makes of what is open, and what an escape writes.
+-- The effect of one more byte on the open element, and the bytes that an escape writes.
 use Rattle.std.specs.Prelude.{ℕ, zero, suc, ◌+◌, ◌-◌, ◌*◌, Bool, true, false, Option, None, Some, if◌then◌else◌, ◌==◌, nat_lt, nat_le}
 use Rattle.std.specs.Char.{digit_value}
 use lib.Utf8.{scalar}
@@ -72,7 +72,7 @@ with_digit n b =
     then (if nat_le (base_of n.escape * n.value + digit_value b) (most_of n.escape) then Some (base_of n.escape * n.value + digit_value b) else None)
     else None
 
--- what a number writes: a byte, or a character of Unicode
+-- the bytes that a number writes: one byte, or a character of Unicode
 abbrev pub written : Escape → ℕ → Option Effect
 written escape.Octal v = if nat_lt v 256 then Some (effect.Byte v) else None
 written escape.Byte v = if nat_lt v 256 then Some (effect.Byte v) else None
@@ -104,6 +104,6 @@ escaped s b =
     if b == 120 then begins_number s escape.Byte else if b == 117 then begins_number s escape.Short else if b == 85 then begins_number s escape.Long else
     if nat_lt b 48 then puts b (In s) else if nat_lt b 56 then goes (Number s (record { escape = escape.Octal; left = 2; value = b - 48 })) else puts b (In s)
 
--- what a joined line leaves out
+-- the bytes that a joined line leaves out
 abbrev pub is_space : ℕ → Bool
 is_space b = if b == 32 then true else b == 9

@@ -1,4 +1,4 @@
-//! The laws of lists: what is spelled so is read, and what is read is spelled so.
+//! Laws: a text is read as a list exactly where the grammar spells that list.
 ghost use Rattle.std.specs.Prelude.{◌≡◌, ℕ, List, Ok, Err};
 ghost use Rattle.dg_lists.specs.declared.fault.WordFault.{WordFault};
 ghost use Rattle.dg_lists.specs.Elements.{elements_of};

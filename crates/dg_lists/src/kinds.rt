@@ -1,7 +1,7 @@
-//! What a byte is to the grammar, what is open behind a text, and what one more byte makes of it: for lists and scripts alike.
+//! Classes of bytes, states of the reading, and effects of one more byte, for lists and scripts alike.
 use crate::fault::WordFault;
 
-/// What a byte is to the grammar.
+/// The class of a byte in the grammar.
 #[derive(Clone, Copy)]
 pub enum Class {
     Blank,
@@ -49,7 +49,7 @@ pub struct Digits {
     pub value: u32,
 }
 
-/// What a word stands within.
+/// The surroundings of a word.
 #[derive(Clone, Copy)]
 pub enum Delimiter {
     Brace,
@@ -86,7 +86,7 @@ pub enum Mode {
     BehindPair(Delimiter),
 }
 
-/// What is done to the word that is open.
+/// An effect on the open word.
 #[derive(Clone, Copy)]
 pub enum Effect {
     Nothing,
@@ -126,7 +126,7 @@ pub enum Target {
     Bad(WordFault),
 }
 
-/// What a byte makes: two effects, and where the reading goes.
+/// The effect of a byte: two effects on the open word, and the next state.
 #[derive(Clone, Copy)]
 pub struct Transition {
     pub first: Effect,

@@ -1,4 +1,4 @@
-//! Lists and their canonical text, and what a byte is and an escape writes, for lists and scripts alike.
+//! Lists and their canonical text; classes of bytes and escapes, for lists and scripts alike.
 #![tactic(auto)]
 
 mod fault;

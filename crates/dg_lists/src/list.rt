@@ -197,7 +197,7 @@ impl Listing {
         Ok(())
     }
 
-    /// Does what a byte made.
+    /// Applies the effect of a byte.
     fn perform(&mut self, effect: Effect) -> Result<(), AllocError>
         ensures { OnOk result (self.new ≡ list_effect effect self.old) }
     {
@@ -267,7 +267,7 @@ impl Listing {
         }
     }
 
-    /// The list ends: its elements, or what is missing.
+    /// The list ends: gives its elements, or the end that is missing.
     #[tactic(auto, unfolding(crate::specs::Elements::list_stop))]
     fn stop(mut self) -> Result<Seq<Bytes>, WordFault>
         ensures { MatchResult result (λ xs. list_stop self ≡ Ok xs) (λ f. (f ≡ WordFault.Memory) ⊎ (list_stop self ≡ Err f)) }

@@ -1,4 +1,4 @@
-//! Whether the canonical text of a list fits, told before it is built.
+//! Decides whether the canonical text of a list fits, before it is built.
 ghost use Rattle.std.specs.Prelude.{◌≡◌, ◌+◌, ◌<◌, MatchOption, length, nat_le};
 ghost use Rattle.dg_lists.specs.Canonical.{further_text, text_of_list};
 

@@ -1,4 +1,4 @@
-//! Runs of bytes that only add to what is open.
+//! Runs of bytes that only add to the open element.
 ghost use Rattle.std.specs.Prelude.{◌≡◌, ◌≤◌, ◌<◌, ◌-◌, ◌++◌, List, ℕ, false, length, slice_index};
 ghost use Rattle.std.specs.List.{slice_range};
 ghost use Rattle.dg_lists.specs.Braces.{EndsRun, IsBracedRun};

@@ -1,4 +1,4 @@
-//! What a byte is to the grammar, and what an escape writes, by Tcl(n).
+//! The class of each byte, and the bytes that an escape writes, by Tcl(n).
 ghost use Rattle.std.specs.Prelude.{◌≡◌, ◌++◌, OnErr, OnOk};
 ghost use Rattle.std.specs.Char.{encode_utf8};
 ghost use Rattle.dg_lists.specs.Classes.{class_of, is_name};
@@ -46,7 +46,7 @@ pub fn class_of(byte: u8) -> Class
     }
 }
 
-/// What joined lines leave out.
+/// The bytes that a joined line leaves out.
 pub fn is_space(byte: u8) -> bool
     ensures { result ≡ is_space byte }
 {
@@ -96,7 +96,7 @@ impl Escape {
         }
     }
 
-    /// What a number writes, where it can.
+    /// The bytes that a number writes, where it can.
     fn written(self, value: u32) -> Option<Effect>
         ensures { result ≡ written self value }
     {
@@ -135,7 +135,7 @@ impl Digits {
         }
     }
 
-    /// What the escape writes; without digits it is its letter.
+    /// The bytes that the escape writes; without digits it writes its letter.
     pub fn whole(self) -> Option<Effect>
         ensures { result ≡ whole self }
     {

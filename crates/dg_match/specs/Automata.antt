@@ -1,4 +1,4 @@
--- What the automaton of a `-re` pattern tells.
+-- The answers of the automaton of a `-re` pattern.
 use Rattle.std.specs.Prelude.{◌≡◌, ◌≤◌, List, ℕ, None, length}
 use Rattle.regex_dfa.specs.Search.{end_from, IsForwardFor, IsReverseFor}
 use Rattle.regex_dfa.specs.declared.dfa.Dfa.{Dfa}

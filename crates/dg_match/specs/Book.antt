@@ -1,4 +1,4 @@
--- A book of patterns: what was answered for each text that was asked, in the order of the first asks.
+-- A book of patterns: the answer for each text that was asked for, in the order of the first asks.
 use Rattle.std.specs.Prelude.{ℕ, List, Option, nat_eq}
 use Rattle.std.specs.Cmp.Lexicographic.{pointwise}
 use Rattle.std.specs.List.{All}
@@ -16,6 +16,6 @@ Fits text TooLarge = IsPatternText text
 abbrev pub AllFit : List (List ℕ × Reading) → Type 0
 AllFit = All (λ e. Fits e.0 e.1)
 
--- what the book has for a text
+-- the book's answer for a text
 abbrev pub reading_of : List (List ℕ × Reading) → List ℕ → Option Reading
 reading_of book text = lookup (pointwise nat_eq text) book

@@ -1,4 +1,4 @@
--- What a buffer holds.
+-- The content of a buffer.
 use Rattle.std.specs.Prelude.{ℕ, ◌-◌, ◌==◌, ◌++◌, not, List, [], ◌∷◌, length, drop, filter, map, refl}
 use Rattle.std.specs.Coded.{Coded, code_by, coded×, coded_list, coded_ℕ}
 use Rattle.std.specs.Prelude.{◌≡◌, ◌⊎◌}
@@ -8,7 +8,7 @@ use Rattle.dg_match.specs.declared.starts.Sought.{Sought}
 use Rattle.dg_match.specs.declared.starts.Sought.TheVariants.{Text, Glob}
 use Rattle.dg_match.specs.declared.starts.Progress.{Progress}
 
--- What those above see of a buffer: the bytes, and how many are kept at most.
+-- A buffer as the crates above see it: the bytes, and how many are kept at most.
 pub record Output : Type 0 where
   pub bytes : List ℕ
   pub max : ℕ
@@ -22,7 +22,7 @@ pub record Held : Type 0 where
   pub compared : ℕ
   pub starts : List Progress
 
--- what those above see of it
+-- the buffer as the crates above see it
 abbrev pub held_output : Held → Output
 held_output h = record { bytes = h.bytes; max = h.max }
 

@@ -1,4 +1,4 @@
--- What a search for a text behind passed places finds and reads.
+-- A search for a text after passed places: the place that it finds, and the bytes that it reads.
 use Rattle.std.specs.Prelude.{◌≡◌, ℕ, ◌≤◌, List, length, None, Some}
 use Rattle.dg_match.specs.Literals.{IsNowhere, IsLeastPlace, least_place}
 use Rattle.dg_match.specs.Searches.{bytes_compared}

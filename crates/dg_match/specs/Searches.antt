@@ -1,4 +1,4 @@
--- What a search in bytes finds, compares and learns.
+-- Searches in bytes: the place that they find, the bytes that they compare, and the places that they rule out.
 use Rattle.std.specs.Prelude.{ℕ, ◌+◌, ◌-◌, Bool, false, List, [], length, nat_eq, nat_le, nat_lt, Option, None, Some, MatchOption, if◌then◌else◌}
 use Rattle.std.specs.Cmp.Lexicographic.{pointwise}
 use Rattle.dg_glob.specs.Glob.{IsSpan, IsFirstSpan}
@@ -13,7 +13,7 @@ use Rattle.dg_match.specs.declared.starts.Sought.{Sought}
 use Rattle.dg_match.specs.declared.starts.Sought.TheVariants.{Text, Glob}
 use Rattle.dg_match.specs.declared.starts.Progress.{Progress}
 
--- what a pattern looks for: a literal itself, a glob its parts, and a `-re` pattern no text
+-- the target of a pattern: a literal itself, the parts of a glob, and no text for a `-re` pattern
 abbrev pub sought : Pattern → Sought
 sought (pattern.Glob p) = Glob p
 sought (pattern.Exact t) = Text t

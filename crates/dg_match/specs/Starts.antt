@@ -1,4 +1,4 @@
--- Places at which what is looked for can't stand any more.
+-- Places at which the target of a search can't stand any more.
 use Rattle.std.specs.Prelude.{ℕ, ◌<◌, List, ◌++◌}
 use Rattle.std.specs.List.{All}
 use Rattle.memchr.specs.Find.{OccursAt}

@@ -1,4 +1,4 @@
--- What a buffer has compared, and what it remembers, once patterns were tried.
+-- The bytes that a buffer has compared, and its memory, once patterns were tried.
 use Rattle.std.specs.Prelude.{◌≡◌, ℕ, zero, suc, ◌+◌, ◌≤◌, min, List, [], ◌∷◌, take, Option, None, Some, if◌then◌else◌}
 use Rattle.dg_match.specs.Held.{Held}
 use Rattle.dg_match.specs.Searches.{compared_by, is_same_sought, nothing_known, searched, sought}

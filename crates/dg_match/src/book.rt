@@ -52,7 +52,7 @@ impl PatternBook {
         }
     }
 
-    /// What was answered for a text, if it was asked. It takes no memory.
+    /// The answer for a text, if it was asked for. It takes no memory.
     pub fn get(&self, text: &Bytes) -> Option<Reading>
         ensures value { result ≡ reading_of self.now text.now }
         ensures fits { IfSome result (λ r. Fits text.now r) }

@@ -267,7 +267,7 @@ impl Buffer {
         self.look(alloc, index, Kind::Text, text)
     }
 
-    /// Searches for a text or a glob, counts what was compared, and remembers what is learned.
+    /// Searches for a text or a glob, counts the compared bytes, and remembers what the search has learned.
     fn look(
         &mut self,
         alloc: Global,
@@ -286,7 +286,7 @@ impl Buffer {
         Ok(looked.found)
     }
 
-    /// Searches for a text or a glob, and remembers what is learned.
+    /// Searches for a text or a glob, and remembers what the search has learned.
     fn search_for(
         &mut self,
         alloc: Global,

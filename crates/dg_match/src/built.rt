@@ -87,7 +87,7 @@ impl Built {
         })
     }
 
-    /// What `regex` made of the text.
+    /// The pattern that `regex` made of the text.
     pub(crate) fn regex(&self) -> &Regex
         ensures text { regex_source result.now ≡ self.now }
         ensures built { IsBuilt result.now }

@@ -1,4 +1,4 @@
-//! What a session's output is matched with: the buffer that it goes into, patterns, and the book of
+//! Matching of a session's output: the buffer that it goes into, patterns, and the book of
 //! patterns.
 #![tactic(auto)]
 

@@ -21,7 +21,7 @@ pub(crate) struct Needs {
 }
 
 impl Needs {
-    /// What the pattern that a text spells needs, if that can be told.
+    /// The needs of the pattern that a text spells, if they can be found.
     pub(crate) fn of(alloc: Global, source: &str) -> Result<Needs, AllocError>
         ensures { IfOk result (λ n. All (λ s. NeedsOneOf source.now (needles_of s)) n.sets.items) }
     {
@@ -37,7 +37,7 @@ impl Needs {
         }
     }
 
-    /// What a pattern needs by its tree.
+    /// The needs of a pattern, by its tree.
     fn of_tree(alloc: Global, hir: &Hir) -> Result<Needs, AllocError>
         ensures { IfOk result (λ n. (text : List ℕ) (names : Names) → Reads bytes_config text hir.now names →
             All (λ s. NeedsOneOf text (needles_of s)) n.sets.items) }

@@ -1,4 +1,4 @@
-//! What an expect action waits for.
+//! The patterns that an `expect` waits for.
 ghost use Rattle.std.specs.Prelude.{◌≡◌, IfOk, OnOk, IsErrOf};
 ghost use Rattle.dg_match.specs.Regexes.{IsPatternText, IsNoPatternText};
 

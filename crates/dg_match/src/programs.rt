@@ -51,7 +51,7 @@ impl Programs {
         }
     }
 
-    /// Keeps what was built of a text, or changes nothing.
+    /// Keeps the built pattern of a text, or changes nothing.
     fn keep(&mut self, alloc: Global, text: &Bytes, built: &Built) -> Result<(), AllocError>
         requires same { built.now ≡ text.now }
         requires unknown { is_among self.old text.now ≡ false }

@@ -1,4 +1,4 @@
-//! What was answered for a pattern.
+//! The answer for a pattern: read, or why not.
 
 /// How the text of a `-re` pattern was read.
 #[derive(Clone, Copy, Debug, PartialEq, Eq, Hash)]

@@ -1,4 +1,4 @@
-//! Searches of the buffer that leave out the starts that are known to be passed.
+//! Searches of the buffer that skip the places where no match can begin.
 ghost use Rattle.std.specs.Prelude.{◌≡◌, ◌≤◌, ◌<◌, ◌-◌, ◌*◌, ℕ, MatchOption, None, length, nat_lt, if◌then◌else◌};
 ghost use Rattle.dg_glob.specs.Glob.{IsFirstSpan, IsSpan};
 ghost use Rattle.dg_glob.specs.Parts.{IsTrail, followed, parts_of};
@@ -10,7 +10,7 @@ ghost use Rattle.dg_match.specs.Places.{IsPlaceOf};
 use dg_glob::{Parts, Span, Trail, find_glob};
 use memchr::memmem::Finder;
 
-/// What the search for a text came to.
+/// The outcome of the search for a text.
 #[derive(Clone, Copy)]
 pub(crate) struct Search {
     /// The match, if there is one.
@@ -104,7 +104,7 @@ pub(crate) fn search_text(bytes: &[u8], text: &Finder<'_>, passed: usize) -> Sea
     }
 }
 
-/// What the search for a glob came to.
+/// The outcome of the search for a glob.
 #[derive(Clone, Copy)]
 pub(crate) struct Followed {
     /// The match, if there is one.

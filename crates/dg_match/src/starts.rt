@@ -1,4 +1,4 @@
-//! What is remembered of the last patterns: where they can't match any more.
+//! Memory of the last patterns: the places where they can't match any more.
 ghost use Rattle.std.specs.Prelude.{◌≡◌, ◌≤◌, ◌<◌, ◌*◌, IfOk, IsTrue, List, ℕ, OnErr, OnOk, [], drop, false, get_or, length, map};
 ghost use Rattle.dg_match.specs.declared.starts.Progress.{Progress};
 ghost use Rattle.dg_match.specs.Held.{later};
@@ -13,14 +13,14 @@ use memchr::memmem::Finder;
 use std::alloc::{AllocError, Global};
 use std::marker::Model;
 
-/// What a pattern's text is.
+/// The kind of a pattern's text.
 #[derive(Clone, Copy)]
 pub(crate) enum Kind {
     Text,
     Glob,
 }
 
-/// What is looked for: a text, or the parts of a glob.
+/// The thing that a search looks for: a text, or the parts of a glob.
 #[derive(Drop)]
 enum Sought {
     Text(Finder<'static>),
@@ -45,7 +45,7 @@ impl Drop for Progress {
     }
 }
 
-/// What a search has found, and how many bytes it has compared.
+/// The result of a search, and how many bytes it has compared.
 #[derive(Clone, Copy)]
 pub(crate) struct Looked {
     pub(crate) found: Option<Span>,
@@ -53,7 +53,7 @@ pub(crate) struct Looked {
 }
 
 impl Sought {
-    /// What a pattern of this kind and text looks for.
+    /// The target of a pattern of this kind and text.
     fn of(alloc: Global, kind: Kind, text: &[u8]) -> Result<Sought, AllocError>
         ensures { IfOk result (λ k. k ≡ sought_of kind text.now) }
     {
@@ -148,7 +148,7 @@ impl Progress {
     }
 }
 
-/// What is remembered of the patterns tried last, in their order.
+/// Memory of the patterns that were tried last, in their order.
 #[derive(Drop)]
 pub(crate) struct Starts {
     entries: Vec<Progress>,

@@ -1,4 +1,4 @@
-//! What is remembered of the texts that `-re` patterns need.
+//! Memory of the texts that `-re` patterns need.
 ghost use Rattle.std.specs.Prelude.{◌≡◌, ◌≤◌, List, ℕ, [], All, IsTrue, IfOk, None, drop, false, length, map};
 ghost use Rattle.regex_extract.specs.Needles.{needles_of};
 ghost use Rattle.dg_match.specs.Groups.{regex_match};

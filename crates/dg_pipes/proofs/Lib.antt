@@ -1,3 +1,4 @@
 pub mod Pumping
 pub mod Prefixes
+pub mod Hearing
 pub mod Places

@@ -1,4 +1,5 @@
 pub mod Items
+pub mod Reading
 pub mod Steps
 pub mod Faults
 pub mod Waits

@@ -1,4 +1,4 @@
--- What the calls of a test's result commands tell.
+-- The calls of a test's result commands.
 use Rattle.std.specs.Prelude.{ℕ, Bool, true, false, Option, None, Some}
 use Rattle.dg_results.specs.declared.call.ResultCall.{ResultCall}
 use Rattle.dg_results.specs.declared.call.ResultCall.TheVariants.{Pass, Fail, Unresolved, Untested, Unsupported, Perror, Warning, SetupXfail, ClearXfail, SetupKfail, ClearKfail}

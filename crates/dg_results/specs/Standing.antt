@@ -1,4 +1,4 @@
--- What a judging holds: the lines so far, and the flags and counts that stand.
+-- The state of a judging: the lines so far, the flags and the counts.
 use Rattle.std.specs.Prelude.{◌≡◌, ℕ, Bool, List, [], ◌∷◌, ◌++◌, min}
 use Rattle.dg_results.specs.declared.verdict.Line.{Line}
 use Rattle.dg_results.specs.declared.call.ResultCall.{ResultCall}
@@ -13,7 +13,7 @@ pub record Standing : Type 0 where
   pub errors : ℕ
   pub warnings : ℕ
 
--- what stands after these calls
+-- the state after these calls
 unfoldable pub after_calls : List ResultCall → Standing
 after_calls calls = record {
   lines = lines_of calls;
@@ -23,6 +23,6 @@ after_calls calls = record {
   warnings = min (count_since warning_given calls) 4294967295;
 }
 
--- what stands has one call more
+-- the state has one call more
 abbrev pub Adds : Standing → Standing → ResultCall → Type 0
 Adds old new c = (calls : List ResultCall) → old ≡ after_calls calls → new ≡ after_calls (calls ++ c ∷ [])

@@ -1,4 +1,4 @@
--- What one call does to what stands.
+-- The effect of one call on the state of a judging.
 use Rattle.std.specs.Prelude.{ℕ, ◌+◌, false, ◌||◌, nat_le, if◌then◌else◌, List, [], ◌∷◌, ◌++◌, Option, None, Some, min}
 use Rattle.dg_results.specs.declared.class.Class.{Class}
 use Rattle.dg_results.specs.declared.class.Class.TheVariants as class

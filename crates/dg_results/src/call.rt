@@ -1,4 +1,4 @@
-//! What a test's result commands tell.
+//! The calls of a test's result commands.
 use dg_bytes::Bytes;
 
 /// A call of a result command with its message, of a message command with its message and the count

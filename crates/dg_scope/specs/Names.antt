@@ -14,6 +14,6 @@ global_name name = if is_qualified name then drop 2 name else name
 abbrev pub has_index : List ℕ → Bool
 has_index name = ends_with nat_eq name (41 ∷ []) && list_any (λ b. b == 40) name
 
--- what stands before the first `(` of a name that ends with `)`, or a name whole
+-- the part before the first `(` of a name that ends with `)`, or the whole name
 abbrev pub base_of : List ℕ → List ℕ
 base_of name = if ends_with nat_eq name (41 ∷ []) then before_first (λ b. b == 40) name else name

@@ -1,4 +1,4 @@
-//! Values by names, each of which is kept as its bytes.
+//! Values by long names, which are kept as bytes.
 ghost use Rattle.std.specs.Prelude.{◌≡◌, IsFalse, IsTrue, OnOk, OnErr, Some};
 ghost use Rattle.std.specs.Option.{option_copied};
 ghost use Rattle.std.specs.FinMap as map;

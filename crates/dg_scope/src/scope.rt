@@ -12,7 +12,7 @@ use dg_bytes::Bytes;
 use std::alloc::Global;
 use std::mem;
 
-/// What a name is in a scope: a text, or a link to the global of that name.
+/// The content of a name in a scope: a text, or a link to the global of that name.
 #[derive(Drop)]
 pub enum Slot {
     Held(Bytes),

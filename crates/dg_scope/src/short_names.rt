@@ -1,4 +1,4 @@
-//! Values by short names, each of which is kept as one number.
+//! Values by names of at most seven bytes, which are kept as one number each.
 ghost use Rattle.std.specs.Prelude.{◌≡◌, IsFalse, IsTrue, OnOk, OnErr, Some};
 ghost use Rattle.std.specs.Option.{option_copied};
 ghost use Rattle.std.specs.FinMap as map;

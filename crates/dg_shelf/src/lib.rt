@@ -1,4 +1,4 @@
-//! Readings that are kept beside the texts that they were read of.
+//! A cache of readings: each text is read once, and found again by its bytes.
 #![tactic(auto)]
 
 mod shelf;

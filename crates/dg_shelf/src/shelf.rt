@@ -7,11 +7,11 @@ use std::alloc::{AllocError, Global};
 use std::marker::Model;
 use std::sync::Arc;
 
-/// What can be read of a text, and is the same whenever that text is read.
+/// A reading of a text, which is the same whenever that text is read.
 pub trait Reading: Sized + Drop {
     ghost use Rattle.std.specs.Prelude.{ℕ, List};
 
-    /// What is read of a text.
+    /// Reads a text.
     ghost read_of: { List ℕ → Self };
 
     /// Reads a text, or has no memory.
@@ -42,7 +42,7 @@ impl<T: Reading> Model for Entry<T> {
 }
 
 impl<T: Reading> Entry<T> {
-    /// A text and what was read of it.
+    /// A text and its reading.
     fn new(
         alloc: Global,
         text: &Bytes,
@@ -60,7 +60,7 @@ impl<T: Reading> Entry<T> {
         })
     }
 
-    /// What was read of this text, if the entry is of it.
+    /// The reading of this text, if the entry is of it.
     fn of(&self, text: &[u8]) -> Result<Option<Arc<T>>, AllocError>
         ensures { IfOk result (λ o. IfSome o (λ r. arc_value r ≡ T.read_of text.now)) }
     {
@@ -154,7 +154,7 @@ impl<T: Reading> Shelf<T> {
         }
     }
 
-    /// What was read of this text, if it is kept.
+    /// The reading of this text, if it is kept.
     fn kept(&self, text: &[u8]) -> Result<Option<Arc<T>>, AllocError>
         ensures { IfOk result (λ o. IfSome o (λ r. arc_value r ≡ T.read_of text.now)) }
     {
@@ -171,7 +171,7 @@ impl<T: Reading> Shelf<T> {
         Ok(None)
     }
 
-    /// What is read of a text. It is read only where it isn't kept.
+    /// The reading of a text. The text is read only where no reading of it is kept.
     pub fn reading(&mut self, alloc: Global, text: &Bytes) -> Result<Arc<T>, AllocError>
         ensures { IfOk result (λ r. arc_value r ≡ T.read_of text.now) }
     {
@@ -181,7 +181,7 @@ impl<T: Reading> Shelf<T> {
         }
     }
 
-    /// Reads a text, and keeps what was read unless the text alone is longer than all may be.
+    /// Reads a text, and keeps the reading unless the text alone is longer than all may be.
     fn read(&mut self, alloc: Global, text: &Bytes) -> Result<Arc<T>, AllocError>
         ensures { IfOk result (λ r. arc_value r ≡ T.read_of text.now) }
     {
@@ -192,7 +192,7 @@ impl<T: Reading> Shelf<T> {
         Ok(reading)
     }
 
-    /// Keeps what was read of a text: the newest entry of its place.
+    /// Keeps the reading of a text, as the newest entry of its place.
     fn keep(&mut self, alloc: Global, text: &Bytes, reading: &Arc<T>) -> Result<(), AllocError>
         requires { arc_value reading.now ≡ T.read_of text.now }
     {

@@ -1,4 +1,4 @@
--- What is made of a judged test once, for all reports that have it.
+-- The block of a judged test, made once for all reports that have it.
 use Rattle.dg_results.specs.Tally.{tally_of}
 use Rattle.dg_sum.specs.Judged.{Judged}
 use Rattle.dg_sum.specs.Lines.{test_text, some_unexpected}

@@ -1,4 +1,4 @@
--- What a report has of one test.
+-- The lines of one test in a report.
 use Rattle.std.specs.Prelude.{ℕ, Bool, List, ◌++◌, codes}
 use Rattle.std.specs.List.{flat_map, list_any}
 use Rattle.dg_results.specs.Classes.{is_unexpected}

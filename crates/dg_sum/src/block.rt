@@ -1,4 +1,4 @@
-//! What reports have of one test.
+//! The block of a report that belongs to one test.
 ghost use Rattle.std.specs.Prelude.{◌≡◌, IfOk};
 ghost use Rattle.dg_sum.specs.Block.{block_of};
 

@@ -47,7 +47,7 @@ impl<'a> Judged<'a> {
         self.test
     }
 
-    /// What a report has of it.
+    /// Its block in a report.
     pub(crate) fn block(&self) -> &Block
         ensures { result.now ≡ block_of self.now }
     {

@@ -1,4 +1,4 @@
--- What the code's answers say.
+-- How the code's answers are seen by the definitions.
 use Rattle.std.specs.Prelude.{◌≡◌, ℕ, List, Result, Ok, Err, ◌⊎◌}
 use Rattle.dg_lists.specs.declared.fault.WordFault.{WordFault}
 use Rattle.dg_lists.specs.declared.fault.WordFault.TheVariants.{Memory}
@@ -14,7 +14,7 @@ Made m steps.Go new = m ≡ Go new
 Made m (steps.Over n) new = m ≡ Over new.draft.words n
 Made m (steps.Bad f) new = m ≡ Fails f
 
--- What a function returned, seen by view, is what reading gives, unless memory ran out.
+-- A function returned the result of the reading, seen by view, unless memory ran out.
 abbrev pub ReadsAs : {X : Type 0} → (X → List Word × ℕ) → Result X WordFault → Answer → Type 0
 ReadsAs view (Ok x) a = a ≡ Ok (view x)
 ReadsAs view (Err f) a = (f ≡ Memory) ⊎ (kind_of a ≡ Err f)

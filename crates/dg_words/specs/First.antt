@@ -1,4 +1,4 @@
--- What makes a fault the first, and a command end where it does: what follows has no part in it.
+-- The first fault, and a command's end, depend only on the text up to them.
 use Rattle.std.specs.Prelude.{◌≡◌, ℕ, List, ◌∷◌, ◌++◌, length, ◌⊎◌, Ok, Err}
 use Rattle.dg_lists.specs.declared.fault.WordFault.{WordFault}
 use Rattle.dg_words.specs.declared.kinds.Level.TheVariants.{Top}

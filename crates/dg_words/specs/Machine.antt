@@ -1,4 +1,4 @@
--- What is open behind a text, and how a text is read from its beginning.
+-- The items that are open after a text, and the reading of a text from its beginning.
 use Rattle.std.specs.Prelude.{ℕ, ◌+◌, ◌-◌, List, [], ◌∷◌, ◌++◌, length, Bool, true, false, Result, Ok, Err, nat_lt}
 use Rattle.std.specs.Char.{encode_utf8}
 use Rattle.dg_words.specs.Piece.{Piece, Text, Variable, Element, End, Command}
@@ -79,7 +79,7 @@ pub record State : Type 0 where
   pub inner : List Opener
   pub draft : Draft
 
--- what a byte makes: more is open, the command is over with so many bytes more, or no spelling goes on
+-- the outcome of a byte: the reading goes on, the command is over with so many bytes more, or no spelling goes on
 pub data Stepped : Type 0 where
   Go : State → Stepped
   Over : List Word → ℕ → Stepped
@@ -146,7 +146,7 @@ is_none (o ∷ os) = false
 unfoldable pub step : Level → State → ℕ → Stepped
 step l s b = take_transition (transition (level_in l s.inner) (nat_lt 0 s.depth) s.mode (class_of b) b) s.depth s.inner s.draft b
 
--- what the end of the text makes: these words, or the kind of what is open
+-- the outcome of the end of the text: these words, or the kind of the open item
 abbrev pub ended : Ending → Draft → Result (List Word) WordFault
 ended (ending.Word d e) draft = Ok (perform effect.Word (perform e (perform d draft))).words
 ended ending.Done draft = Ok draft.words

@@ -1,4 +1,4 @@
--- What the parts of a word are to a contract: a flat list.
+-- The parts of a word, as a contract sees them: a flat list.
 use Rattle.std.specs.Prelude.{ℕ, List}
 
 -- A text, a variable of this name, an element of this name whose index is what comes before its End, or a command

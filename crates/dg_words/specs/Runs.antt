@@ -1,4 +1,4 @@
--- Runs of bytes that only add to what is open.
+-- Runs of bytes that only add to the open item.
 use Rattle.std.specs.Prelude.{◌≡◌, ◌≤◌, ℕ, ◌+◌, List, [], ◌∷◌, Bool, true, false, length, drop}
 use Rattle.dg_lists.specs.declared.kinds.Class.{Class}
 use Rattle.dg_lists.specs.declared.kinds.Class.TheVariants as class

@@ -1,4 +1,4 @@
--- What one more byte makes of what is open in a script.
+-- The effect of one more byte on the open items of a script.
 use Rattle.std.specs.Prelude.{ℕ, Bool, true, false, Option, None, Some, if◌then◌else◌}
 use Rattle.dg_lists.specs.declared.fault.WordFault.{WordFault}
 use Rattle.dg_lists.specs.declared.fault.WordFault.TheVariants.{MissingBrace, MissingBracket, MissingQuote, MissingParen, AfterBrace, AfterQuote, BadCodePoint}
@@ -21,7 +21,7 @@ use Rattle.dg_lists.specs.declared.kinds.Ending.{Ending}
 use Rattle.dg_lists.specs.declared.kinds.Ending.TheVariants as ending
 use Rattle.dg_lists.specs.Transitions.{does, puts, goes, in_braces, behind_effect, with_digit, whole, behind_number, counted, escaped, is_space}
 
--- What a byte is between words: `]` ends only a bracket, and a list has no commands.
+-- The class of a byte between words: `]` ends only a bracket, and a list has no commands.
 abbrev pub heard : Level → Class → Class
 heard level.Inside c = c
 heard level.List class.Newline = class.Blank
@@ -159,7 +159,7 @@ abbrev pub in_brace_star : Class → ℕ → Transition
 in_brace_star class.Close b = goes BehindStar
 in_brace_star c b = in_braced false c b
 
--- what stands behind `{*}` says whether it is a prefix or a word
+-- the byte after `{*}` decides whether it is a prefix or a word
 abbrev pub behind_star : Level → Class → ℕ → Transition
 behind_star l class.Blank b = does effect.Word (target.To Gap)
 behind_star l class.Newline b = does effect.Word target.End
@@ -235,7 +235,7 @@ abbrev pub rests : Bool → Ending → Ending
 rests true e = e
 rests false e = ending.Bad MissingBracket
 
--- What the end of the text makes, outside brackets or within: the innermost open item is missing its end.
+-- The effect of the end of the text, outside brackets or within: the innermost open item is missing its end.
 unfoldable pub ends : Bool → Mode → Ending
 ends top Start = rests top ending.Done
 ends top StartPair = rests top (ending.Word effect.Nothing (effect.Byte 92))

@@ -1,4 +1,4 @@
-//! What was read of a command: its whole words, and the word that is open.
+//! A command in the middle of its reading: its finished words, and the open word.
 ghost use Rattle.std.specs.Prelude.{◌≡◌, ◌++◌, ◌∷◌, [], ◌==◌, false, OnOk, IfOk, MatchOption, length};
 ghost use Rattle.dg_words.specs.Machine.{add, close, close_index, command, end_word, open_index, perform};
 ghost use Rattle.dg_words.specs.Parts.{pieces_of_part};
@@ -184,7 +184,7 @@ impl Draft {
         Ok(())
     }
 
-    /// Does what a byte made.
+    /// Applies the effect of a byte.
     pub fn perform(&mut self, effect: Effect) -> Result<(), AllocError>
         ensures { OnOk result (self.new ≡ perform effect self.old) }
     {

@@ -1,7 +1,7 @@
-//! What is read, and what is open around it.
+//! The kinds of texts that are read, and the items that may be open.
 use dg_lists::Context;
 
-/// What is read: commands, the words of a list, commands within brackets, or an operand alone.
+/// The kind of a text: commands, the words of a list, commands within brackets, or an operand alone.
 #[derive(Clone, Copy)]
 pub enum Level {
     Top,
@@ -10,7 +10,7 @@ pub enum Level {
     Alone,
 }
 
-/// What is open around the innermost item, and where it stands.
+/// The open items around the innermost one, and where that stands.
 #[derive(Clone, Copy)]
 pub enum Opener {
     Bracket(Context),

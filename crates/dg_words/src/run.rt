@@ -1,4 +1,4 @@
-//! Runs of bytes that only add to what is open in a script.
+//! Runs of bytes that only add to the open word of a script.
 ghost use Rattle.std.specs.Prelude.{◌≡◌, ◌≤◌, ◌<◌, ℕ, List, false, length, slice_index};
 ghost use Rattle.std.specs.List.{slice_range};
 ghost use Rattle.dg_lists.specs.Classes.{class_of};

@@ -23,7 +23,7 @@ use std::marker::Model;
 /// Brackets and indices that may be open inside each other.
 const NESTING: usize = 100;
 
-/// What a byte made of a reading: it goes on, it is over with so many bytes more, or nothing goes on.
+/// The outcome of a byte: the reading goes on, is over with so many bytes more, or has failed.
 #[derive(Clone, Copy)]
 pub enum Step {
     Go,
@@ -253,7 +253,7 @@ impl Scanner {
         self.take_transition(transition, byte)
     }
 
-    /// Passes over the bytes from a place on that only add to what is open, and tells the place behind them.
+    /// Passes over the bytes from a place on that only add to the open item, and gives the place after them.
     fn pass(&mut self, text: &[u8], from: usize) -> Result<usize, AllocError>
         requires within { from ≤ length text.now }
         requires deep { self.now.depth ≤ from }
@@ -283,7 +283,7 @@ impl Scanner {
         }
     }
 
-    /// The text ends: its words, or what is missing.
+    /// The text ends: gives its words, or the end that is missing.
     #[tactic(auto, unfolding(crate::specs::Machine::stop))]
     fn stop(self) -> Result<Seq<Word>, WordFault>
         ensures { MatchResult result (λ words. stop self ≡ Ok words) (λ f. (f ≡ WordFault.Memory) ⊎ (stop self ≡ Err f)) }
@@ -297,7 +297,7 @@ impl Scanner {
         }
     }
 
-    /// The text ends at a place: the words and that place, or what is missing.
+    /// The text ends at a place: gives the words and that place, or the end that is missing.
     fn at_end(self, place: usize) -> Result<Parsed, WordFault>
         ensures { ReadsAs (λ p. (p.words, p.next)) result (stopped (stop self) place) }
     {

@@ -1,4 +1,4 @@
-//! What one more byte makes of what is open in a script, by Tcl(n).
+//! The effect of one more byte on the open items of a script, by Tcl(n).
 ghost use Rattle.std.specs.Prelude.{◌≡◌};
 ghost use Rattle.dg_lists.specs.Transitions.{is_space, with_digit};
 ghost use Rattle.dg_words.specs.Transitions.{after, behind, behind_pair, behind_star, ends, heard, in_bare, in_brace_first, in_brace_star, in_braced, in_braced_join, in_braced_pair, in_colon, in_comment, in_dollar, in_gap, in_gap_pair, in_index, in_join, in_name, in_name_brace, in_operand, in_pair, in_quoted, in_context, in_star_pair, in_start, in_start_pair, number_ends, numbered, context_ends, transition};
@@ -10,7 +10,7 @@ use dg_lists::{
 };
 
 impl Level {
-    /// What a byte is between words: `]` ends only a bracket, and a list has no commands.
+    /// The class of a byte between words: `]` ends only a bracket, and a list has no commands.
     fn heard(self, class: Class) -> Class
         ensures { result ≡ heard self class }
     {
@@ -131,7 +131,7 @@ impl Level {
         }
     }
 
-    /// What stands behind `{*}` says whether it is a prefix or a word.
+    /// The byte after `{*}` decides whether it is a prefix or a word.
     fn behind_star(self, class: Class, byte: u8) -> Transition
         ensures { result ≡ behind_star self class byte }
     {
@@ -163,7 +163,7 @@ impl Level {
         }
     }
 
-    /// What a byte makes; deep says whether braces are open inside of a braced word.
+    /// The effect of a byte; deep says whether braces are open inside of a braced word.
     #[tactic(auto, unfolding(crate::specs::Transitions::transition))]
     pub fn transition(self, mode: Mode, deep: bool, class: Class, byte: u8) -> Transition
         ensures { result ≡ transition self deep mode class byte }
@@ -353,7 +353,7 @@ fn after(delimiter: Delimiter) -> WordFault
     }
 }
 
-/// What the end of the text makes, outside brackets or within.
+/// The effect of the end of the text, outside brackets or within.
 #[tactic(auto, unfolding(crate::specs::Transitions::ends))]
 pub fn ends(mode: Mode, top: bool) -> Ending
     ensures { result ≡ ends top mode }

@@ -1,4 +1,4 @@
--- What stands before a fault can go on, and what stands up to it cannot.
+-- The text before a fault can go on to a list; the text up to and with it cannot.
 use Rattle.std.specs.Prelude.{◌≡◌, ℕ, List, ◌∷◌, ◌++◌, length, ◌⊎◌, Err}
 use Rattle.dg_lists.specs.declared.fault.WordFault.{WordFault}
 use Rattle.dg_lists.specs.Elements.{elements_of}

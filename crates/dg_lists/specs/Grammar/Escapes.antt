@@ -1,4 +1,4 @@
--- What a backslash and the bytes behind it write.
+-- The bytes that a backslash writes, with those after it.
 use Rattle.std.specs.Prelude.{◌≡◌, ◌≢◌, ℕ, ◌+◌, ◌-◌, ◌*◌, ◌≤◌, List, [], ◌∷◌, ◌++◌, length, Bool, true, false, ◌&&◌, if◌then◌else◌, ◌==◌, nat_lt}
 use Rattle.std.specs.Char.{digit_value, encode_utf8}
 use lib.Utf8.{scalar}
@@ -25,7 +25,7 @@ pub record Digits (e : Escape) (most v : ℕ) (ds after : List ℕ) : Type 0 whe
   pub fit : MayFollow e most v ds
   pub longest : (b : ℕ) (rest : List ℕ) → after ≡ b ∷ rest → MayFollow e most v (ds ++ b ∷ []) → ⊥
 
--- what a number writes: a byte, or a character of Unicode
+-- the bytes that a number writes: one byte, or a character of Unicode
 abbrev pub Writes : Escape → ℕ → List ℕ → Type 0
 Writes Octal v w = w ≡ v ∷ []
 Writes Byte v w = w ≡ v ∷ []

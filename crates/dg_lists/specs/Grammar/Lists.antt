@@ -5,7 +5,7 @@ use Rattle.dg_lists.specs.declared.kinds.Class.TheVariants.{Blank, Newline, Quot
 use Rattle.dg_lists.specs.Classes.{class_of}
 use Rattle.dg_lists.specs.Grammar.Escapes.{each, Escaped, Spaces}
 
--- what parts elements
+-- the bytes that separate elements
 abbrev pub parts : Class → Bool
 parts Blank = true
 parts Newline = true
@@ -14,7 +14,7 @@ parts c = false
 abbrev pub is_blank : ℕ → Bool
 is_blank b = parts (class_of b)
 
--- what stands for itself in a bare element, between quotes, and between braces
+-- the bytes that stand for themselves in a bare element, between quotes, and between braces
 abbrev pub plain_bare : Class → Bool
 plain_bare Blank = false
 plain_bare Newline = false
@@ -32,7 +32,7 @@ plain_braced Close = false
 plain_braced Backslash = false
 plain_braced c = true
 
--- what a bare element can begin with
+-- the bytes that a bare element can begin with
 abbrev pub begins : Class → Bool
 begins Quote = false
 begins Open = false
@@ -42,7 +42,7 @@ abbrev pub BeginsElement : List ℕ → Type 0
 BeginsElement [] = ⊥
 BeginsElement (b ∷ bs) = begins (class_of b) ≡ true
 
--- what comes behind an element: a blank or a newline, or nothing
+-- the text after an element: a blank or a newline first, or nothing
 abbrev pub Parted : List ℕ → Type 0
 Parted [] = Unit {0}
 Parted (b ∷ bs) = is_blank b ≡ true

@@ -1,4 +1,4 @@
--- What the kind of a fault says of a list.
+-- The meaning of each kind of fault in a list.
 use Rattle.std.specs.Prelude.{◌≡◌, ◌≢◌, ℕ, suc, ◌+◌, ◌<◌, List, [], ◌∷◌, ◌++◌, length, true, false, nat_lt, ◌⊎◌}
 use Rattle.std.specs.Char.{digit_value}
 use lib.Utf8.{scalar}
@@ -50,7 +50,7 @@ pub record WritesNone (text : List ℕ) (place : ℕ) : Type 0 where
   pub place_is : ((length digits < digits_of escape) × (place ≡ length before + 2 + length digits))
       ⊎ ((length digits ≡ digits_of escape) × (suc place ≡ length before + 2 + length digits))
 
--- what is wrong with a list
+-- the fault of a list
 abbrev pub Says : WordFault → List ℕ → ℕ → Type 0
 Says ListBrace text place = Misses IsList 125 text place
 Says ListQuote text place = Misses IsList 34 text place

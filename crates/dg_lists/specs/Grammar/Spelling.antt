@@ -1,4 +1,4 @@
--- What an answer of the reading says of its text, by the grammar alone.
+-- The meaning of a reader's answer, by the grammar alone.
 use Rattle.std.specs.Prelude.{ℕ, List}
 use Rattle.dg_lists.specs.declared.fault.WordFault.{WordFault}
 use Rattle.dg_lists.specs.Grammar.Continuing.{GoesOn, IsList, IsNot, StopsAt}

@@ -1,4 +1,4 @@
--- Where a fault is told, nothing is spelled.
+-- A text with a fault spells nothing.
 use Rattle.std.specs.Prelude.{◌≡◌, ℕ, List, Err}
 use Rattle.dg_words.specs.Piece.{Piece}
 use Rattle.dg_lists.specs.declared.fault.WordFault.{WordFault}

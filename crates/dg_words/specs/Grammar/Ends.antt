@@ -1,4 +1,4 @@
--- What is open after a text.
+-- The items that are open after a text.
 use Rattle.std.specs.Prelude.{◌≡◌, ℕ, List, [], ◌∷◌, ◌++◌, Bool, true, if◌then◌else◌, ◌==◌}
 use Rattle.std.specs.List.{filter}
 use Rattle.dg_lists.specs.declared.fault.WordFault.{WordFault}

@@ -1,4 +1,4 @@
--- How an operand is spelled: what stands for one value in an expression, besides numbers and names.
+-- How an operand is spelled: the text of one value in an expression, besides numbers and names.
 use Rattle.std.specs.Prelude.{◌≡◌, ◌≢◌, ℕ, List, [], ◌∷◌, ◌++◌, length, Bool, true, false}
 use Rattle.dg_words.specs.Piece.{Piece, Text, Variable, Element, End, Command}
 use Rattle.dg_lists.specs.declared.kinds.Class.{Class}

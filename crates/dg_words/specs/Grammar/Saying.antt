@@ -1,4 +1,4 @@
--- What the kind of a fault says of a script.
+-- The meaning of each kind of fault in a script.
 use Rattle.std.specs.Prelude.{◌≡◌, ◌≢◌, ℕ, suc, ◌+◌, ◌<◌, List, [], ◌∷◌, ◌++◌, length, Bool, true, false, nat_lt, ◌⊎◌}
 use Rattle.std.specs.Char.{digit_value}
 use lib.Utf8.{scalar}

@@ -1,4 +1,4 @@
--- What an answer of the reading says of its text, by the grammar alone.
+-- The meaning of a reader's answer, by the grammar alone.
 use Rattle.std.specs.Prelude.{◌≡◌, ℕ, ◌+◌, List, [], ◌∷◌, drop, false}
 use Rattle.dg_words.specs.Piece.{Piece}
 use Rattle.dg_lists.specs.declared.fault.WordFault.{WordFault}

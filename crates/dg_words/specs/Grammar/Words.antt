@@ -12,20 +12,20 @@ use Rattle.dg_lists.specs.Classes.{class_of}
 use Rattle.dg_lists.specs.Grammar.Escapes.{each, Escaped, Spaces}
 use Rattle.dg_lists.specs.Grammar.Lists.{plain_braced}
 
--- what parts words: in a list of words newlines too
+-- the bytes that separate words: in a list of words newlines too
 abbrev pub blanks : Level → Class → Bool
 blanks l class.Blank = true
 blanks Listed class.Newline = true
 blanks l c = false
 
--- what ends a command
+-- the bytes that end a command
 abbrev pub ends_command : Level → Class → Bool
 ends_command Listed c = false
 ends_command l class.Newline = true
 ends_command l class.Semicolon = true
 ends_command l c = false
 
--- what ends a bare word: these, and within brackets the one that closes them
+-- the bytes that end a bare word: these, and within brackets the one that closes them
 abbrev pub ends_word : Level → Class → Bool
 ends_word l class.Blank = true
 ends_word l class.Newline = true
@@ -34,7 +34,7 @@ ends_word l class.Semicolon = true
 ends_word Inside class.RightBracket = true
 ends_word l c = false
 
--- what stands for itself in a bare word, between quotes, and in an index
+-- the bytes that stand for themselves in a bare word, between quotes, and in an index
 abbrev pub plain : Level → Context → Class → Bool
 plain l s class.LeftBracket = false
 plain l s class.Backslash = false
@@ -91,7 +91,7 @@ pub data Named : List ℕ → Type 0 where
   local : {t : List ℕ} → each name_byte t ≡ true → Named t
   global : {t : List ℕ} → each name_byte t ≡ true → Named (58 ∷ 58 ∷ t)
 
--- what goes on a name, or makes it an element's
+-- the bytes that continue a name, or make it an element's
 abbrev pub goes_on : Class → Bool
 goes_on class.Name = true
 goes_on class.LeftParen = true
@@ -101,7 +101,7 @@ abbrev pub name_goes_on : List ℕ → Bool
 name_goes_on [] = false
 name_goes_on (b ∷ bs) = goes_on (class_of b)
 
--- what a dollar sign needs behind it: a name, `(`, `{` or `::`
+-- the text that a dollar sign needs after it: a name, `(`, `{` or `::`
 abbrev pub is_colon : Class → Bool
 is_colon class.Colon = true
 is_colon c = false
@@ -150,7 +150,7 @@ pub data Comment (after : List ℕ) : List ℕ → Type 0 where
   pair : {t : List ℕ} (b : ℕ) → Comment after t → Comment after (92 ∷ b ∷ t)
   last_backslash : after ≡ [] → Comment after (92 ∷ [])
 
--- What is skipped before a command: blanks, newlines, `;`, joined lines and comments.
+-- The text that is skipped before a command: blanks, newlines, `;`, joined lines and comments.
 pub data Skipped (after : List ℕ) : List ℕ → Type 0 where
   nothing : Skipped after []
   byte : {t : List ℕ} (b : ℕ) → skipped (class_of b) ≡ true → Skipped after t → Skipped after (b ∷ t)
@@ -158,13 +158,13 @@ pub data Skipped (after : List ℕ) : List ℕ → Type 0 where
   comment : {c t : List ℕ} → Comment (10 ∷ []) c → Skipped after t → Skipped after (35 ∷ c ++ 10 ∷ t)
   last_comment : {c : List ℕ} → after ≡ [] → Comment [] c → Skipped after (35 ∷ c)
 
--- what stands between words: blanks and joined lines
+-- the text between words: blanks and joined lines
 pub data Gap (l : Level) : List ℕ → Type 0 where
   nothing : Gap l []
   blank : {t : List ℕ} (b : ℕ) → blanks l (class_of b) ≡ true → Gap l t → Gap l (b ∷ t)
   joined_line : {t : List ℕ} → Gap l t → Gap l (92 ∷ 10 ∷ t)
 
--- what comes behind a word
+-- the text after a word
 pub data Parted (l : Level) : List ℕ → Type 0 where
   at_end : Parted l []
   at_byte : {t : List ℕ} (b : ℕ) → ends_word l (class_of b) ≡ true → Parted l (b ∷ t)
