@@ -85,11 +85,19 @@ def in_advance():
     return len(found["passed"]), len(found["failed"])
 
 
+def of_the_program():
+    """The names of the tests of the program that are run here: none where `rt ci` has left no program, which is said."""
+    if not os.access(PROGRAM, os.X_OK):
+        print(f"the tests of the program are left out: rt ci has left no {PROGRAM}", flush=True)
+        return []
+    return [it for it in tests.there() if it not in (*tests.WITHOUT_A_PROGRAM, *tests.OUTSIDE_THE_GATE)]
+
+
 def behind(lanes):
     """Tries what comes behind `rt ci`, so many checks side by side, and gives how many things passed and failed. A test of the program that
     waits may fail beside these checks, where the machine is slow: it is tried once more behind them, and only that counts."""
     with ThreadPoolExecutor(lanes) as checks, ThreadPoolExecutor(1) as beside:
-        first = beside.submit(tests.told, PROGRAM, [it for it in tests.there() if it not in tests.WITHOUT_A_PROGRAM])
+        first = beside.submit(tests.told, PROGRAM, of_the_program())
         counts = [sum(it) for it in zip((0, 0), *checks.map(lambda it: refused(*it), listed().items()))]
         first = first.result()
     again = tests.told(PROGRAM, first["failed"])

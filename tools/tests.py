@@ -15,9 +15,11 @@ from pathlib import Path
 
 TOP = Path(__file__).resolve().parents[1]
 # the tests in their order, each with its words
-TESTS = {"tools": [], "examples": ["live"], "sum": [], "contrib": [], "farm": [], "program": [], "kills": ["20"]}
+TESTS = {"tools": [], "examples": ["live"], "sum": [], "contrib": [], "program": [], "kills": ["20"]}
 WITHOUT_A_PROGRAM = ("tools",)
 FOR_THE_PROVED = ("program",)
+# those that want a quiet machine: `make examples` runs them, the gate does not
+OUTSIDE_THE_GATE = ("program",)
 SKIPPED = 77
 LONGEST = 1200  # how many seconds a test may take
 

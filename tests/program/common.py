@@ -71,26 +71,22 @@ class Suite:
         self.folder.cleanup()
 
 
-def settings(term=None, **more):
+def settings(term=None):
     """The variables that the program is run with."""
-    return {"PATH": os.environ["PATH"], "LC_ALL": "C", **({} if term is None else {"TERM": term}), **more}
+    return {"PATH": os.environ["PATH"], "LC_ALL": "C", **({} if term is None else {"TERM": term})}
 
 
 class OnTerminal:
-    """The program on a terminal of 24 rows, which is its standard error and output, but for those with a file.
+    """The program on a terminal of 24 rows and 80 columns, which is its standard error and output, but for those with a file."""
 
-    It has 80 columns, or as many as the variable COLUMNS among `more` says.
-    """
-
-    def __init__(self, words, here, term="xterm", out=None, err=None, is_session=False, source=subprocess.DEVNULL, **more):
+    def __init__(self, words, here, term="xterm", out=None, err=None, is_session=False, source=subprocess.DEVNULL):
         self.master, slave = pty.openpty()
-        columns = int(more.get("COLUMNS", 80))
-        fcntl.ioctl(slave, termios.TIOCSWINSZ, struct.pack("HHHH", 24, columns, 0, 0))
+        fcntl.ioctl(slave, termios.TIOCSWINSZ, struct.pack("HHHH", 24, 80, 0, 0))
         # the program's terminal is one that keys reach, where it is a session of its own
         lead = (lambda: (os.setsid(), fcntl.ioctl(slave, termios.TIOCSCTTY, 0))) if is_session else None
         self.begun = time.monotonic()
         self.process = subprocess.Popen(
-            words, cwd=here, env=settings(term, **more), preexec_fn=lead, stdin=slave if is_session else source,
+            words, cwd=here, env=settings(term), preexec_fn=lead, stdin=slave if is_session else source,
             stdout=out or slave, stderr=err or slave,
         )
         os.close(slave)
@@ -119,16 +115,15 @@ class OnTerminal:
 
 
 class Screen:
-    """What stands on a terminal of so many columns and many rows, and the lines that stood there for a time.
+    """What stands on a terminal of 80 columns and many rows, and the lines that stood there for a time.
 
-    It knows text, the line feed, the return, the tab, colours, and `ESC [ K`, which clears a line from the place on; `ESC [ 2 K`
-    clears all.
+    It knows text, the line feed, the return, the tab, and `ESC [ K`, which clears a line from the place on; `ESC [ 2 K` clears all.
     """
 
+    WIDTH = 80
     ESCAPE = re.compile("\x1b\\[([0-9;]*)([A-Za-z])")
 
-    def __init__(self, text, width=80):
-        self.WIDTH = width
+    def __init__(self, text):
         self.rows, self.row, self.column, self.past = [[]], 0, 0, []
         at = 0
         while at < len(text):
@@ -171,8 +166,6 @@ class Screen:
             self.rows.append([])
 
     def obey(self, letter, numbers):
-        if letter == "m":
-            return
         if letter == "K" and numbers in ("", "0"):
             del self.rows[self.row][self.column :]
         elif letter == "K" and numbers == "2":

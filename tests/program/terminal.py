@@ -8,7 +8,7 @@ from common import OnTerminal, Screen, Suite, Tries, settings
 
 PROGRAM = os.path.abspath(sys.argv[1])
 LAST = re.compile(r"(\d+) unexpected of (\d+), (\d+) seconds, (\d+) evaluated, (\d+) from transcripts")
-BEGUN = re.compile(r"(\d+) of (\d+) tests, (\d+) unexpected, \d+:\d\d: (.*)")
+BEGUN = re.compile(r"(\d+) of (\d+) tests, (\d+) unexpected: (.*)")
 tries = Tries("terminal.py")
 
 TWO = {
@@ -35,16 +35,11 @@ NOTE: no result
 """
 
 
-def run(suite, *words, term="xterm", **more):
+def run(suite, *words, term="xterm"):
     """The screen, the status and the seconds of a run whose report goes to a file."""
     with open(suite.here / "said", "wb") as out:
-        text, status, seconds = OnTerminal([PROGRAM, *words], suite.here, term, out=out, **more).finish()
-    return Screen(text, int(more.get("COLUMNS", 80))), status, seconds, text
-
-
-def begun_in(screen):
-    """The lines of tests that began, without the time."""
-    return [re.sub(r", \d+:\d\d: ", ": ", line) for line in screen.past if BEGUN.fullmatch(line)]
+        text, status, seconds = OnTerminal([PROGRAM, *words], suite.here, term, out=out).finish()
+    return Screen(text), status, seconds, text
 
 
 def look_at_last(line, seconds, unexpected, results, evaluated, read):
@@ -66,17 +61,15 @@ def try_two():
             screen, status, seconds, _ = run(suite, "--tool", "t", *words)
             tries.same("the status", 1, status)
             tries.same("the report", TWO_REPORT, suite.read("said"))
-            tries.same("the lines of the tests", begun, begun_in(screen))
-            left = ["unix t/a.exp:", "FAIL: one", "unix t/a.exp:", "FAIL: one", "the log: ./t.log"]
-            tries.same("what is left on the screen", left, screen.lines()[:-1])
+            tries.same("the lines of the tests", begun, screen.past[:-1])
+            tries.same("what is left on the screen", screen.past[-1:], screen.lines())
             look_at_last(screen.lines()[-1], seconds, 1, 3, 2, read)
         for words in [], ["--rejudge"]:
             tries.begin(" ".join(["a report on the terminal", *words]))
             text, _, _ = OnTerminal([PROGRAM, "--tool", "t", *words], suite.here).finish()
             screen = Screen(text)
             wanted = TWO_REPORT.expandtabs(8).rstrip("\n").split("\n")
-            told = ["unix t/a.exp:", "FAIL: one"]
-            tries.same("what is left on the screen", [*told, *wanted, *told, "the log: ./t.log"], screen.lines()[:-1])
+            tries.same("what is left on the screen", wanted, screen.lines()[:-1])
             tries.check("the last line is none", LAST.fullmatch(screen.lines()[-1]), screen.lines()[-1])
 
 
@@ -113,7 +106,7 @@ def try_counts():
     all_classes = """pass 1; fail 2; setup_xfail *-*-*; pass 3; setup_xfail *-*-*; fail 4; setup_kfail *-*-*; pass 5
 setup_kfail *-*-*; fail 6; unresolved 7; untested 8; unsupported 9; note 10; warning 11; perror 12
 """
-    files = {"t/a.exp": all_classes, "t/b.exp": "nothing of this name\n", "t/c.exp": "spawn true\n", "boards/sim.exp": ""}
+    files = {"t/a.exp": all_classes, "t/b.exp": "nothing of this name\n", "t/c.exp": "spawn true\n"}
     boards = ["--target_board", "sim,unix"]
     with Suite(files) as suite:
         tries.begin("every class of results, on two boards")
@@ -122,7 +115,7 @@ setup_kfail *-*-*; fail 6; unresolved 7; untested 8; unsupported 9; note 10; war
         wanted = ["0 of 6 tests, 0 unexpected: sim t/a.exp", "1 of 6 tests, 4 unexpected: sim t/b.exp"]
         wanted += ["2 of 6 tests, 5 unexpected: sim t/c.exp", "3 of 6 tests, 5 unexpected: unix t/a.exp"]
         wanted += ["4 of 6 tests, 9 unexpected: unix t/b.exp", "5 of 6 tests, 10 unexpected: unix t/c.exp"]
-        tries.same("the lines of the tests", wanted, begun_in(screen))
+        tries.same("the lines of the tests", wanted, screen.past[:-1])
         look_at_last(screen.lines()[-1], seconds, 10, 20, 6, 0)
         tries.begin("a transcript that is missing")
         os.remove(suite.here / "transcripts/sim/t/c.exp.tr")
@@ -130,13 +123,12 @@ setup_kfail *-*-*; fail 6; unresolved 7; untested 8; unsupported 9; note 10; war
         look_at_last(screen.lines()[-1], seconds, 11, 21, 6, 5)
         tries.begin("some of the scripts")
         screen, status, seconds, _ = run(suite, "--rejudge", "c.exp")
-        tries.same("the lines of the tests", ["0 of 1 tests, 0 unexpected: unix t/c.exp"], begun_in(screen))
+        tries.same("the lines of the tests", ["0 of 1 tests, 0 unexpected: unix t/c.exp"], screen.past[:-1])
         look_at_last(screen.lines()[-1], seconds, 0, 0, 1, 1)
         for words in [], ["--rejudge"]:
             tries.begin(" ".join(["no script", *words]))
             screen, status, seconds, _ = run(suite, "none.exp", *words)
-            warned = ["runtest: warning: the word none.exp: no script has this name"]
-            tries.same("what is left on the screen", warned, screen.lines()[:-1])
+            tries.same("what is left on the screen", screen.past, screen.lines())
             look_at_last(screen.lines()[-1], seconds, 0, 0, 0, 0)
 
 
@@ -189,70 +181,12 @@ def try_faults():
             tries.begin(" ".join(["a report that can't be written", *words]))
             screen, status, _, _ = run(suite, "--tool", "t", *words)
             tries.same("the status", 2, status)
-            tries.same("what is left on the screen", "runtest: can't write ./t.sum", screen.lines()[-1])
+            tries.same("what is left on the screen", ["runtest: can't write ./t.sum"], screen.lines())
             tries.check("no test was told of", len(screen.past) > 1, screen.past)
-        tries.begin("a folder that isn't there")
-        screen, status, _, _ = run(suite, "--srcdir", "absent")
-        tries.same("what is left on the screen", ["runtest: can't read absent"], screen.lines())
-
-
-def try_culprits():
-    """On a terminal a second line says which word a fault is about; elsewhere the one line stays the one line."""
-    with Suite(TWO) as suite:
-        for words, fault, culprit in (
-            (["a.exp", "x"], "bad word 2", 'the word "x" is neither a script'),
-            (["--tool", "a/b"], "bad selection", '--tool "a/b" is no name'),
-            (["--target_board", "sim,unix,sim"], "bad selection", '--target_board "sim" stands twice'),
-            (["--host", "linux"], "bad selection", 'host "linux" is no triplet'),
-            (["../a.exp"], "bad selection", 'the word "../a.exp" is no name of a script'),
-            (["A=1", "A=2"], "bad selection", 'the variable "A" stands twice'),
-        ):
+        for words, fault in (["x"], "bad word 1"), (["--srcdir", "absent"], "can't read absent"):
             tries.begin(" ".join(words))
             screen, status, _, _ = run(suite, *words)
-            tries.same("the status", 2, status)
-            tries.same("the first line", f"runtest: {fault}", screen.lines()[0])
-            tries.check("the second line", screen.lines()[1:2] and screen.lines()[1].startswith(f"runtest: {culprit}"), screen.lines())
-            ended = subprocess.run([PROGRAM, *words], cwd=suite.here, env=settings(), capture_output=True, check=False, text=True)
-            tries.same("standard error elsewhere", f"runtest: {fault}\n", ended.stderr)
-        tries.begin("no word at all")
-        terminal = OnTerminal([PROGRAM], suite.here, is_session=True)
-        terminal.press(b"\x04")
-        text, status, _ = terminal.finish()
-        tries.same("the status", 0, status)
-        tries.check("what is read isn't told", "read from standard input; runtest --help" in text, text)
-
-
-def try_narrow():
-    """A terminal of 40 columns, and one without colours."""
-    name = "t/" + 50 * "n" + "/the_end.exp"
-    with Suite({name: "fail x\n", "t/z.exp": "pass z\n"}) as suite:
-        tries.begin("40 columns")
-        screen, status, _, text = run(suite, "--tool", "t", COLUMNS="40")
-        tries.same("the status", 1, status)
-        begun = [line for line in screen.past if line.startswith("0/2, 0 unexpected, 0:0")]
-        tries.check("no line of progress", begun, screen.past)
-        tries.check("it is too long", all(len(line) < 40 for line in begun), begun)
-        tries.check("it hasn't the end of the name", all(line.endswith("end.exp") and ".." in line for line in begun), begun)
-        tries.check("there is no colour", "\x1b[31mFAIL\x1b[m: x" in text, text)
-        tries.begin("no colours")
-        _, _, _, text = run(suite, "--tool", "t", NO_COLOR="1")
-        tries.check("there is a colour", "FAIL: x" in text and "\x1b[31m" not in text, text)
-        tries.begin("NO_COLOR that is empty")
-        _, _, _, text = run(suite, "--tool", "t", NO_COLOR="")
-        tries.check("there is no colour", "\x1b[31mFAIL" in text, text)
-
-
-def try_retold():
-    """Twenty unexpected lines at most are told once more, and no byte of them drives the terminal."""
-    with Suite({"t/a.exp": "for {set n 1} {$n <= 25} {incr n} {fail $n}\n", "t/b.exp": 'fail "\\x1b\\[2J"\n'}) as suite:
-        tries.begin("26 unexpected results")
-        with open(suite.here / "said", "wb") as out:
-            text, _, _ = OnTerminal([PROGRAM, "--tool", "t"], suite.here, out=out, NO_COLOR="1").finish()
-        lines = Screen(text).lines()
-        last = lines[lines.index("and 6 more") - 21 :]
-        wanted = ["unix t/a.exp:", *(f"FAIL: {number}" for number in range(1, 21)), "and 6 more", "the log: ./t.log"]
-        tries.same("what is told in the end", wanted, last[:-1])
-        tries.check("an escape isn't told", "FAIL: \\x1b[2J" in text, text)
+            tries.same("what is left on the screen", [f"runtest: {fault}"], screen.lines())
 
 
 def try_broken():
@@ -272,8 +206,6 @@ def try_broken():
         tries.same("the report's file", report, suite.read("t.sum"))
 
 
-for it in (
-    try_two, try_none, try_counts, try_many, try_long, try_seconds, try_faults, try_culprits, try_narrow, try_retold, try_broken,
-):  # fmt: skip
+for it in try_two, try_none, try_counts, try_many, try_long, try_seconds, try_faults, try_broken:
     it()
 tries.end()

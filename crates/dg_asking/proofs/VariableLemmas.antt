@@ -17,7 +17,7 @@ use Rattle.dg_language.specs.Arguments.{on, only}
 use Rattle.dg_language.specs.Variables.{touch, all_linked, unset_one, read_variable, set_of, store, given, cannot_read, cannot_unset, append_elements, add_number, addend, info_of, or_empty, with_appended, do_set, do_append, do_info, do_lappend, do_incr}
 use Rattle.dg_language.proofs.TouchLemmas.{within-short}
 use Rattle.dg_asking.specs.declared.attempt.AttemptEnd.TheVariants.{Value, Fails}
-use Rattle.dg_asking.specs.Attempts.{EndsAs, SpendsNothing, steps_left}
+use Rattle.dg_asking.specs.Attempts.{EndsAs, SpendsNothing}
 
 -- ---- the words of the commands
 
@@ -186,6 +186,6 @@ module _ (n : List ℕ) (s t : State) where
   pub keeps-unset : (was : Bool) → (was ≡ true → t ≡ unassigned n s) → (was ≡ false → t ≡ s) → SpendsNothing s t
   unfolding unassigned
   keeps-unset true set unset =
-      (ap (λ (x : State). x.known) (set refl), ap steps_left (set refl), ap (λ (x : State). x.sessions.used) (set refl))
+      (ap (λ (x : State). x.known) (set refl), ap (λ (x : State). x.steps) (set refl), ap (λ (x : State). x.sessions.used) (set refl))
   keeps-unset false set unset =
-      (ap (λ (x : State). x.known) (unset refl), ap steps_left (unset refl), ap (λ (x : State). x.sessions.used) (unset refl))
+      (ap (λ (x : State). x.known) (unset refl), ap (λ (x : State). x.steps) (unset refl), ap (λ (x : State). x.sessions.used) (unset refl))

@@ -1,5 +1,5 @@
 -- Attempts: the outcome of a command that evaluates nothing inside.
-use Rattle.std.specs.Prelude.{◌≡◌, ℕ, ◌-◌, Bool, List, Option, Some, None, is_some, codes}
+use Rattle.std.specs.Prelude.{◌≡◌, ℕ, Bool, List, Option, Some, None, is_some, codes}
 use Rattle.dg_scope.specs.Scopes.{value_of}
 use Rattle.dg_language.specs.declared.code.Code.TheVariants.{Done}
 use Rattle.dg_language.specs.Play.{Play, Asks, plain, lookup}
@@ -11,13 +11,9 @@ use Rattle.dg_asking.specs.declared.attempt.AttemptEnd.TheVariants.{Value, Fails
 use Rattle.dg_asking.specs.declared.attempt.Attempt.{Attempt}
 use Rattle.dg_asking.specs.declared.attempt.Attempt.TheVariants.{Ends as IsOver, Asks as NeedsAnswer}
 
--- the steps that the limit leaves
-abbrev pub steps_left : State → ℕ
-steps_left s = s.limit - s.steps
-
 -- the same answers are known, and as much is left of the steps and of the entries that may be used
 abbrev pub SpendsNothing : State → State → Type 0
-SpendsNothing old new = (new.known ≡ old.known) × (steps_left new ≡ steps_left old) × (new.sessions.used ≡ old.sessions.used)
+SpendsNothing old new = (new.known ≡ old.known) × (new.steps ≡ old.steps) × (new.sessions.used ≡ old.sessions.used)
 
 -- a command in this state has ended so, in that one
 abbrev pub EndsAs : (State → Then → Play Ending) → State → State → AttemptEnd → Type 0

@@ -59,22 +59,6 @@ seen_by_both names notes calls count mine k all knows is n at =
     let here : knows.0 ≡ k = omega arith in
     (names, p.0, knows.1, p.1, subst (λ i. Sees names i mine knows.1) here knows.3)
 
--- two notes that both know the last of so many places are of one place
-pub seen_by_two : (names : List ℕ) (count : ℕ) (mine theirs : PlaceNote) → Knows names count (Some mine) → Knows names count (Some theirs) →
-    (all_names : List ℕ) × (k : ℕ) × (p : Place) × (q : Place) × (Sees all_names k mine p) × (Sees all_names k theirs q)
-seen_by_two names count mine theirs a b =
-    let c = a.2 in
-    let d = b.2 in
-    let here : b.0 ≡ a.0 = omega arith in
-    (names, a.0, a.1, b.1, a.3, subst (λ i. Sees names i theirs b.1) here b.3)
-
--- where they agree they know the same calls
-pub known_alike : (names : List ℕ) (count : ℕ) (mine theirs : PlaceNote) → Knows names count (Some mine) → Knows names count (Some theirs) → IfSome theirs.place.known (Agrees mine.place.known) → calls_of (Some mine) ≡ calls_of (Some theirs)
-known_alike names count mine theirs a b agrees =
-    let told : Agrees mine.place.known b.1 = subst (λ o. IfSome o (Agrees mine.place.known)) b.3.holds agrees in
-    let same : a.1 ≡ b.1 = subst (λ o. Agrees o b.1) a.3.holds told in
-    ap calls_to a.3.holds ∙ ap (λ p. calls_to (Some p)) same ∙ sym (ap calls_to b.3.holds)
-
 pub all_known : (names : List ℕ) (notes : List PlaceNote) (calls : List Call) (k : ℕ) (n : PlaceNote) → KnowsAll names notes calls → slice_get notes k ≡ Some n → k + 1 ≡ length calls → (Knows names (k + 1) (Some n)) × (calls_of (Some n) ≡ calls)
 all_known names notes calls k n all at last =
     let p = known_at names notes calls k n all at in

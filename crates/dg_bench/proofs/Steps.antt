@@ -17,7 +17,7 @@ happens : (old new : CoreView) (call : Call) → Steps old call new → Happens 
 happens old new (Edit edit) step = inl step
 happens old new (Ask question answer) step = inl (answer, step.1)
 happens old new (Commit r) step = (step.0, inl step.1)
-happens old new (Live r transcript) step = (step.0, inl step.1)
+happens old new (Live r sessions) step = (step.0, inl step.1)
 happens old new (Report reply) step = step.0
 
 pub runs : (old : CoreView) (calls : List Call) (new : CoreView) → Makes old calls new → Runs old (map event_of calls) new

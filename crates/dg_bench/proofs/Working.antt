@@ -2,12 +2,9 @@
 use Rattle.std.proofs.Common.{List, Option, ◌++◌, refl, sym, ap, ◌∙◌, subst, arith}
 use mathlib.Core.List.{IsPrefix, append_assoc}
 use Rattle.dg_core.specs.Core.{new_core}
-use Rattle.dg_transcript.specs.Transcript.{TranscriptView}
+use Rattle.dg_transcript.specs.declared.entry.Entry.{Entry}
 use Rattle.dg_world.specs.Test.{TestView}
 use Rattle.dg_bench.specs.declared.call.Call.{Call}
-use Rattle.dg_gate.specs.Asking.{Unanswered}
-use Rattle.dg_gate.specs.declared.fault.AskFault.{AskFault}
-use Rattle.dg_gate.specs.declared.fault.AskFault.TheVariants as ask_fault
 use Rattle.dg_bench.specs.declared.work.Work.{Work}
 use Rattle.dg_bench.specs.declared.refusal.BenchRefusal.{BenchRefusal}
 use Rattle.dg_bench.specs.declared.refusal.BenchRefusal.TheVariants.{Shorter, HistoryFull, Edit, Memory}
@@ -15,7 +12,7 @@ use Rattle.dg_bench.specs.History.{Makes}
 use Rattle.dg_bench.specs.Seen.{Seen, Told, Kept}
 use Rattle.dg_bench.specs.Refusals.{SeesMore, IsRefused, never}
 use Rattle.dg_bench.specs.Made.{IsMade}
-use Rattle.dg_bench.specs.Work.{Lists, IsListed, Recalls, IsRecalled, IsKept, RefusesAsk}
+use Rattle.dg_bench.specs.Work.{Lists, IsListed, Recalls, IsRecalled}
 
 pub is_listed : (work : Work) (old : Kept) (pass back : Seen) (tests : List TestView) → Lists work old pass back tests → IsListed work pass back tests
 is_listed work old pass back tests l = (
@@ -23,8 +20,8 @@ is_listed work old pass back tests l = (
   (old.core, subst (λ (q : Seen). Makes new_core q.calls old.core) (sym l.0.1) l.2, l.3),
 )
 
-pub is_recalled : (test : TestView) (old : Kept) (pass back : Seen) (transcript : Option TranscriptView) → Recalls test old pass back transcript → IsRecalled test pass back transcript
-is_recalled test old pass back transcript l = (
+pub is_recalled : (test : TestView) (old : Kept) (pass back : Seen) (sessions : Option (List (List Entry))) → Recalls test old pass back sessions → IsRecalled test pass back sessions
+is_recalled test old pass back sessions l = (
   subst (SeesMore pass) (sym l.0.1) (refl, refl, l.0.0, l.0.2, l.0.3),
   (old.core, subst (λ (q : Seen). Makes new_core q.calls old.core) (sym l.0.1) l.2, l.3),
 )
@@ -54,9 +51,3 @@ refused_on pass mid back (Shorter seen found) a h = subst (SeesMore pass) (sym h
 refused_on pass mid back HistoryFull a h = seen_on pass mid back a h
 refused_on pass mid back (Edit why) a h = absurd h.1.2
 refused_on pass mid back Memory a h = seen_on pass mid back a h
-
--- a question that the bench refused, where the cause is kept
-pub unanswered : (pass later : Seen) (kept : Option BenchRefusal) (why : BenchRefusal) (f : AskFault) → IsRefused never pass later why → Unanswered (IsKept why kept) f
-    → Unanswered (RefusesAsk pass later kept) f
-unanswered pass later kept why ask_fault.Refused refused is = (why, is, refused)
-unanswered pass later kept why ask_fault.Memory refused is = tt

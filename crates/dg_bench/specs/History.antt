@@ -14,8 +14,8 @@ use Rattle.dg_bench.specs.declared.call.Call.TheVariants.{Edit, Ask, Commit, Liv
 abbrev pub Steps : CoreView → Call → CoreView → Type 0
 Steps old (Edit edit) new = edited_core old edit ≡ Ok new
 Steps old (Ask question answer) new = (look old.world question ≡ None) × IsAskedOf old new question answer
-Steps old (Commit r) new = IsTrueRecord r.test r.reads r.verdict r.kept × (new ≡ committed old r)
-Steps old (Live r transcript) new = IsTrueRecord r.test r.reads r.verdict r.kept × (committed_live old r transcript ≡ Ok new)
+Steps old (Commit r) new = IsTrueRecord r.test r.reads r.verdict × (new ≡ committed old r)
+Steps old (Live r sessions) new = IsTrueRecord r.test r.reads r.verdict × (committed_live old r sessions ≡ Ok new)
 Steps old (Report reply) new = (new ≡ old) × Replies old reply
 
 -- the calls, one after another, take a core to another
@@ -32,7 +32,7 @@ abbrev pub event_of : Call → Event
 event_of (Edit edit) = Edits edit
 event_of (Ask question answer) = Asks question
 event_of (Commit r) = Commits r
-event_of (Live r transcript) = Lives r transcript
+event_of (Live r sessions) = Lives r sessions
 event_of (Report reply) = Reports
 
 -- a legal history is a run of a core's events

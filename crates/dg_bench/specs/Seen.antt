@@ -6,8 +6,6 @@ use Rattle.dg_bench.specs.Cells.{Sees}
 use Rattle.dg_bench.specs.declared.call.Call.{Call}
 use Rattle.dg_bench.specs.declared.note.PlaceNote.{PlaceNote}
 use Rattle.dg_bench.specs.declared.place.Place.{Place}
-use Rattle.dg_bench.specs.declared.receipt.Position.{Position}
-use Rattle.dg_bench.specs.declared.receipt.Position.TheVariants as position
 use Rattle.dg_bench.specs.History.{IsLegal, Makes}
 
 -- the calls that a pass has seen, how many they are, and whether it is a pass of this bench
@@ -89,11 +87,3 @@ called number call = record { number = number; call = Some call }
 -- the receipt of a look at so many calls
 abbrev pub front : ℕ → Told
 front number = record { number = number; call = None }
-
--- what a receipt is of: the place of a call, or a look at so many calls
-abbrev pub position_at : ℕ → Option Call → Position
-position_at number (Some call) = position.Call number
-position_at number None = position.Front number
-
-abbrev pub position_of : Told → Position
-position_of told = position_at told.number told.call

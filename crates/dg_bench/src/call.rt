@@ -2,7 +2,7 @@
 ghost use Rattle.std.specs.Prelude.{◌≡◌, List, IfOk};
 ghost use Rattle.dg_bench.specs.declared.call.Call.TheVariants.{Edit as edited, Ask as asked, Commit as committed, Live as lived, Report as reported};
 ghost use Rattle.dg_records.specs.Truth.{RecordView};
-ghost use Rattle.dg_transcript.specs.Transcript.{TranscriptView};
+ghost use Rattle.dg_transcript.specs.declared.entry.Entry.{Entry};
 ghost use Rattle.dg_world.specs.declared.question.Question.{Question as Questioned};
 ghost use Rattle.dg_world.specs.declared.question.Answer.{Answer as Answered};
 ghost use Rattle.dg_world.specs.declared.question.Answer.TheVariants.{Reading as read_as};
@@ -102,7 +102,7 @@ impl Call {
 
     /// The record and the transcript of the live run that a call keeps.
     pub(crate) fn into_live(self) -> (Record, Transcript)
-        requires { (r : RecordView) × (transcript : TranscriptView) × (self ≡ lived r transcript) }
+        requires { (r : RecordView) × (sessions : List (List Entry)) × (self ≡ lived r sessions) }
         ensures { self ≡ lived result.0 result.1 }
     {
         match self {

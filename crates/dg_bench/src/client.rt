@@ -1,11 +1,8 @@
 //! A worker's own way to the bench.
-ghost use Rattle.std.specs.Prelude.{◌≡◌, IfOk, IfErr, OnOk, IfSome};
-ghost use Rattle.dg_gate.specs.Asking.{Unanswered};
-ghost use Rattle.dg_bench.specs.Work.{Answers, IsKept, RefusesAsk};
+ghost use Rattle.std.specs.Prelude.{◌≡◌, IfOk, OnOk, IfSome};
 
 use crate::bench::Bench;
 use crate::pass::Pass;
-use crate::receipt::Receipt;
 use crate::refusal::BenchRefusal;
 use crate::replay::Replay;
 use crate::room::Room;
@@ -43,14 +40,22 @@ impl<'a, B: Room, R: Wait> Drop for Client<'a, B, R> {
 }
 
 impl<'a, B: Room, R: Wait> Asker for Client<'a, B, R> {
-    ghost use Rattle.dg_bench.specs.Work.{Answers, RefusesAsk};
+    ghost use Rattle.dg_bench.specs.Work.{Answers};
 
     ghost step = { λ before question answer after. Answers before.pass after.pass question answer };
 
-    ghost refuses = { λ before question after. RefusesAsk before.pass after.pass after.refusal };
-
     fn ask(&mut self, question: &Question) -> Result<Answer, AskFault> {
-        self.ask_bench(question)
+        let pass = mem::replace(&mut self.pass, self.bench.pass());
+        match self.bench.ask(self.rt, self.alloc, pass, question) {
+            Ok((pass, _receipt, answer)) => {
+                self.pass = pass;
+                Ok(answer)
+            }
+            Err((pass, refusal)) => {
+                self.pass = pass;
+                Err(self.refused(refusal))
+            }
+        }
     }
 }
 
@@ -66,37 +71,13 @@ impl<'a, B: Room, R: Wait> Client<'a, B, R> {
         }
     }
 
-    /// The bench's answer to a question.
-    #[tactic(auto, using(crate::proofs::Working::unanswered))]
-    fn ask_bench(&mut self, question: &Question) -> Result<Answer, AskFault>
-        ensures answer { IfOk result (λ a. Answers self.old.pass self.new.pass question.now a) }
-        ensures fault { IfErr result (Unanswered (RefusesAsk self.old.pass self.new.pass self.new.refusal)) }
-    {
-        let pass = mem::replace(&mut self.pass, self.bench.pass());
-        match self.bench.ask(self.rt, self.alloc, pass, question) {
-            Ok((pass, _receipt, answer)) => {
-                self.pass = pass;
-                Ok(answer)
-            }
-            Err((pass, refusal)) => {
-                self.pass = pass;
-                Err(self.refused(refusal))
-            }
+    /// Why the bench did not answer.
+    fn refused(&mut self, refusal: BenchRefusal) -> AskFault {
+        if refusal == BenchRefusal::Memory {
+            return AskFault::Memory;
         }
-    }
-
-    /// Why the bench did not answer, which is kept.
-    fn refused(&mut self, refusal: BenchRefusal) -> AskFault
-        ensures pass { self.new.pass ≡ self.old.pass }
-        ensures kept { Unanswered (IsKept refusal self.new.refusal) result }
-    {
-        match refusal {
-            BenchRefusal::Memory => AskFault::Memory,
-            why => {
-                self.refusal = Some(why);
-                AskFault::Refused
-            }
-        }
+        self.refusal = Some(refusal);
+        AskFault::Refused
     }
 
     /// The fault of a judging that gave no record.
@@ -136,7 +117,7 @@ impl<'a, B: Room, R: Wait> Client<'a, B, R> {
             Ok(Turn::Done(record)) => return Ok(Some(record)),
             Err(fault) => return Err(LiveFault::Job(fault)),
         };
-        match self.ask_bench(&ask.question) {
+        match self.ask(&ask.question) {
             Ok(answer) => match job.answer(answer) {
                 Ok(()) => Ok(None),
                 Err(fault) => Err(LiveFault::Job(fault)),
@@ -194,20 +175,20 @@ impl<'a, B: Room, R: Wait> Client<'a, B, R> {
         }
     }
 
-    /// Keeps a live run. The receipt is of the call that keeps it.
+    /// Keeps a live run.
     pub(crate) fn commit_live(
         &mut self,
         record: Record,
         transcript: Transcript,
-    ) -> Result<Receipt<B>, WorkFault> {
+    ) -> Result<(), WorkFault> {
         let pass = mem::replace(&mut self.pass, self.bench.pass());
         match self
             .bench
             .commit_live(self.rt, self.alloc, pass, record, transcript)
         {
-            Ok((pass, receipt)) => {
+            Ok((pass, _receipt)) => {
                 self.pass = pass;
-                Ok(receipt)
+                Ok(())
             }
             Err((pass, _record, _transcript, refusal)) => {
                 self.pass = pass;

@@ -75,21 +75,6 @@ impl<B: Room> Pass<B> {
         }
     }
 
-    /// Two passes of one bench that have seen as many calls have seen the same calls.
-    #[tactic(auto, using(crate::proofs::Places::known_alike))]
-    pub fn agrees(&mut self, other: &mut Pass<B>)
-        ensures same { (self.new ≡ self.old) × (other.new ≡ other.old) }
-        ensures calls { self.old.ours ≡ true → other.old.ours ≡ true → self.old.count ≡ other.old.count →
-            self.old.calls ≡ other.old.calls }
-    {
-        if !self.ours || !other.ours || self.count != other.count {
-            return;
-        }
-        if let (Some(mine), Some(theirs)) = (&mut self.note, again(&mut other.note)) {
-            mine.compare(theirs);
-        }
-    }
-
     /// Holds what the pass has seen against the calls.
     #[tactic(auto, using(crate::proofs::Places::agreed))]
     pub(crate) fn agree(self, notes: &mut Vec<PlaceNote>, calls: &Vec<Call>)

@@ -1,19 +1,10 @@
 //! Which place a call got.
 ghost use Rattle.std.specs.Prelude.{◌≡◌, Some};
-ghost use Rattle.dg_bench.specs.Seen.{told_of, IsTold, front, position_of};
+ghost use Rattle.dg_bench.specs.Seen.{told_of, IsTold, front};
 
 use crate::note::PlaceNote;
 use crate::room::Room;
 use std::marker::{Model, PhantomData};
-
-/// What a receipt is of.
-#[derive(Clone, Copy, Debug, PartialEq, Eq)]
-pub enum Position {
-    /// A call that entered the history, at this place, counted from 0.
-    Call(usize),
-    /// A look, when the history had so many calls.
-    Front(usize),
-}
 
 /// The place of a call, or how many calls there were at a look. Contracts see it as a `Told`: the number, and the call that
 /// stands there.
@@ -68,13 +59,10 @@ impl<B: Room> Receipt<B> {
         }
     }
 
-    /// Whether it is of a call or of a look, and where in the history.
-    pub fn position(&self) -> Position
-        ensures { result ≡ position_of self.now }
+    /// The place of the call, counted from 0, or how many calls there were.
+    pub fn number(&self) -> usize
+        ensures { result ≡ self.now.number }
     {
-        match &self.note {
-            Some(_) => Position::Call(self.number),
-            None => Position::Front(self.number),
-        }
+        self.number
     }
 }

@@ -20,7 +20,7 @@ pub(crate) struct Replay {
 impl Replay {
     /// The entry at a place of the transcript, if there is one.
     fn entry(&self, place: &EntryPlace) -> Option<&Entry>
-        ensures { option_copied result ≡ option_and_then (λ kept. entry_at kept.sessions place.now.session place.now.place)
+        ensures { option_copied result ≡ option_and_then (λ ss. entry_at ss place.now.session place.now.place)
             self.now.transcript }
     {
         match &self.transcript {

@@ -3,12 +3,10 @@ ghost use Rattle.std.specs.Prelude.{◌<◌, ◌≤◌, IfOk, IfErr};
 ghost use Rattle.dg_bench.specs.Work.{IsReported, Stops};
 
 use crate::bench::Bench;
-use crate::call::Call;
 use crate::client::Client;
+use crate::make_gate::RunTests;
 use crate::pass::Pass;
-use crate::receipt::Receipt;
 use crate::room::Room;
-use crate::run_tests::RunTests;
 use crate::work::{Work, WorkFault};
 use dg_bytes::{Seq, TryCopy};
 use dg_core::Reply;
@@ -40,9 +38,9 @@ impl<'a, B: Room, M: RunTests, R: Wait> Crew<'a, B, M, R> {
         worker: usize,
         test: &TestId,
     ) -> Result<(), WorkFault>
-        requires ready { M.may_run self.now.maker.now }
+        requires ready { M.is_ready self.now.maker.now }
     {
-        self.maker.has_begun(test);
+        self.maker.begin(test);
         match self.work {
             Work::Live => self.judge_live(client, readings, worker, test),
             Work::Rejudge => self.rejudge(client, readings, test),
@@ -57,7 +55,7 @@ impl<'a, B: Room, M: RunTests, R: Wait> Crew<'a, B, M, R> {
         worker: usize,
         test: &TestId,
     ) -> Result<(), WorkFault>
-        requires ready { M.may_run self.now.maker.now }
+        requires ready { M.is_ready self.now.maker.now }
     {
         let own = test.copy(self.alloc)?;
         match self
@@ -65,19 +63,10 @@ impl<'a, B: Room, M: RunTests, R: Wait> Crew<'a, B, M, R> {
             .run_test(self.alloc, worker, own, readings, client)
         {
             Ok((record, transcript)) => {
-                self.maker.has_judged(&record);
-                let receipt = client.commit_live(record, transcript)?;
-                self.keep(receipt);
-                Ok(())
+                self.maker.end(&record);
+                client.commit_live(record, transcript)
             }
             Err(why) => Err(self.fault(client, test, why)),
-        }
-    }
-
-    /// The maker is told of a live run that the bench has kept. No lock is taken for it.
-    fn keep(&self, mut receipt: Receipt<B>) {
-        if let Some(Call::Live(record, transcript)) = self.bench.call_at(&mut receipt) {
-            self.maker.has_kept(record, transcript);
         }
     }
 
@@ -90,7 +79,7 @@ impl<'a, B: Room, M: RunTests, R: Wait> Crew<'a, B, M, R> {
     ) -> Result<(), WorkFault> {
         match client.rejudge(test, readings) {
             Ok(record) => {
-                self.maker.has_judged(&record);
+                self.maker.end(&record);
                 client.commit(record)
             }
             Err(why) => Err(self.fault(client, test, why)),
@@ -108,7 +97,7 @@ impl<'a, B: Room, M: RunTests, R: Wait> Crew<'a, B, M, R> {
     /// Judges the tests of a worker: from its own number on, each as many further as there are workers.
     fn run(&self, worker: usize, pass: Pass<B>) -> Result<(), WorkFault>
         requires some { 0 < self.now.workers }
-        requires ready { M.may_run self.now.maker.now }
+        requires ready { M.is_ready self.now.maker.now }
     {
         let mut client = Client::new(self.rt, self.alloc, self.bench, pass);
         let mut readings = Readings::new();
@@ -139,7 +128,7 @@ fn run_crew<B: Room + Send + Sync, M: RunTests + Sync, R: Threads + Wait + Sync>
     mut pass: Pass<B>,
 ) -> Result<(), WorkFault>
     requires some { 0 < crew.now.workers }
-    requires ready { M.may_run crew.now.maker.now }
+    requires ready { M.is_ready crew.now.maker.now }
 {
     if crew.workers == 1 {
         return crew.run(0, pass);
@@ -149,7 +138,7 @@ fn run_crew<B: Room + Send + Sync, M: RunTests + Sync, R: Threads + Wait + Sync>
         crew.rt,
         |scope| -> Result<(), WorkFault>
             requires some { 0 < crew.now.workers }
-            requires ready { M.may_run crew.now.maker.now }
+            requires ready { M.is_ready crew.now.maker.now }
         {
             let mut handles = Vec::new(crew.alloc);
             let mut starting = Ok(());
@@ -162,7 +151,7 @@ fn run_crew<B: Room + Send + Sync, M: RunTests + Sync, R: Threads + Wait + Sync>
                 match scope.spawn(
                     move || -> Result<(), WorkFault>
                         requires some { 0 < crew.now.workers }
-                        requires ready { M.may_run crew.now.maker.now }
+                        requires ready { M.is_ready crew.now.maker.now }
                     { crew.run(worker, twin) },
                 ) {
                     Ok(handle) => handles.push_reserved(handle),
@@ -177,48 +166,46 @@ fn run_crew<B: Room + Send + Sync, M: RunTests + Sync, R: Threads + Wait + Sync>
     )
 }
 
-impl<B: Room + Send + Sync> Bench<B> {
-    /// Judges tests in as many threads as there are workers, 1 to 16, or in the one that calls where there is one worker, and
-    /// reports once all have ended. The list of the tests is read once; worker `i` takes those at `i`, `i + workers`, and so on,
-    /// each with a pass of its own, and holds the lock neither while it judges one nor while it waits for a child. What it
-    /// judged it keeps, by a call of the bench for each.
-    ///
-    /// # Errors
-    /// The fault of the lowest worker that has one, once all have ended, or that of the list or of the report.
-    pub fn run_workers<M: RunTests + Sync, R: Threads + Wait + Sync>(
-        &self,
-        rt: &R,
-        alloc: Global,
-        pass: Pass<B>,
-        maker: &M,
-        workers: usize,
-        work: Work,
-    ) -> Result<(Pass<B>, Reply), (Pass<B>, WorkFault)>
-        requires few { (0 < workers) × (workers ≤ 16) }
-        requires ready { M.may_run maker.now }
-        ensures ok { IfOk result (λ r. IsReported pass r.0 r.1) }
-        ensures fault { IfErr result (λ r. Stops pass r.0 r.1) }
-    {
-        let (mut pass, tests) = match self.tests(rt, alloc, pass, work) {
-            Ok(listed) => listed,
-            Err((pass, refusal)) => return Err((pass, WorkFault::of_refusal(refusal))),
-        };
-        let crew = Crew {
-            rt,
-            alloc,
-            bench: self,
-            maker,
-            tests: tests.as_slice(),
-            work,
-            workers,
-        };
-        match run_crew(&crew, pass.twin()) {
-            Ok(()) => {}
-            Err(fault) => return Err((pass, WorkFault::of_worker(fault))),
-        }
-        match self.report(rt, alloc, pass) {
-            Ok((pass, _receipt, reply)) => Ok((pass, reply)),
-            Err((pass, refusal)) => Err((pass, WorkFault::of_refusal(refusal))),
-        }
+/// Judges tests in as many threads as there are workers, or in the one that calls where there is one worker, and reports once
+/// all have ended. The list of the tests is read once; worker `i` takes those at `i`, `i + workers`, and so on, each with a
+/// pass of its own, and holds the lock neither while it judges one nor while it waits for a child. What it judged it keeps,
+/// by a call of the bench for each.
+///
+/// # Errors
+/// The fault of the lowest worker that has one, once all have ended, or that of the list or of the report.
+pub fn run_workers<B: Room + Send + Sync, M: RunTests + Sync, R: Threads + Wait + Sync>(
+    rt: &R,
+    alloc: Global,
+    bench: &Bench<B>,
+    pass: Pass<B>,
+    maker: &M,
+    workers: usize,
+    work: Work,
+) -> Result<(Pass<B>, Reply), (Pass<B>, WorkFault)>
+    requires few { (0 < workers) × (workers ≤ 16) }
+    requires ready { M.is_ready maker.now }
+    ensures ok { IfOk result (λ r. IsReported pass r.0 r.1) }
+    ensures fault { IfErr result (λ r. Stops pass r.0 r.1) }
+{
+    let (mut pass, tests) = match bench.tests(rt, alloc, pass, work) {
+        Ok(listed) => listed,
+        Err((pass, refusal)) => return Err((pass, WorkFault::of_refusal(refusal))),
+    };
+    let crew = Crew {
+        rt,
+        alloc,
+        bench,
+        maker,
+        tests: tests.as_slice(),
+        work,
+        workers,
+    };
+    match run_crew(&crew, pass.twin()) {
+        Ok(()) => {}
+        Err(fault) => return Err((pass, WorkFault::of_worker(fault))),
+    }
+    match bench.report(rt, alloc, pass) {
+        Ok((pass, _receipt, reply)) => Ok((pass, reply)),
+        Err((pass, refusal)) => Err((pass, WorkFault::of_refusal(refusal))),
     }
 }

@@ -312,14 +312,6 @@ impl Script {
         }
     }
 
-    /// How many commands were taken, and how many there are in all, where these were read at once.
-    pub fn taken(&self) -> Option<(usize, usize)> {
-        match &self.source {
-            Source::Text(_) => None,
-            Source::Kept(commands) => Some((self.at, commands.all.len())),
-        }
-    }
-
     /// The commands that were read, and the place of the next one; or the same script, where its text is read as they are taken.
     pub fn into_kept(self) -> Result<(Arc<Commands>, usize), Script>
         ensures { MatchResult result (λ r. self ≡ drop r.1 (arc_value r.0)) (λ s. s ≡ self) }

@@ -1,5 +1,5 @@
 //! Values on top of one another.
-ghost use Rattle.std.specs.Prelude.{◌≡◌, [], ◌∷◌, OnOk, MatchOption, reverse};
+ghost use Rattle.std.specs.Prelude.{◌≡◌, [], ◌∷◌, OnOk, MatchOption};
 
 use std::alloc::{AllocError, Global};
 use std::marker::Model;
@@ -34,13 +34,6 @@ impl<T: Drop> Stack<T> {
     {
         self.items.push(item)?;
         Ok(())
-    }
-
-    /// The values, the one on top last.
-    pub fn items(&self) -> &[T]
-        ensures { reverse result.now ≡ self.now }
-    {
-        self.items.as_slice()
     }
 
     /// Takes the value on top.

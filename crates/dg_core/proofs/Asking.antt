@@ -12,7 +12,7 @@ use Rattle.dg_world.specs.declared.test_id.TestId.{TestId}
 use Rattle.dg_language.specs.declared.ask.Ask.{Ask}
 use Rattle.dg_language.specs.Play.{Play, Ends, Asks, Source, heard, lookup, end_of, GivesEach, Leads, reads_in, read_on}
 use Rattle.dg_language.specs.Evaluation.{Ending}
-use Rattle.dg_language.specs.Judge.{judge, verdict_of}
+use Rattle.dg_language.specs.Judge.{judge, verdict_in, verdict_of}
 use Rattle.dg_language.proofs.Sources.{run-leads, leads_more}
 use Rattle.dg_records.specs.Truth.{RecordView, answers_of}
 use Rattle.dg_records.proofs.HoldsLemmas.{heard-look}
@@ -25,12 +25,11 @@ use Rattle.dg_eval.specs.declared.job.Turn.TheVariants.{Need, Done}
 use Rattle.dg_eval.specs.declared.job.JobFault.{JobFault}
 use Rattle.dg_eval.specs.declared.job.JobFault.TheVariants.{NotAsked, WrongKind, PatternLost, Memory, Failed}
 use Rattle.dg_index.specs.Kept.{KeptView, IsAskedOf}
-use Rattle.dg_language.specs.Kept.{kept_of as kept_by_end}
-use Rattle.dg_core.specs.Core.{record_in, kept_or_none, lines_or_none}
+use Rattle.dg_core.specs.Core.{record_in, lines_or_none}
 use Rattle.dg_core.specs.Turns.{left_of, bound, over_answers, turns_left}
-use Rattle.dg_core.specs.Turning.{AsksFirst, AsksInTurn}
-use Rattle.dg_core.specs.Asking.{all_reads, AsksOn, IsTold, IsToldMore, Stops, Ends as EndsWith, Judges, Fails}
-use Rattle.dg_core.proofs.Turning.{asks-append, asks-more}
+use Rattle.dg_core.specs.Turning.{AsksInTurn}
+use Rattle.dg_core.specs.Asking.{all_reads, IsTold, IsToldMore, Stops, Ends as EndsWith, Judges, Fails}
+use Rattle.dg_core.proofs.Turning.{asks-append}
 use Rattle.dg_core.proofs.Growing.{asked-grown, grown-gives, bound-grown}
 
 some≢none : {A : Type 0} (a : A) → Some a ≡ None → ⊥
@@ -94,24 +93,20 @@ told-first w t j is =
 
 -- the record of a job that has ended is the record of its test in that world
 record-ended : (w : WorldView) (t : TestId) (reads : List Read) (e : Ending) (r : RecordView) → HasEnded t reads e → GivesEach (answers_of w) reads
-    → r.test ≡ t → r.reads ≡ reads → r.verdict ≡ e.verdict → r.kept ≡ kept_by_end e → Judges w t r
+    → r.test ≡ t → r.reads ≡ reads → r.verdict ≡ e.verdict → Judges w t r
 unfolding record_in
-record-ended w t reads e r h g et er ev ek =
+record-ended w t reads e r h g et er ev =
     let all : reads ≡ reads_in (answers_of w) (judge t) = sym (reads-along (judge t) (answers_of w) reads (Ends e) h.leads g ∙ append-nil reads) in
-    let over = run-leads (judge t) (answers_of w) reads (Ends e) h.leads g in
+    let lines : verdict_in (answers_of w) t ≡ Some e.verdict =
+    ap (λ c. verdict_of (end_of c)) (run-leads (judge t) (answers_of w) reads (Ends e) h.leads g) in
     record {
-      made = λ i. record {
-        test = et i;
-        reads = (er ∙ all) i;
-        verdict = (ev ∙ sym (ap (λ c. lines_or_none (end_of c)) over)) i;
-        kept = (ek ∙ sym (ap (λ c. kept_or_none (end_of c)) over)) i;
-      };
-      ends = (e.verdict, ap (λ c. verdict_of (end_of c)) over);
+      made = λ i. record { test = et i; reads = (er ∙ all) i; verdict = (ev ∙ sym (ap lines_or_none lines)) i };
+      ends = (e.verdict, lines);
     }
 
 -- the job has come to its end, and its record read what the job was told
 pub told-done : (w : WorldView) (old new : JobView) (r : RecordView) → IsTold w old.test old → Advances old new (Done r) → Judges w old.test r × (r.reads ≡ old.reads)
-told-done w old new r k a = (record-ended w old.test old.reads _ r a.1.has_ended k.gives a.2 a.3 (sym a.1.lines) a.1.limits, a.3)
+told-done w old new r k a = (record-ended w old.test old.reads _ r a.1.has_ended k.gives a.2 a.3 (sym a.1.lines), a.3)
 
 -- a job that goes on fails for want of memory, or where it was told that a pattern is read
 pub halts-fails : (w : WorldView) (old new : JobView) (f : JobFault) → IsTold w old.test old → Halts old new f → Fails w old.test f
@@ -305,66 +300,3 @@ pub along-fails : (k : KeptView) (old new : JobView) (f : JobFault) → IsTold k
 along-fails k old new f t h =
     let on = told-along k old h.0 t h.1 in
     subst (λ u. Fails k.world u f) on.same (halts-fails k.world h.0 new f (subst (λ u. IsTold k.world u h.0) (sym on.same) on.told) h.2)
-
--- nothing more was asked
-pub asks_on-none : (w : WorldView) (old new : KeptView) (j : JobView) → IsTold w j.test j → new ≡ old → AsksOn old j new
-asks_on-none w old new j t same = record {
-  more = [];
-  rest = t.rest;
-  leads = subst (λ rs. Leads (judge j.test) rs t.rest) (sym (append-nil j.reads)) t.leads;
-  asked = same;
-}
-
--- the questions that the world answers were asked, and the one behind them
-pub asks_on-more : (old new : KeptView) (j mid : JobView) (q : Ask) (a : Answer) → Stops old j mid (Need q) → IsAskedOf old new q.question a → AsksOn old j new
-asks_on-more old new j mid q a s asked =
-    let read : Read = record { question = q.question; answer = a } in
-    let l = s.advances.1.leads in
-    let behind : Leads (judge s.last.test) (s.last.reads ++ read ∷ []) (l.0 a) =
-    leads_more (judge s.last.test) s.last.reads q a l.0 l.1 (fits-given new.world q.question a asked.0.answered) in
-    let reads : s.last.reads ++ read ∷ [] ≡ j.reads ++ (s.more ++ read ∷ []) = ap (λ rs. rs ++ read ∷ []) s.reads ∙ append_assoc j.reads s.more (read ∷ []) in
-    record {
-      more = s.more ++ read ∷ [];
-      rest = l.0 a;
-      leads = subst (λ rs. Leads (judge j.test) rs (l.0 a)) reads (subst (λ t. Leads (judge t) (s.last.reads ++ read ∷ []) (l.0 a)) s.same behind);
-      asked = asks-more old old new s.more read s.asked asked;
-    }
-
--- what the job was told was asked in turn, and then these
-pub asks_on-first : (w : WorldView) (first old new : KeptView) (t : TestId) (j : JobView) → IsTold w t j → AsksInTurn first j.reads old → AsksOn old j new → AsksFirst first t new
-asks_on-first w first old new t j told asked on = record {
-  reads = j.reads ++ on.more;
-  rest = on.rest;
-  leads = subst (λ u. Leads (judge u) (j.reads ++ on.more) on.rest) told.test on.leads;
-  asked = asks-append first old new j.reads on.more asked on.asked;
-}
-
--- all that an evaluation reads in a source is what it asks first
-all-lead : {A : Type 0} (source : Source) (p : Play A) → (rest : Play A) × Leads p (reads_in source p) rest
-all-lead source (Ends a) = (Ends a, refl)
-all-lead {A} source (Asks q k) = step (source q.question) (λ a. all-lead source (k a))
-  where
-    Lead : Option Answer → Type 0
-    Lead o = (rest : Play A) × Leads (Asks q k) (read_on q.question o (λ a. reads_in source (k a))) rest
-
-    fit : (a : Answer) (b : Bool) → fits q.question a ≡ b → ((rest : Play A) × Leads (k a) (reads_in source (k a)) rest)
-        → Lead (elim b as (λ _. Option Answer) [ true ↦ Some a | false ↦ None ])
-    fit a true e ih = (ih.0, (refl, e, ih.1))
-    fit a false e ih = (Asks q k, refl)
-
-    step : (o : Option Answer) → ((a : Answer) → (rest : Play A) × Leads (k a) (reads_in source (k a)) rest) → Lead (heard q.question o)
-    step None all = (Asks q k, refl)
-    step (Some a) all = fit a (fits q.question a) refl (all a)
-
--- all that the record of a test reads was asked
-pub asks-all : (old asked new : KeptView) (t : TestId) (r : RecordView) → Judges asked.world t r → AsksInTurn old r.reads asked → new ≡ asked → AsksFirst old t new
-unfolding record_in
-asks-all old asked new t r j h same =
-    let all = all-lead (answers_of asked.world) (judge t) in
-    let reads : reads_in (answers_of asked.world) (judge t) ≡ r.reads = sym (ap (λ (x : RecordView). x.reads) j.made) in
-    record {
-      reads = r.reads;
-      rest = all.0;
-      leads = subst (λ rs. Leads (judge t) rs all.0) reads all.1;
-      asked = subst (λ k. AsksInTurn old r.reads k) (sym same) h;
-    }

@@ -8,7 +8,7 @@ use Rattle.dg_match.specs.declared.reading.Reading.TheVariants.{Syntax}
 use Rattle.dg_match.specs.Book.{reading_of}
 use Rattle.dg_world.specs.World.{WorldView, look, selected}
 use Rattle.dg_world.specs.declared.question.Question.{Question}
-use Rattle.dg_world.specs.declared.question.Question.TheVariants.{Steps, File, Tool, Triplet, Variable, Entry, Pattern}
+use Rattle.dg_world.specs.declared.question.Question.TheVariants.{File, Tool, Triplet, Variable, Entry, Pattern}
 use Rattle.dg_world.specs.declared.question.Answer.{Answer}
 use Rattle.dg_world.specs.declared.question.Answer.TheVariants.{Reading}
 use Rattle.dg_world.specs.declared.test_id.TestId.{TestId}
@@ -35,7 +35,6 @@ lookup-last {K} {X} test (x ∷ es) k v none e = step (test x.0) none (lookup-la
 -- a world may grow by an answer to what it doesn't answer
 answered : (w : WorldView) (q : Question) → look w q ≡ None → (v : WorldView) × (a : Answer) × IsGrown w v × (look v q ≡ Some a)
 answered w (File name) none = cc
-answered w Steps none = cc
 answered w Tool none = cc
 answered w (Triplet machine) none = cc
 answered w (Variable name) none = cc

@@ -1,8 +1,8 @@
 -- What stays while the book of a world grows.
-use Rattle.std.proofs.Common.{◌≡◌, ◌≤◌, inl, inr, ℕ, Bool, true, false, cond, List, [], ◌∷◌, ◌++◌, refl, ap, sym, ◌∙◌, subst, arith}
+use Rattle.std.proofs.Common.{◌≡◌, ◌≤◌, ℕ, Bool, true, false, cond, List, [], ◌∷◌, ◌++◌, refl, ap, sym, ◌∙◌, subst, arith}
 use Rattle.std.proofs.lemmas.Bool.{and_parts, and_from}
 use Rattle.std.proofs.lemmas.List.{append_assoc, append-nil}
-use Rattle.std.specs.Prelude.{Option, Some, None, MatchOption, option_map, ◌||◌}
+use Rattle.std.specs.Prelude.{Option, Some, None, MatchOption, option_map}
 use Rattle.std.specs.Map.{lookup}
 use Rattle.std.specs.Cmp.Lexicographic.{pointwise}
 use Rattle.std.specs.Prelude.{nat_eq}
@@ -11,9 +11,9 @@ use Rattle.dg_match.specs.declared.reading.Reading.TheVariants.{Read as IsRead, 
 use Rattle.dg_match.specs.Book.{reading_of}
 use Rattle.dg_world.specs.World.{WorldView, look, selected, scripts, IsAsked}
 use Rattle.dg_world.specs.declared.question.Question.{Question}
-use Rattle.dg_world.specs.declared.question.Question.TheVariants.{Steps, File, Tool, Triplet, Variable, Entry, Pattern}
+use Rattle.dg_world.specs.declared.question.Question.TheVariants.{File, Tool, Triplet, Variable, Entry, Pattern}
 use Rattle.dg_world.specs.declared.question.Answer.{Answer}
-use Rattle.dg_world.specs.declared.question.Answer.TheVariants.{Reading, Steps as Limit}
+use Rattle.dg_world.specs.declared.question.Answer.TheVariants.{Reading}
 use Rattle.dg_world.specs.declared.question.Read.{Read}
 use Rattle.dg_world.specs.Question.{fits}
 use Rattle.dg_world.specs.declared.test_id.TestId.{TestId}
@@ -23,12 +23,11 @@ use Rattle.dg_language.specs.Play.{Play, Ends, Asks, Source, Coming, Over, Needs
 use Rattle.dg_language.specs.Evaluation.{Ending}
 use Rattle.dg_language.specs.Judge.{judge, verdict_of}
 use Rattle.dg_language.proofs.Sources.{run_more}
-use Rattle.dg_language.specs.declared.kept.Kept.{Kept}
-use Rattle.dg_records.specs.Truth.{RecordView, Agrees, answers_of, holds}
-use Rattle.dg_records.specs.Shelf.{KeptRecords, kept}
-use Rattle.dg_records.proofs.HoldsLemmas.{heard-look, all_agree, agrees-true, true-agrees}
-use Rattle.dg_index.specs.Kept.{is_held, one_holds}
-use Rattle.dg_core.specs.Core.{record_in, kept_or_none, lines_or_none}
+use Rattle.dg_records.specs.Truth.{RecordView, answers_of}
+use Rattle.dg_records.specs.Shelf.{kept}
+use Rattle.dg_records.proofs.HoldsLemmas.{heard-look, all_given, given-true, true-given}
+use Rattle.dg_index.specs.Kept.{holds_if_kept, is_held}
+use Rattle.dg_core.specs.Core.{record_in, lines_or_none}
 use Rattle.dg_core.specs.Grown.{IsGrown}
 use Rattle.dg_core.specs.Asking.{HasVerdict}
 use Rattle.dg_core.specs.Turns.{bound, over_answers}
@@ -64,7 +63,6 @@ lookup-more {K} {X} test (e ∷ es) more v h = step (test e.0) h (lookup-more te
 
 look-more : (w : WorldView) (more : List (List ℕ × ReadingOfText)) (q : Question) (a : Answer) → look w q ≡ Some a → look (record w { book = w.book ++ more }) q ≡ Some a
 look-more w more (File name) a h = h
-look-more w more Steps a h = h
 look-more w more Tool a h = h
 look-more w more (Triplet machine) a h = h
 look-more w more (Variable name) a h = h
@@ -87,32 +85,19 @@ grown-gives old new g (r ∷ rs) h = (
 )
 
 -- what is held stays held
-agrees-grown : (old new : WorldView) → IsGrown old new → (kept : Kept) (r : Read) → Agrees kept r.answer (look old r.question) → Agrees kept r.answer (look new r.question)
-agrees-grown old new g kept r (inl same) = inl (grown-look old new g r.question r.answer same)
-agrees-grown old new g kept r (inr (limit, is, k)) = inr (limit, grown-look old new g r.question (Limit limit) is, k)
-
-agree-grown : (old new : WorldView) → IsGrown old new → (kept : Kept) (rs : List Read) → all_agree kept old rs ≡ true → all_agree kept new rs ≡ true
-agree-grown old new g kept [] h = refl
-agree-grown old new g kept (r ∷ rs) h =
+given-grown : (old new : WorldView) → IsGrown old new → (rs : List Read) → all_given old rs ≡ true → all_given new rs ≡ true
+given-grown old new g [] h = refl
+given-grown old new g (r ∷ rs) h =
     let p = and_parts _ _ h in
-    and_from _ _
-    (true-agrees kept r.answer (look new r.question) (agrees-grown old new g kept r (agrees-true kept r.answer (look old r.question) p.0)))
-    (agree-grown old new g kept rs p.1)
+    and_from _ _ (true-given (look new r.question) r.answer (grown-look old new g r.question r.answer (given-true (look old r.question) r.answer p.0)))
+    (given-grown old new g rs p.1)
 
-holds-grown : (old new : WorldView) → IsGrown old new → (rs : List RecordView) → one_holds old rs ≡ true → one_holds new rs ≡ true
-holds-grown old new g [] h = cc
-holds-grown old new g (r ∷ rs) h = step (holds old r) refl h (holds-grown old new g rs)
+pub held-grown : (old new : WorldView) → IsGrown old new → (s : List RecordView) (t : TestId) → is_held old s t ≡ true → is_held new s t ≡ true
+held-grown old new g s t h = step (kept s t) h
   where
-    or-true : (b : Bool) → (b || true) ≡ true
-    or-true true = refl
-    or-true false = refl
-
-    step : (b : Bool) → holds old r ≡ b → (b || one_holds old rs) ≡ true → (one_holds old rs ≡ true → one_holds new rs ≡ true) → (holds new r || one_holds new rs) ≡ true
-    step true e h ih = ap (λ b. b || one_holds new rs) (agree-grown old new g r.kept r.reads e)
-    step false e h ih = ap (λ b. holds new r || b) (ih h) ∙ or-true (holds new r)
-
-pub held-grown : (old new : WorldView) → IsGrown old new → (s : List KeptRecords) (t : TestId) → is_held old s t ≡ true → is_held new s t ≡ true
-held-grown old new g s t h = holds-grown old new g (kept s t) h
+    step : (o : Option RecordView) → holds_if_kept old o ≡ true → holds_if_kept new o ≡ true
+    step None h = cc
+    step (Some r) h = given-grown old new g r.reads h
 
 -- and the same tests are selected
 pub selected-grown : (old new : WorldView) → IsGrown old new → selected new ≡ selected old
@@ -156,12 +141,11 @@ record-grown old new t g h =
     let over = some-lines (run (answers_of old) (judge t)) h.0 h.1 in
     let reads = reads-more (judge t) (answers_of old) (answers_of new) (grown-look old new g) over.0 over.1 in
     let ends = run_more (judge t) (answers_of old) (answers_of new) (grown-look old new g) over.0 over.1 ∙ sym over.1 in
-    λ i. record { test = t; reads = reads i; verdict = lines_or_none (end_of (ends i)); kept = kept_or_none (end_of (ends i)) }
+    λ i. record { test = t; reads = reads i; verdict = lines_or_none (verdict_of (end_of (ends i))) }
 
 -- only a pattern can have no answer
 look-reading : (old new : WorldView) (q : Question) (a : Answer) → look old q ≡ None → look new q ≡ Some a → (r : ReadingOfText) × (a ≡ Reading r)
 look-reading old new (File name) a none h = cc
-look-reading old new Steps a none h = cc
 look-reading old new Tool a none h = cc
 look-reading old new (Triplet machine) a none h = cc
 look-reading old new (Variable name) a none h = cc

@@ -1,7 +1,7 @@
 -- What keeps a lineup: records that are put on a shelf, and edits that leave the names of the files and the selection.
 use Rattle.std.proofs.lemmas.List.{take_all}
 use Rattle.std.proofs.Common.{◌≡◌, ◌∙◌, ℕ, suc, ◌≤◌, Bool, true, false, cond, List, [], ◌∷◌, length, take, refl, ap, sym, subst, arith}
-use Rattle.std.specs.Prelude.{IfSome, Option, Some, None, Result, Ok, Err, not, is_some, nat_le, ◌&&◌, slice_get, option_map}
+use Rattle.std.specs.Prelude.{IfSome, Option, Some, None, Result, Ok, Err, not, is_some, nat_le, ◌&&◌, slice_get, option_map, option_and_then}
 use Rattle.std.specs.List.{filter, flat_map}
 use Rattle.std.specs.List.Sorted.{IsStrictlySortedBy}
 use Rattle.std.proofs.lemmas.Option.{get_or_from_slice_get, slice_get_within}
@@ -11,22 +11,23 @@ use Rattle.std.specs.Ordering.{nat_cmp, match_ordering}
 use Rattle.std.specs.BTreeMap.{insert_entry}
 use Rattle.std.specs.Map.{keys_of}
 use Rattle.std.specs.Cmp.Lexicographic.{slice_cmp}
-use Rattle.dg_transcript.specs.Transcript.{TranscriptView}
+use Rattle.dg_transcript.specs.declared.entry.Entry.{Entry}
 use Rattle.dg_world.specs.Name.{is_name}
 use Rattle.dg_world.specs.Selection.{is_selected}
 use Rattle.dg_world.specs.Test.{TestView, same_test}
 use Rattle.dg_world.specs.Tests.{tests_on}
-use Rattle.dg_world.specs.Transcripts.{for_transcript, transcript_in}
+use Rattle.dg_world.specs.Transcripts.{for_sessions, transcript_in}
 use Rattle.dg_world.specs.World.{WorldView, content_of, transcript_of, edited, lacks_room, selected, scripts, with_file, with_transcript, without_transcript}
 use Rattle.dg_world.specs.declared.edit.Edit.{Edit}
 use Rattle.dg_world.specs.declared.edit.Edit.TheVariants.{PutFile, RemoveFile, Select, PutTranscript, DropTranscript}
 use Rattle.dg_world.specs.declared.refusal.Refusal.{Refusal}
 use Rattle.dg_world.specs.declared.refusal.Refusal.TheVariants.{BadName, TooLong, TooMany, NoSuchTranscript}
 use Rattle.dg_world.specs.declared.test_id.TestId.{TestId}
-use Rattle.dg_records.specs.Truth.{RecordView}
-use Rattle.dg_records.specs.Shelf.{KeptRecords, as_newest, kept, with_record}
+use Rattle.dg_records.specs.Truth.{RecordView, IsTrueRecord}
+use Rattle.dg_records.specs.Shelf.{kept, with_record}
+use Rattle.dg_records.proofs.ShelfLemmas.{same_test-true}
 use Rattle.dg_index.specs.Topic.{touched}
-use Rattle.dg_index.specs.Kept.{KeptView, IsTrueOf, is_held, newest_holding, place_of, records_at, records_in, changed, edited_kept}
+use Rattle.dg_index.specs.Kept.{KeptView, is_held, place_of, changed, edited_kept}
 use Rattle.dg_index.specs.Marks.{counted, judged_of, reads_of}
 use Rattle.dg_index.proofs.TopicLemmas.{made, made_where, named_test}
 use Rattle.dg_sum.specs.Judged.{Judged}
@@ -36,62 +37,59 @@ use Rattle.dg_core.specs.Lineup.{IsPlace, ArePlaces, IsClosedOf, IsCurrent, IsLi
 use Rattle.dg_core.specs.declared.lineup.Lineup.{Lineup}
 use Rattle.dg_core.specs.declared.openings.Openings.{Openings}
 use Rattle.dg_core.proofs.OpeningLemmas.{picked, picked-all}
-use Rattle.dg_core.proofs.PlaceLemmas.{kept-at, kept-nowhere, test-at}
-use Rattle.dg_core.proofs.Settling.{selected-held, held-some, verdict-found}
+use Rattle.dg_core.proofs.PlaceLemmas.{kept-place, kept-at}
+use Rattle.dg_core.proofs.Settling.{selected-held, held-some, kept-test, verdict-held}
 
 -- a test that is held has a place, and a record there
-pub held-placed : (w : WorldView) (s : List KeptRecords) (t : TestId) → is_held w s t ≡ true → place_of s t ≡ None → ⊥
-held-placed w s t h none = held-some w (kept s t) h (ap (newest_holding w) (kept-nowhere s t none))
+pub held-placed : (w : WorldView) (s : List RecordView) (t : TestId) → is_held w s t ≡ true → place_of s t ≡ None → ⊥
+held-placed w s t h none = held-some w s t h (kept-place s t ∙ ap (option_and_then (slice_get s)) none)
 
-pub held-there : (w : WorldView) (s : List KeptRecords) (t : TestId) (i : ℕ) → is_held w s t ≡ true → place_of s t ≡ Some i
-    → None ≡ option_map judged_of (newest_holding w (records_at s i)) → ⊥
-held-there w s t i h at none = step (newest_holding w (records_at s i)) refl none
+pub held-there : (w : WorldView) (s : List RecordView) (t : TestId) (i : ℕ) → is_held w s t ≡ true → place_of s t ≡ Some i → None ≡ option_map judged_of (slice_get s i) → ⊥
+held-there w s t i h at none = step (slice_get s i) refl none
   where
-    step : (o : Option RecordView) → newest_holding w (records_at s i) ≡ o → None ≡ option_map judged_of o → ⊥
-    step None e g = held-some w (kept s t) h (ap (newest_holding w) (kept-at s t i at) ∙ e)
+    step : (o : Option RecordView) → slice_get s i ≡ o → None ≡ option_map judged_of o → ⊥
+    step None e g = held-some w s t h (kept-at s t i at ∙ e)
     step (Some r) e g = cc
 
 -- with the lines that it has in the world
-pub judged-placed : (w : WorldView) (s : List KeptRecords) (t : TestId) (i : ℕ) (j : Judged) → place_of s t ≡ Some i → Some j ≡ option_map judged_of (newest_holding w (records_at s i))
-    → IfSome (slice_get s i) (λ x. IsTrueOf x.test (newest_holding w x.records)) → IsJudged w t j
-judged-placed w s t i j at is y =
-    let (x, stands, test) = test-at s t i at in
-    let own : IsTrueOf t (newest_holding w x.records) =
-    subst (λ u. IsTrueOf u (newest_holding w x.records)) test (subst (λ (o : Option KeptRecords). IfSome o (λ z. IsTrueOf z.test (newest_holding w z.records))) stands y) in
-    step x (newest_holding w x.records) refl own (is ∙ ap (λ o. option_map judged_of (newest_holding w (records_in o))) stands)
+pub judged-placed : (w : WorldView) (s : List RecordView) (t : TestId) (i : ℕ) (j : Judged) → is_held w s t ≡ true → place_of s t ≡ Some i → Some j ≡ option_map judged_of (slice_get s i)
+    → IfSome (slice_get s i) (λ r. IsTrueRecord r.test r.reads r.verdict) → IsJudged w t j
+judged-placed w s t i j h at is true_record = step (slice_get s i) refl is true_record
   where
-    step : (x : KeptRecords) (o : Option RecordView) → newest_holding w x.records ≡ o → IsTrueOf t o → Some j ≡ option_map judged_of o → IsJudged w t j
-    step x None e own g = cc
-    step x (Some r) e own g =
+    step : (o : Option RecordView) → slice_get s i ≡ o → Some j ≡ option_map judged_of o → IfSome o (λ r. IsTrueRecord r.test r.reads r.verdict) → IsJudged w t j
+    step None e g y = cc
+    step (Some r) e g y =
+        let k : kept s t ≡ Some r = kept-at s t i at ∙ e in
         let same : judged_of r ≡ j = cc in
-        subst (IsJudged w t) same (own.0, verdict-found w x.records t r e own)
+        subst (IsJudged w t) same (kept-test s t r k, verdict-held w s t r h k y (kept-test s t r k))
 
--- the place of a test stays as another is put on the shelf
-place-stays : (s : List KeptRecords) (r : RecordView) (t : TestId) (i : ℕ) → place_of s t ≡ Some i → place_of (with_record s r) t ≡ Some i
+-- the place of a record stays as another is put on the shelf
+place-stays : (s : List RecordView) (r : RecordView) (t : TestId) (i : ℕ) → place_of s t ≡ Some i → place_of (with_record s r) t ≡ Some i
 place-stays [] r t i h = cc
 place-stays (x ∷ xs) r t i h = step (same_test r.test x.test) (same_test t x.test) (place_of xs t) refl refl refl h (place-stays xs r t)
   where
     step : (a b : Bool) (o : Option ℕ) → same_test r.test x.test ≡ a → same_test t x.test ≡ b → place_of xs t ≡ o → cond b (Some 0) (option_map suc o) ≡ Some i
         → ((j : ℕ) → place_of xs t ≡ Some j → place_of (with_record xs r) t ≡ Some j)
-        → place_of (cond a (record x { records = as_newest r x.records } ∷ xs) (x ∷ with_record xs r)) t ≡ Some i
+        → place_of (cond a (r ∷ xs) (x ∷ with_record xs r)) t ≡ Some i
     step true b o same here rest h ih =
-        ap (λ c. cond c (Some 0) (option_map suc (place_of xs t))) here ∙ ap (λ p. cond b (Some 0) (option_map suc p)) rest ∙ h
+        let found : same_test t r.test ≡ b = ap (same_test t) (same_test-true r.test x.test same) ∙ here in
+        ap (λ c. cond c (Some 0) (option_map suc (place_of xs t))) found ∙ ap (λ p. cond b (Some 0) (option_map suc p)) rest ∙ h
     step false true o same here rest h ih = ap (λ c. cond c (Some 0) (option_map suc (place_of (with_record xs r) t))) here ∙ h
     step false false None same here rest h ih = cc
     step false false (Some j) same here rest h ih =
         ap (λ c. cond c (Some 0) (option_map suc (place_of (with_record xs r) t))) here ∙ ap (option_map suc) (ih j rest) ∙ h
 
-is-place-stays : (s : List KeptRecords) (r : RecordView) (t : TestId) (o : Option ℕ) → IsPlace s t o → IsPlace (with_record s r) t o
+is-place-stays : (s : List RecordView) (r : RecordView) (t : TestId) (o : Option ℕ) → IsPlace s t o → IsPlace (with_record s r) t o
 is-place-stays s r t None h = tt
 is-place-stays s r t (Some i) h = place-stays s r t i h
 
-places-stay : (s : List KeptRecords) (r : RecordView) (ts : List TestId) (ps : List (Option ℕ)) → ArePlaces s ts ps → ArePlaces (with_record s r) ts ps
+places-stay : (s : List RecordView) (r : RecordView) (ts : List TestId) (ps : List (Option ℕ)) → ArePlaces s ts ps → ArePlaces (with_record s r) ts ps
 places-stay s r [] ps h = tt
 places-stay s r (t ∷ ts) [] h = absurd h
 places-stay s r (t ∷ ts) (p ∷ ps) h = (is-place-stays s r t p h.0, places-stay s r ts ps h.1)
 
 -- and as the records of some tests are
-pub places-settled : (w : WorldView) (s : List KeptRecords) (us ts : List TestId) (ps : List (Option ℕ)) → ArePlaces s ts ps → ArePlaces (shelf_with w s us) ts ps
+pub places-settled : (w : WorldView) (s : List RecordView) (us ts : List TestId) (ps : List (Option ℕ)) → ArePlaces s ts ps → ArePlaces (shelf_with w s us) ts ps
 unfolding shelf_with
 places-settled w s [] ts ps h = h
 places-settled w s (u ∷ us) ts ps h = places-settled w (with_record s (record_in w u)) us ts ps (places-stay s (record_in w u) ts ps h)
@@ -124,7 +122,7 @@ same_kept a b r g h = cc
 abbrev SameNames : WorldView → WorldView → Type 0
 SameNames w v = (keys_of v.files ≡ keys_of w.files) × (v.selection ≡ w.selection)
 
-recorded-names : (w v : WorldView) (t : TestView) (r : Result TranscriptView Refusal) → for_transcript r (with_transcript w t) ≡ Ok v → SameNames w v
+recorded-names : (w v : WorldView) (t : TestView) (r : Result (List (List Entry)) Refusal) → for_sessions r (with_transcript w t) ≡ Ok v → SameNames w v
 recorded-names w v t (Ok ss) h = let same = same_world (with_transcript w t ss) v (Ok (with_transcript w t ss)) refl h in (ap (λ (x : WorldView). keys_of x.files) (sym same), ap (λ (x : WorldView). x.selection) (sym same))
 recorded-names w v t (Err refusal) h = cc
 

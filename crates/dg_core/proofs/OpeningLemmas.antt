@@ -13,7 +13,7 @@ use Rattle.std.proofs.lemmas.List.{append_assoc}
 use Rattle.dg_world.specs.World.{WorldView, edited}
 use Rattle.dg_world.specs.declared.edit.Edit.{Edit}
 use Rattle.dg_world.specs.declared.test_id.TestId.{TestId}
-use Rattle.dg_records.specs.Shelf.{KeptRecords}
+use Rattle.dg_records.specs.Truth.{RecordView}
 use Rattle.dg_index.specs.Index.{is_among}
 use Rattle.dg_index.specs.Topic.{touched}
 use Rattle.dg_index.specs.Touching.{OnlyTheseRead}
@@ -57,7 +57,7 @@ leads-more places positions i place here free h at l = step (nat_eq at i) refl
         (q, known, set-elsewhere positions place q (Some i) (λ is. taken at (sym back ∙ ap (slice_get positions) is ∙ free)) ∙ back)
 
 -- a test at a position that isn't open after an edit is held in the world that it made
-pub held-elsewhere : (w v : WorldView) (e : Edit) (s : List KeptRecords) (ts : List TestId) (ps : List (Option ℕ)) (qs : List ℕ) (o n : Openings) → edited w e ≡ Ok v → ArePlaces s ts ps
+pub held-elsewhere : (w v : WorldView) (e : Edit) (s : List RecordView) (ts : List TestId) (ps : List (Option ℕ)) (qs : List ℕ) (o n : Openings) → edited w e ≡ Ok v → ArePlaces s ts ps
     → LeadBack ps o → HoldsElsewhere w s ts o → OpensAt qs o n → OnlyTheseRead (is_among qs) (touched e) s → HoldsElsewhere v s ts n
 held-elsewhere w v e s ts ps qs o n made places lead held opens only at t here shut =
     let (place, known, back) = lead at (place-within s ts ps at t places here) in
@@ -67,7 +67,7 @@ held-elsewhere w v e s ts ps qs o n made places lead held opens only at t here s
     sym (held-at-place v s t place stands) ∙ untouched-holds w v e (is_among qs) s place made only out ∙ held-at-place w s t place stands ∙ held at t here was
 
 -- so a lineup that was opened at what an edit touches stays current
-pub open-to : (w : WorldView) (s : List KeptRecords) (e : Edit) (qs : List ℕ) (l n : Lineup) → IsCurrent w s l → Opens qs l n → OnlyTheseRead (is_among qs) (touched e) s → IsOpenTo e w s n
+pub open-to : (w : WorldView) (s : List RecordView) (e : Edit) (qs : List ℕ) (l n : Lineup) → IsCurrent w s l → Opens qs l n → OnlyTheseRead (is_among qs) (touched e) s → IsOpenTo e w s n
 open-to w s e qs l n c o only =
     record {
       before = record {

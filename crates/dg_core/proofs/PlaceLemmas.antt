@@ -4,54 +4,34 @@ use Rattle.std.specs.Prelude.{Option, Some, None, slice_get, unwrap_or, option_m
 use Rattle.dg_world.specs.Test.{same_test}
 use Rattle.dg_world.specs.World.{WorldView}
 use Rattle.dg_world.specs.declared.test_id.TestId.{TestId}
-use Rattle.dg_records.specs.Shelf.{KeptRecords, kept}
-use Rattle.dg_records.proofs.ShelfLemmas.{same_test-true}
-use Rattle.dg_index.specs.Kept.{is_held, one_holds, place_of, records_at, records_in}
+use Rattle.dg_records.specs.Truth.{RecordView}
+use Rattle.dg_records.specs.Shelf.{kept}
+use Rattle.dg_index.specs.Kept.{holds_if_kept, is_held, place_of}
 use Rattle.dg_core.specs.Lineup.{IsPlace, ArePlaces}
 
--- the records of a test are those at its place
-pub kept-place : (s : List KeptRecords) (t : TestId) → kept s t ≡ records_in (option_and_then (slice_get s) (place_of s t))
+-- the record of a test is the one at its place
+pub kept-place : (s : List RecordView) (t : TestId) → kept s t ≡ option_and_then (slice_get s) (place_of s t)
 kept-place [] t = refl
 kept-place (x ∷ xs) t = step (same_test t x.test) (place_of xs t) (kept-place xs t)
   where
-    step : (b : Bool) (o : Option ℕ) → kept xs t ≡ records_in (option_and_then (slice_get xs) o)
-        → cond b x.records (kept xs t) ≡ records_in (option_and_then (slice_get (x ∷ xs)) (cond b (Some 0) (option_map suc o)))
+    step : (b : Bool) (o : Option ℕ) → kept xs t ≡ option_and_then (slice_get xs) o
+        → cond b (Some x) (kept xs t) ≡ option_and_then (slice_get (x ∷ xs)) (cond b (Some 0) (option_map suc o))
     step true o ih = refl
     step false None ih = ih
     step false (Some i) ih = ih
 
-pub kept-at : (s : List KeptRecords) (t : TestId) (i : ℕ) → place_of s t ≡ Some i → kept s t ≡ records_at s i
-kept-at s t i h = kept-place s t ∙ ap (λ o. records_in (option_and_then (slice_get s) o)) h
+pub kept-at : (s : List RecordView) (t : TestId) (i : ℕ) → place_of s t ≡ Some i → kept s t ≡ slice_get s i
+kept-at s t i h = kept-place s t ∙ ap (option_and_then (slice_get s)) h
 
-pub kept-nowhere : (s : List KeptRecords) (t : TestId) → place_of s t ≡ None → kept s t ≡ []
-kept-nowhere s t h = kept-place s t ∙ ap (λ o. records_in (option_and_then (slice_get s) o)) h
+-- a test is held where the record at its place holds
+pub held-at-place : (w : WorldView) (s : List RecordView) (t : TestId) (i : ℕ) → place_of s t ≡ Some i → holds_if_kept w (slice_get s i) ≡ is_held w s t
+held-at-place w s t i h = ap (holds_if_kept w) (sym (kept-at s t i h))
 
--- where its test stands
-pub test-at : (s : List KeptRecords) (t : TestId) (i : ℕ) → place_of s t ≡ Some i → (x : KeptRecords) × (slice_get s i ≡ Some x) × (x.test ≡ t)
-test-at [] t i h = cc
-test-at (x ∷ xs) t i h = step (same_test t x.test) refl (place_of xs t) refl h (test-at xs t)
-  where
-    step : (b : Bool) → same_test t x.test ≡ b → (o : Option ℕ) → place_of xs t ≡ o → cond b (Some 0) (option_map suc o) ≡ Some i
-        → ((j : ℕ) → place_of xs t ≡ Some j → (y : KeptRecords) × (slice_get xs j ≡ Some y) × (y.test ≡ t))
-        → (y : KeptRecords) × (slice_get (x ∷ xs) i ≡ Some y) × (y.test ≡ t)
-    step true e o rest g ih =
-        let first : 0 ≡ i = cc in
-        (x, ap (slice_get (x ∷ xs)) (sym first), sym (same_test-true t x.test e))
-    step false e None rest g ih = cc
-    step false e (Some j) rest g ih =
-        let next : suc j ≡ i = cc in
-        let (y, stands, test) = ih j rest in
-        (y, ap (slice_get (x ∷ xs)) (sym next) ∙ stands, test)
-
--- a test is held where a record at its place holds
-pub held-at-place : (w : WorldView) (s : List KeptRecords) (t : TestId) (i : ℕ) → place_of s t ≡ Some i → one_holds w (records_at s i) ≡ is_held w s t
-held-at-place w s t i h = ap (one_holds w) (sym (kept-at s t i h))
-
-pub unheld-nowhere : (w : WorldView) (s : List KeptRecords) (t : TestId) → place_of s t ≡ None → false ≡ is_held w s t
-unheld-nowhere w s t h = ap (one_holds w) (sym (kept-nowhere s t h))
+pub unheld-nowhere : (w : WorldView) (s : List RecordView) (t : TestId) → place_of s t ≡ None → false ≡ is_held w s t
+unheld-nowhere w s t h = ap (holds_if_kept w) (sym (kept-place s t ∙ ap (option_and_then (slice_get s)) h))
 
 -- each test's own place is one
-pub place-own : (s : List KeptRecords) (ts : List TestId) → ArePlaces s ts (map (place_of s) ts)
+pub place-own : (s : List RecordView) (ts : List TestId) → ArePlaces s ts (map (place_of s) ts)
 place-own s [] = tt
 place-own s (t ∷ ts) = (step (place_of s t) refl, place-own s ts)
   where
@@ -60,7 +40,7 @@ place-own s (t ∷ ts) = (step (place_of s t) refl, place-own s ts)
     step (Some i) e = e
 
 -- the place beside the test that stands here
-pub place-at : (s : List KeptRecords) (ts : List TestId) (ps : List (Option ℕ)) (i : ℕ) (t : TestId) → ArePlaces s ts ps → i < length ts → t ≡ get_or ts i t
+pub place-at : (s : List RecordView) (ts : List TestId) (ps : List (Option ℕ)) (i : ℕ) (t : TestId) → ArePlaces s ts ps → i < length ts → t ≡ get_or ts i t
     → IsPlace s t (unwrap_or (slice_get ps i) None)
 place-at s [] ps i t h l e = absurd (omega arith)
 place-at s (u ∷ ts) [] i t h l e = absurd h
@@ -68,7 +48,7 @@ place-at s (u ∷ ts) (p ∷ ps) zero t h l e = subst (λ x. IsPlace s x p) (sym
 place-at s (u ∷ ts) (p ∷ ps) (suc i) t h l e = place-at s ts ps i t h.1 (omega arith) e
 
 -- the place that is known for the test that stands here
-pub place-there : (s : List KeptRecords) (ts : List TestId) (ps : List (Option ℕ)) (i : ℕ) (t : TestId) (place : ℕ) → ArePlaces s ts ps → slice_get ts i ≡ Some t
+pub place-there : (s : List RecordView) (ts : List TestId) (ps : List (Option ℕ)) (i : ℕ) (t : TestId) (place : ℕ) → ArePlaces s ts ps → slice_get ts i ≡ Some t
     → slice_get ps i ≡ Some (Some place) → place_of s t ≡ Some place
 place-there s [] ps i t place h here known = cc
 place-there s (u ∷ ts) [] i t place h here known = absurd h
@@ -79,7 +59,7 @@ place-there s (u ∷ ts) (p ∷ ps) zero t place h here known =
 place-there s (u ∷ ts) (p ∷ ps) (suc i) t place h here known = place-there s ts ps i t place h.1 here known
 
 -- there is a place for each test
-pub place-within : (s : List KeptRecords) (ts : List TestId) (ps : List (Option ℕ)) (i : ℕ) (t : TestId) → ArePlaces s ts ps → slice_get ts i ≡ Some t → i < length ps
+pub place-within : (s : List RecordView) (ts : List TestId) (ps : List (Option ℕ)) (i : ℕ) (t : TestId) → ArePlaces s ts ps → slice_get ts i ≡ Some t → i < length ps
 place-within s [] ps i t h here = cc
 place-within s (u ∷ ts) [] i t h here = absurd h
 place-within s (u ∷ ts) (p ∷ ps) zero t h here = omega arith

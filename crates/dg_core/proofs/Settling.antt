@@ -1,22 +1,21 @@
 -- What settling leaves: every selected test held.
-use Rattle.std.proofs.Common.{◌≡◌, inl, ◌≤◌, ◌<◌, ◌+◌, ◌-◌, ◌^◌, ℕ, suc, zero, Bool, true, false, cond, List, [], ◌∷◌, ◌++◌, length, take, get_or, min, true≢false, refl, ap, sym, ◌∙◌, subst, arith}
+use Rattle.std.proofs.Common.{◌≡◌, ◌≤◌, ◌<◌, ◌+◌, ◌-◌, ◌^◌, ℕ, suc, zero, Bool, true, false, cond, List, [], ◌∷◌, ◌++◌, length, take, get_or, min, true≢false, refl, ap, sym, ◌∙◌, subst, arith}
 use Rattle.std.proofs.lemmas.List.{take_more, take_all}
-use Rattle.std.specs.Prelude.{Option, Some, None, Result, Ok, Err, OnErr, find, is_some, not, ◌||◌}
-use Rattle.std.specs.List.{filter, list_any}
+use Rattle.std.specs.Prelude.{Option, Some, None, Result, Ok, Err, OnErr, not}
+use Rattle.std.specs.List.{filter}
 use Rattle.dg_world.specs.World.{WorldView, look, selected}
 use Rattle.dg_world.specs.declared.test_id.TestId.{TestId}
 use Rattle.dg_results.specs.declared.verdict.Line.{Line}
 use Rattle.dg_sum.specs.Judged.{Judged}
 use Rattle.dg_language.specs.Play.{Play, Ends, Asks, Source, reads_in, read_on}
 use Rattle.dg_language.specs.Judge.{judge, verdict_in}
-use Rattle.dg_language.specs.declared.kept.Kept.{Kept}
-use Rattle.dg_records.specs.Truth.{RecordView, IsTrueRecord, agrees, answers_of, holds}
+use Rattle.dg_records.specs.Truth.{RecordView, IsTrueRecord, answers_of, is_given, holds}
 use Rattle.dg_world.specs.Test.{same_test}
 use Rattle.dg_world.specs.declared.question.Answer.{Answer}
-use Rattle.dg_records.specs.Shelf.{KeptRecords, as_newest, kept, with_record}
-use Rattle.dg_records.proofs.HoldsLemmas.{heard-look, all_agree, true-agrees, true-agree, agreeing-verdict}
+use Rattle.dg_records.specs.Shelf.{kept, with_record}
+use Rattle.dg_records.proofs.HoldsLemmas.{heard-look, true-given, all_given, true-agree, agreeing-verdict}
 use Rattle.dg_records.proofs.ShelfLemmas.{same_test-true, same_test-refl}
-use Rattle.dg_index.specs.Kept.{is_held, newest_holding, one_holds}
+use Rattle.dg_index.specs.Kept.{holds_if_kept, is_held}
 use Rattle.dg_index.specs.Marks.{counted}
 use Rattle.dg_core.specs.Core.{CoreView, pending, record_in, shelf_with, settled, settled_up_to, with_judged, IsPartlySettled}
 use Rattle.dg_core.specs.Asking.{HasVerdict, all_reads}
@@ -35,77 +34,72 @@ use Rattle.std.proofs.lemmas.Bool.{and_from}
 some-equal : {A : Type 0} (a b : A) → Some a ≡ Some b → a ≡ b
 some-equal {A} a b h = ap (λ o. elim o as (λ _. A) [ None ↦ a | Some x ↦ x ]) h
 
--- the record that was put on the shelf is its test's newest
-pub kept-with_record-same : (s : List KeptRecords) (r : RecordView) (t : TestId) → t ≡ r.test → kept (with_record s r) t ≡ as_newest r (kept s t)
-kept-with_record-same [] r t e = ap (λ b. cond b (r ∷ []) []) (same_test-refl t r.test e)
-kept-with_record-same (x ∷ xs) r t e = step (same_test r.test x.test) (ap (λ u. same_test u x.test) e) (kept-with_record-same xs r t e)
+-- the record that was put on the shelf is its test's
+pub kept-with_record-same : (s : List RecordView) (r : RecordView) (t : TestId) → t ≡ r.test → kept (with_record s r) t ≡ Some r
+kept-with_record-same [] r t e = ap (λ b. cond b (Some r) None) (same_test-refl t r.test e)
+kept-with_record-same (x ∷ xs) r t e = step (same_test r.test x.test) refl (kept-with_record-same xs r t e)
   where
-    step : (b : Bool) → same_test t x.test ≡ b → kept (with_record xs r) t ≡ as_newest r (kept xs t)
-        → kept (cond b (record x { records = as_newest r x.records } ∷ xs) (x ∷ with_record xs r)) t ≡ as_newest r (cond (same_test t x.test) x.records (kept xs t))
-    step true h ih = ap (λ b. cond b (as_newest r x.records) (kept xs t)) h ∙ sym (ap (λ b. as_newest r (cond b x.records (kept xs t))) h)
-    step false h ih =
-        ap (λ b. cond b x.records (kept (with_record xs r) t)) h ∙ ih ∙ sym (ap (λ b. as_newest r (cond b x.records (kept xs t))) h)
+    step : (b : Bool) → same_test r.test x.test ≡ b → kept (with_record xs r) t ≡ Some r → kept (cond b (r ∷ xs) (x ∷ with_record xs r)) t ≡ Some r
+    step true h ih = ap (λ b. cond b (Some r) (kept xs t)) (same_test-refl t r.test e)
+    step false h ih = ap (λ b. cond b (Some x) (kept (with_record xs r) t)) (ap (λ u. same_test u x.test) e ∙ h) ∙ ih
 
 -- and the records of other tests stay
-pub kept-with_record-other : (s : List KeptRecords) (r : RecordView) (t : TestId) → same_test t r.test ≡ false → kept (with_record s r) t ≡ kept s t
-kept-with_record-other [] r t n = ap (λ b. cond b (r ∷ []) []) n
+pub kept-with_record-other : (s : List RecordView) (r : RecordView) (t : TestId) → same_test t r.test ≡ false → kept (with_record s r) t ≡ kept s t
+kept-with_record-other [] r t n = ap (λ b. cond b (Some r) None) n
 kept-with_record-other (x ∷ xs) r t n = step (same_test r.test x.test) refl (kept-with_record-other xs r t n)
   where
     step : (b : Bool) → same_test r.test x.test ≡ b → kept (with_record xs r) t ≡ kept xs t
-        → kept (cond b (record x { records = as_newest r x.records } ∷ xs) (x ∷ with_record xs r)) t ≡ cond (same_test t x.test) x.records (kept xs t)
+        → kept (cond b (r ∷ xs) (x ∷ with_record xs r)) t ≡ cond (same_test t x.test) (Some x) (kept xs t)
     step true h ih =
         let e : same_test t x.test ≡ false = ap (same_test t) (sym (same_test-true r.test x.test h)) ∙ n in
-        ap (λ b. cond b (as_newest r x.records) (kept xs t)) e ∙ sym (ap (λ b. cond b x.records (kept xs t)) e)
-    step false h ih = ap (λ o. cond (same_test t x.test) x.records o) ih
+        ap (λ b. cond b (Some r) (kept xs t)) n ∙ sym (ap (λ b. cond b (Some x) (kept xs t)) e)
+    step false h ih = ap (λ o. cond (same_test t x.test) (Some x) o) ih
 
 -- what an evaluation reads in a world has the world's answers
-pub agree-reads_in : {A : Type 0} (kept : Kept) (w : WorldView) (p : Play A) → all_agree kept w (reads_in (answers_of w) p) ≡ true
-agree-reads_in kept w (Ends a) = refl
-agree-reads_in kept w (Asks q k) =
-    ap (λ o. all_agree kept w (read_on q.question o (λ a. reads_in (answers_of w) (k a)))) (heard-look w q.question)
-    ∙ step (look w q.question) refl (λ a. agree-reads_in kept w (k a))
+pub agree-reads_in : {A : Type 0} (w : WorldView) (p : Play A) → all_given w (reads_in (answers_of w) p) ≡ true
+agree-reads_in w (Ends a) = refl
+agree-reads_in w (Asks q k) =
+    ap (λ o. all_given w (read_on q.question o (λ a. reads_in (answers_of w) (k a)))) (heard-look w q.question)
+    ∙ step (look w q.question) refl (λ a. agree-reads_in w (k a))
   where
-    step : (o : Option Answer) → look w q.question ≡ o → ((a : Answer) → all_agree kept w (reads_in (answers_of w) (k a)) ≡ true)
-        → all_agree kept w (read_on q.question o (λ a. reads_in (answers_of w) (k a))) ≡ true
+    step : (o : Option Answer) → look w q.question ≡ o → ((a : Answer) → all_given w (reads_in (answers_of w) (k a)) ≡ true)
+        → all_given w (read_on q.question o (λ a. reads_in (answers_of w) (k a))) ≡ true
     step None e rest = refl
-    step (Some a) e rest =
-        and_from (agrees kept a (look w q.question)) (all_agree kept w (reads_in (answers_of w) (k a))) (true-agrees kept a (look w q.question) (inl e)) (rest a)
+    step (Some a) e rest = and_from (is_given (look w q.question) a) (all_given w (reads_in (answers_of w) (k a))) (true-given (look w q.question) a e) (rest a)
 
 pub record_in-holds : (w : WorldView) (t : TestId) → holds w (record_in w t) ≡ true
 unfolding record_in
-record_in-holds w t = agree-reads_in (record_in w t).kept w (judge t)
+record_in-holds w t = agree-reads_in w (judge t)
 
 record_in-test : (w : WorldView) (t : TestId) → t ≡ (record_in w t).test
 unfolding record_in
 record_in-test w t = refl
 
 -- a test whose record was just made is held
-pub held-new : (w : WorldView) (s : List KeptRecords) (t : TestId) → is_held w (with_record s (record_in w t)) t ≡ true
-held-new w s t =
-    ap (one_holds w) (kept-with_record-same s (record_in w t) t (record_in-test w t))
-    ∙ ap (λ b. b || one_holds w (take 3 (kept s t))) (record_in-holds w t)
+pub held-new : (w : WorldView) (s : List RecordView) (t : TestId) → is_held w (with_record s (record_in w t)) t ≡ true
+held-new w s t = ap (holds_if_kept w) (kept-with_record-same s (record_in w t) t (record_in-test w t)) ∙ record_in-holds w t
 
 -- a test that is held stays so where the record of any test is made
-pub held-stays : (w : WorldView) (s : List KeptRecords) (t u : TestId) → is_held w s t ≡ true → is_held w (with_record s (record_in w u)) t ≡ true
+pub held-stays : (w : WorldView) (s : List RecordView) (t u : TestId) → is_held w s t ≡ true → is_held w (with_record s (record_in w u)) t ≡ true
 held-stays w s t u h = step (same_test t u) refl
   where
     step : (b : Bool) → same_test t u ≡ b → is_held w (with_record s (record_in w u)) t ≡ true
     step true e = subst (λ x. is_held w (with_record s (record_in w x)) t ≡ true) (same_test-true t u e) (held-new w s t)
     step false e =
-        ap (one_holds w) (kept-with_record-other s (record_in w u) t (ap (same_test t) (sym (record_in-test w u)) ∙ e)) ∙ h
+        ap (holds_if_kept w) (kept-with_record-other s (record_in w u) t (ap (same_test t) (sym (record_in-test w u)) ∙ e)) ∙ h
 
-pub held-shelf_with : (w : WorldView) (s : List KeptRecords) (ts : List TestId) (t : TestId) → is_held w s t ≡ true → is_held w (shelf_with w s ts) t ≡ true
+pub held-shelf_with : (w : WorldView) (s : List RecordView) (ts : List TestId) (t : TestId) → is_held w s t ≡ true → is_held w (shelf_with w s ts) t ≡ true
 unfolding shelf_with
 held-shelf_with w s [] t h = h
 held-shelf_with w s (u ∷ ts) t h = held-shelf_with w (with_record s (record_in w u)) ts t (held-stays w s t u h)
 
 -- each of these tests is held, once a record of each is made
-abbrev pub AllHeld : WorldView → List KeptRecords → List TestId → Type 0
+abbrev pub AllHeld : WorldView → List RecordView → List TestId → Type 0
 AllHeld w s [] = Unit {0}
 AllHeld w s (t ∷ ts) = (is_held w s t ≡ true) × AllHeld w s ts
 
 -- every test is held on a shelf with the records of those that were not, in a world that keeps what was held
-all-held : (v w : WorldView) (s last : List KeptRecords) (ts : List TestId)
+all-held : (v w : WorldView) (s last : List RecordView) (ts : List TestId)
     → ((t : TestId) → is_held v s t ≡ true → is_held w last t ≡ true)
     → AllHeld w last (filter (λ t. not (is_held v s t)) ts) → AllHeld w last ts
 all-held v w s last [] stays h = tt
@@ -117,18 +111,18 @@ all-held v w s last (t ∷ ts) stays h = step (is_held v s t) refl (all-held v w
     step true e ih g = (stays t e, ih g)
     step false e ih g = (g.0, ih g.1)
 
-made-held : (w : WorldView) (s : List KeptRecords) (ts : List TestId) → AllHeld w (shelf_with w s ts) ts
+made-held : (w : WorldView) (s : List RecordView) (ts : List TestId) → AllHeld w (shelf_with w s ts) ts
 unfolding shelf_with
 made-held w s [] = tt
 made-held w s (t ∷ ts) =
     (held-shelf_with w (with_record s (record_in w t)) ts t (held-new w s t), made-held w (with_record s (record_in w t)) ts)
 
-none-pending : (w : WorldView) (s : List KeptRecords) (ts : List TestId) → AllHeld w s ts → filter (λ t. not (is_held w s t)) ts ≡ []
+none-pending : (w : WorldView) (s : List RecordView) (ts : List TestId) → AllHeld w s ts → filter (λ t. not (is_held w s t)) ts ≡ []
 none-pending w s [] h = refl
 none-pending w s (t ∷ ts) h =
     ap (λ b. cond (not b) (t ∷ filter (λ u. not (is_held w s u)) ts) (filter (λ u. not (is_held w s u)) ts)) h.0 ∙ none-pending w s ts h.1
 
-pub held-pending : (w : WorldView) (s : List KeptRecords) (ts : List TestId) → filter (λ t. not (is_held w s t)) ts ≡ [] → AllHeld w s ts
+pub held-pending : (w : WorldView) (s : List RecordView) (ts : List TestId) → filter (λ t. not (is_held w s t)) ts ≡ [] → AllHeld w s ts
 held-pending w s [] h = tt
 held-pending w s (t ∷ ts) h = step (is_held w s t) refl h (held-pending w s ts)
   where
@@ -173,14 +167,14 @@ all-end-append w [] t h e = (e, tt)
 all-end-append w (u ∷ ts) t h e = (h.0, all-end-append w ts t h.1 e)
 
 -- their records are the same in a world that has grown
-shelf_with-grown : (v w : WorldView) → IsGrown v w → (s : List KeptRecords) (ts : List TestId) → AllEnd v ts → shelf_with v s ts ≡ shelf_with w s ts
+shelf_with-grown : (v w : WorldView) → IsGrown v w → (s : List RecordView) (ts : List TestId) → AllEnd v ts → shelf_with v s ts ≡ shelf_with w s ts
 unfolding shelf_with
 shelf_with-grown v w g s [] h = refl
 shelf_with-grown v w g s (t ∷ ts) h =
     shelf_with-grown v w g (with_record s (record_in v t)) ts h.1
     ∙ ap (λ r. shelf_with w (with_record s r) ts) (sym (record-grown v w t g h.0))
 
-shelf_with-append : (w : WorldView) (s : List KeptRecords) (ts : List TestId) (t : TestId) → shelf_with w s (ts ++ t ∷ []) ≡ with_record (shelf_with w s ts) (record_in w t)
+shelf_with-append : (w : WorldView) (s : List RecordView) (ts : List TestId) (t : TestId) → shelf_with w s (ts ++ t ∷ []) ≡ with_record (shelf_with w s ts) (record_in w t)
 unfolding shelf_with
 shelf_with-append w s [] t = refl
 shelf_with-append w s (u ∷ ts) t = shelf_with-append w (with_record s (record_in w u)) ts t
@@ -228,25 +222,26 @@ all_judged-more source (u ∷ ts) t v js h e = step (verdict_in source u) (all_j
     step (Some x) (Some rest) js e h ih =
         ap (and_judged u (Some x)) (ih rest e) ∙ ap (λ l. Some (l ++ judged t v ∷ [])) (some-equal _ _ h)
 
-pub held-at : (w : WorldView) (s : List KeptRecords) (ts : List TestId) (i : ℕ) (t : TestId) → AllHeld w s ts → i < length ts → t ≡ get_or ts i t → is_held w s t ≡ true
+pub held-at : (w : WorldView) (s : List RecordView) (ts : List TestId) (i : ℕ) (t : TestId) → AllHeld w s ts → i < length ts → t ≡ get_or ts i t → is_held w s t ≡ true
 held-at w s [] i t h l e = absurd (omega arith)
 held-at w s (u ∷ ts) zero t h l e = subst (λ x. is_held w s x ≡ true) (sym e) h.0
 held-at w s (u ∷ ts) (suc i) t h l e = held-at w s ts i t h.1 (omega arith) e
 
--- what is found passes the check
-found-passes : {A : Type 0} (p : A → Bool) (xs : List A) (x : A) → find p xs ≡ Some x → p x ≡ true
-found-passes p [] x h = cc
-found-passes {A} p (y ∷ ys) x h = step (p y) refl h (found-passes p ys x)
-  where
-    step : (b : Bool) → p y ≡ b → cond b (Some y) (find p ys) ≡ Some x → (find p ys ≡ Some x → p x ≡ true) → p x ≡ true
-    step true e g ih = ap p (sym (some-equal y x g)) ∙ e
-    step false e g ih = ih g
-
 -- the verdict of a kept record that holds is the one in this world
-pub verdict-found : (w : WorldView) (rs : List RecordView) (t : TestId) (r : RecordView) → newest_holding w rs ≡ Some r → (r.test ≡ t) × IsTrueRecord r.test r.reads r.verdict r.kept
+pub verdict-held : (w : WorldView) (s : List RecordView) (t : TestId) (r : RecordView) → is_held w s t ≡ true → kept s t ≡ Some r → IsTrueRecord r.test r.reads r.verdict → r.test ≡ t
     → verdict_in (answers_of w) t ≡ Some r.verdict
-verdict-found w rs t r found own =
-    subst (λ u. verdict_in (answers_of w) u ≡ Some r.verdict) own.0 (agreeing-verdict w r own.1 (true-agree r.kept w r.reads (found-passes (holds w) rs r found)))
+verdict-held w s t r h k y e =
+    let holds-now : holds w r ≡ true = sym (ap (holds_if_kept w) k) ∙ h in
+    subst (λ u. verdict_in (answers_of w) u ≡ Some r.verdict) e (agreeing-verdict w r y (true-agree w r.reads holds-now))
+
+-- the kept record of a test is of that test
+pub kept-test : (s : List RecordView) (t : TestId) (r : RecordView) → kept s t ≡ Some r → r.test ≡ t
+kept-test [] t r h = cc
+kept-test (x ∷ xs) t r h = step (same_test t x.test) refl h (kept-test xs t r)
+  where
+    step : (b : Bool) → same_test t x.test ≡ b → cond b (Some x) (kept xs t) ≡ Some r → (kept xs t ≡ Some r → r.test ≡ t) → r.test ≡ t
+    step true e g ih = ap (λ y. y.test) (sym (some-equal x r g)) ∙ sym (same_test-true t x.test e)
+    step false e g ih = ih g
 
 -- one selected test more was looked at
 pub unheld-more : (c : CoreView) (ts : List TestId) (i : ℕ) (t : TestId) (l : List TestId) → i < length ts → t ≡ get_or ts i t
@@ -255,18 +250,9 @@ unheld-more c ts i t l h e p =
     ap (λ k. k ++ unheld c t) p ∙ ap (λ u. filter (λ u. not (is_held c.world c.shelf u)) (take i ts) ++ unheld c u) e
     ∙ sym (filter_more (λ u. not (is_held c.world c.shelf u)) ts i t h)
 
--- one is found where some element passes
-found-some : {A : Type 0} (p : A → Bool) (xs : List A) → is_some (find p xs) ≡ list_any p xs
-found-some p [] = refl
-found-some {A} p (x ∷ xs) = step (p x) (found-some p xs)
-  where
-    step : (b : Bool) → is_some (find p xs) ≡ list_any p xs → is_some (cond b (Some x) (find p xs)) ≡ (b || list_any p xs)
-    step true ih = refl
-    step false ih = ih
-
--- where one record holds, a newest one is found
-pub held-some : (w : WorldView) (rs : List RecordView) → one_holds w rs ≡ true → newest_holding w rs ≡ None → ⊥
-held-some w rs h n = true≢false (sym h ∙ sym (found-some (holds w) rs) ∙ ap is_some n)
+-- a held test has a kept record
+pub held-some : (w : WorldView) (s : List RecordView) (t : TestId) → is_held w s t ≡ true → kept s t ≡ None → ⊥
+held-some w s t h n = true≢false (sym h ∙ ap (holds_if_kept w) n)
 
 pub judged-one-more : (w : WorldView) (ts : List TestId) (i : ℕ) (t : TestId) (js : List Judged) (j : Judged) → i < length ts → t ≡ get_or ts i t
     → all_judged (answers_of w) (take i ts) ≡ Some js → IsJudged w t j → all_judged (answers_of w) (take (i + 1) ts) ≡ Some (js ++ j ∷ [])

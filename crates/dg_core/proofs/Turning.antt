@@ -1,15 +1,13 @@
 -- Questions that are asked in turn, and tests that are judged one after another.
-use Rattle.std.proofs.Common.{◌≡◌, ◌<◌, ℕ, suc, zero, List, [], ◌∷◌, ◌++◌, length, drop, get_or, refl, ap, subst, arith}
+use Rattle.std.proofs.Common.{◌≡◌, List, [], ◌∷◌, ◌++◌, refl, subst}
 use Rattle.std.specs.Prelude.{Option, Some, None}
-use Rattle.dg_language.specs.Judge.{judge}
 use Rattle.dg_world.specs.World.{WorldView}
 use Rattle.dg_world.specs.declared.question.Answer.{Answer}
 use Rattle.dg_world.specs.declared.question.Question.{Question}
 use Rattle.dg_world.specs.declared.question.Read.{Read}
 use Rattle.dg_world.specs.declared.test_id.TestId.{TestId}
 use Rattle.dg_index.specs.Kept.{KeptView, IsAskedOf, after_asking}
-use Rattle.dg_core.specs.Core.{CoreView, kept_of, pending}
-use Rattle.dg_core.specs.Turning.{AsksFirst, AsksInTurn, AsksNext, JudgesOne, JudgesAll, JudgesSome}
+use Rattle.dg_core.specs.Turning.{AsksInTurn, JudgesOne, JudgesAll}
 
 -- a question leaves the records
 pub shelf-asked : (k : KeptView) (q : Question) (o : Option Answer) (w : WorldView) → (after_asking k q o w).shelf ≡ k.shelf
@@ -30,27 +28,3 @@ asks-append old mid new (x ∷ xs) more h a = (h.0, h.1, asks-append h.0 mid new
 pub judges-more : (old mid new : KeptView) (ts : List TestId) (t : TestId) → JudgesAll old ts mid → JudgesOne mid t new → JudgesAll old (ts ++ t ∷ []) new
 judges-more old mid new [] t h j = (new, subst (λ k. JudgesOne k t new) h j, refl)
 judges-more old mid new (x ∷ xs) t h j = (h.0, h.1, judges-more h.0 mid new xs t h.2 j)
-
--- nothing was asked of a test
-pub asks-none : (old new : KeptView) (t : TestId) → new ≡ old → AsksFirst old t new
-asks-none old new t same = record { reads = []; rest = judge t; leads = refl; asked = same }
-
-pub next-none : (old new : KeptView) (ts : List TestId) → new ≡ old → AsksNext old ts new
-next-none old new [] same = same
-next-none old new (t ∷ ts) same = asks-none old new t same
-
--- the test that stands here is the next one
-pub next-first : (old new : KeptView) (ts : List TestId) (i : ℕ) (t : TestId) → i < length ts → t ≡ get_or ts i t → AsksFirst old t new → AsksNext old (drop i ts) new
-next-first old new [] i t l e h = absurd (omega arith)
-next-first old new (u ∷ ts) zero t l e h = subst (λ x. AsksFirst old x new) e h
-next-first old new (u ∷ ts) (suc i) t l e h = next-first old new ts i t (omega arith) e h
-
--- no test was judged
-pub some-none : (old new : CoreView) → new ≡ old → JudgesSome old new
-some-none old new same = record {
-  judged = 0;
-  within = omega arith;
-  last = kept_of old;
-  all = refl;
-  next = next-none (kept_of old) (kept_of new) (drop 0 (pending old)) (ap kept_of same);
-}

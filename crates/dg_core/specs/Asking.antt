@@ -71,13 +71,6 @@ abbrev pub Takes : KeptView → KeptView → JobView → JobView → Option Reco
 Takes before after old new None = IsToldMore before after old new
 Takes before after old new (Some r) = Ends before old r × (after ≡ before)
 
--- questions more were asked in turn, which the judging asks behind what the job was told
-pub record AsksOn (old : KeptView) (j : JobView) (new : KeptView) : Type 0 where
-  pub more : List Read
-  pub rest : Play Ending
-  pub leads : Leads (judge j.test) (j.reads ++ more) rest
-  pub asked : AsksInTurn old more new
-
 -- why a judging fails in a world: for want of memory, or where it reads a pattern that is answered as read
 abbrev pub Fails : WorldView → TestId → JobFault → Type 0
 Fails w t NotAsked = ⊥

@@ -1,7 +1,7 @@
 -- A world, and the records that are kept of it.
 use Rattle.std.specs.Prelude.{◌≡◌, ◌≤◌, ℕ, ◌+◌, ◌-◌, cond, not, Option, Some, None, Result, Ok, Err, List, [], ◌∷◌, length, take}
 use Rattle.std.specs.List.{filter}
-use Rattle.dg_transcript.specs.Transcript.{TranscriptView}
+use Rattle.dg_transcript.specs.declared.entry.Entry.{Entry}
 use Rattle.dg_world.specs.World.{WorldView, new_world, selected}
 use Rattle.dg_world.specs.declared.question.Question.{Question}
 use Rattle.dg_world.specs.declared.question.Answer.{Answer}
@@ -9,21 +9,17 @@ use Rattle.dg_world.specs.declared.edit.Edit.{Edit}
 use Rattle.dg_world.specs.declared.refusal.Refusal.{Refusal}
 use Rattle.dg_world.specs.declared.test_id.TestId.{TestId}
 use Rattle.dg_results.specs.declared.verdict.Line.{Line}
-use Rattle.dg_language.specs.declared.kept.Kept.{Kept}
-use Rattle.dg_language.specs.declared.kept.Kept.TheVariants.{Cut}
-use Rattle.dg_language.specs.Evaluation.{Ending}
-use Rattle.dg_language.specs.Kept.{kept_of as kept_by_end}
-use Rattle.dg_language.specs.Play.{end_of, reads_in, run}
-use Rattle.dg_language.specs.Judge.{judge}
+use Rattle.dg_language.specs.Play.{reads_in}
+use Rattle.dg_language.specs.Judge.{judge, verdict_in}
 use Rattle.dg_records.specs.Truth.{RecordView, answers_of}
-use Rattle.dg_records.specs.Shelf.{KeptRecords, with_record}
+use Rattle.dg_records.specs.Shelf.{with_record}
 use Rattle.dg_index.specs.Marks.{counted}
 use Rattle.dg_index.specs.Kept.{KeptView, is_held, edited_kept, IsAskedOf as IsAnsweredOf, committed as kept_with, committed_live as kept_with_live}
 
--- a world, the kept records of each test, how many reads were compared with it, and how many evaluations were begun
+-- a world, the newest record of each test that had one, how many reads were compared with it, and how many evaluations were begun
 pub record CoreView : Type 0 where
   pub world : WorldView
-  pub shelf : List KeptRecords
+  pub shelf : List RecordView
   pub compared : ℕ
   pub evaluations : ℕ
 
@@ -46,23 +42,16 @@ unheld c t = cond (not (is_held c.world c.shelf t)) (t ∷ []) []
 unfoldable pub pending : CoreView → List TestId
 pending c = filter (λ t. not (is_held c.world c.shelf t)) (selected c.world)
 
-abbrev pub lines_or_none : Option Ending → List Line
+abbrev pub lines_or_none : Option (List Line) → List Line
 lines_or_none None = []
-lines_or_none (Some e) = e.verdict
+lines_or_none (Some v) = v
 
-abbrev pub kept_or_none : Option Ending → Kept
-kept_or_none None = Cut 0
-kept_or_none (Some e) = kept_by_end e
-
--- the record of a test that is judged in a world: the questions that it asks there, their answers, its lines, and the limits on
--- steps that keep these
+-- the record of a test that is judged in a world: the questions that it asks there, their answers, and its lines
 unfoldable pub record_in : WorldView → TestId → RecordView
-record_in w t =
-    let ending = end_of (run (answers_of w) (judge t)) in
-    record { test = t; reads = reads_in (answers_of w) (judge t); verdict = lines_or_none ending; kept = kept_or_none ending }
+record_in w t = record { test = t; reads = reads_in (answers_of w) (judge t); verdict = lines_or_none (verdict_in (answers_of w) t) }
 
 -- the shelf on which the records of these tests were put, one after another
-unfoldable pub shelf_with : WorldView → List KeptRecords → List TestId → List KeptRecords
+unfoldable pub shelf_with : WorldView → List RecordView → List TestId → List RecordView
 shelf_with w shelf [] = shelf
 shelf_with w shelf (t ∷ ts) = shelf_with w (with_record shelf (record_in w t)) ts
 
@@ -106,10 +95,10 @@ edited_core c e = with_kept c.evaluations (edited_kept (kept_of c) e)
 abbrev pub IsAskedOf : CoreView → CoreView → Question → Answer → Type 0
 IsAskedOf old new q a = IsAnsweredOf (kept_of old) (kept_of new) q a × (new.evaluations ≡ old.evaluations)
 
--- the core after a record was kept as its test's newest
+-- the core after a record was kept, in the place of the one that its test had
 abbrev pub committed : CoreView → RecordView → CoreView
 committed c r = core_of (kept_with (kept_of c) r) c.evaluations
 
--- the core after a live run: its record is kept as its test's newest, and its transcript is that of its test; or the refusal for want of room
-abbrev pub committed_live : CoreView → RecordView → TranscriptView → Result CoreView Refusal
-committed_live c r transcript = with_kept c.evaluations (kept_with_live (kept_of c) r transcript)
+-- the core after a live run: its record is kept, in the place of the one that its test had, and these sessions are the transcript of its test; or the refusal for want of room
+abbrev pub committed_live : CoreView → RecordView → List (List Entry) → Result CoreView Refusal
+committed_live c r sessions = with_kept c.evaluations (kept_with_live (kept_of c) r sessions)

@@ -8,19 +8,19 @@ use Rattle.dg_world.specs.World.{WorldView, edited, selected}
 use Rattle.dg_world.specs.declared.edit.Edit.{Edit}
 use Rattle.dg_world.specs.declared.edit.Edit.TheVariants.{PutFile, RemoveFile, Select, PutTranscript, DropTranscript}
 use Rattle.dg_world.specs.declared.test_id.TestId.{TestId}
-use Rattle.dg_records.specs.Shelf.{KeptRecords}
+use Rattle.dg_records.specs.Truth.{RecordView}
 use Rattle.dg_index.specs.Index.{is_among}
 use Rattle.dg_index.specs.Kept.{is_held, place_of}
 use Rattle.dg_core.specs.declared.lineup.Lineup.{Lineup}
 use Rattle.dg_core.specs.declared.openings.Openings.{Openings}
 
 -- a place, where it is known, is that of the record of a test
-abbrev pub IsPlace : List KeptRecords → TestId → Option ℕ → Type 0
+abbrev pub IsPlace : List RecordView → TestId → Option ℕ → Type 0
 IsPlace shelf t None = Unit {0}
 IsPlace shelf t (Some place) = place_of shelf t ≡ Some place
 
 -- each of these places is that of the record of the test beside it
-abbrev pub ArePlaces : List KeptRecords → List TestId → List (Option ℕ) → Type 0
+abbrev pub ArePlaces : List RecordView → List TestId → List (Option ℕ) → Type 0
 ArePlaces shelf [] places = Unit {0}
 ArePlaces shelf (t ∷ ts) [] = ⊥
 ArePlaces shelf (t ∷ ts) (place ∷ places) = IsPlace shelf t place × ArePlaces shelf ts places
@@ -37,7 +37,7 @@ abbrev pub LeadBack : List (Option ℕ) → Openings → Type 0
 LeadBack places o = AllLeadBack places o.positions
 
 -- the selected tests of a world, and places of their records on a shelf
-pub record IsLineup (w : WorldView) (shelf : List KeptRecords) (l : Lineup) : Type 0 where
+pub record IsLineup (w : WorldView) (shelf : List RecordView) (l : Lineup) : Type 0 where
   pub tests : l.tests ≡ selected w
   pub places : ArePlaces shelf l.tests l.places
   pub lead : IfSome l.openings (LeadBack l.places)
@@ -51,16 +51,16 @@ abbrev pub is_open : Openings → ℕ → Bool
 is_open o at = list_any (is_at (nat_cmp at)) o.opened.keys
 
 -- each of these tests is held, but those at open positions
-abbrev pub HoldsElsewhere : WorldView → List KeptRecords → List TestId → Openings → Type 0
+abbrev pub HoldsElsewhere : WorldView → List RecordView → List TestId → Openings → Type 0
 HoldsElsewhere w shelf tests o = (at : ℕ) (t : TestId) → slice_get tests at ≡ Some t → is_open o at ≡ false → is_held w shelf t ≡ true
 
 -- a lineup that leaves no pending test out
-pub record IsCurrent (w : WorldView) (shelf : List KeptRecords) (l : Lineup) : Type 0 where
+pub record IsCurrent (w : WorldView) (shelf : List RecordView) (l : Lineup) : Type 0 where
   pub lineup : IsLineup w shelf l
   pub held : IfSome l.openings (HoldsElsewhere w shelf l.tests)
 
 -- and none of the world that an edit makes
-pub record IsOpenTo (e : Edit) (w : WorldView) (shelf : List KeptRecords) (l : Lineup) : Type 0 where
+pub record IsOpenTo (e : Edit) (w : WorldView) (shelf : List RecordView) (l : Lineup) : Type 0 where
   pub before : IsCurrent w shelf l
   pub after : (v : WorldView) → edited w e ≡ Ok v → IfSome l.openings (HoldsElsewhere v shelf l.tests)
 

@@ -1,10 +1,7 @@
 -- How tests are judged on kept records: the questions of each are asked in turn, and its record is kept.
-use Rattle.std.specs.Prelude.{◌≡◌, ◌≤◌, ℕ, List, [], ◌∷◌, length, take, drop}
+use Rattle.std.specs.Prelude.{◌≡◌, ◌≤◌, ℕ, List, [], ◌∷◌, length, take}
 use Rattle.dg_world.specs.declared.question.Read.{Read}
 use Rattle.dg_world.specs.declared.test_id.TestId.{TestId}
-use Rattle.dg_language.specs.Evaluation.{Ending}
-use Rattle.dg_language.specs.Judge.{judge}
-use Rattle.dg_language.specs.Play.{Play, Leads}
 use Rattle.dg_index.specs.Kept.{KeptView, IsAskedOf, committed}
 use Rattle.dg_core.specs.Core.{CoreView, record_in, kept_of, pending}
 
@@ -23,22 +20,11 @@ abbrev pub JudgesAll : KeptView → List TestId → KeptView → Type 0
 JudgesAll old [] new = new ≡ old
 JudgesAll old (t ∷ ts) new = (next : KeptView) × JudgesOne old t next × JudgesAll next ts new
 
--- some first questions of a test's judging were asked in turn, and no others
-pub record AsksFirst (old : KeptView) (t : TestId) (new : KeptView) : Type 0 where
-  pub reads : List Read
-  pub rest : Play Ending
-  pub leads : Leads (judge t) reads rest
-  pub asked : AsksInTurn old reads new
-
--- of the first of these tests, if there is one; else nothing was asked
-abbrev pub AsksNext : KeptView → List TestId → KeptView → Type 0
-AsksNext old [] new = new ≡ old
-AsksNext old (t ∷ ts) new = AsksFirst old t new
-
--- Some first pending tests were judged, and some first questions of the next one asked at most.
+-- Some first pending tests were judged, and some questions of the next one asked at most.
 pub record JudgesSome (old new : CoreView) : Type 0 where
   pub judged : ℕ
   pub within : judged ≤ length (pending old)
   pub last : KeptView
   pub all : JudgesAll (kept_of old) (take judged (pending old)) last
-  pub next : AsksNext last (drop judged (pending old)) (kept_of new)
+  pub reads : List Read
+  pub asked : AsksInTurn last reads (kept_of new)

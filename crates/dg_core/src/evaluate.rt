@@ -1,9 +1,10 @@
 //! The evaluation of a test in a world, whose book takes up each new pattern.
-ghost use Rattle.std.specs.Prelude.{◌≡◌, IfOk, OnErr, MatchResult, option_and_then, option_copied};
+ghost use Rattle.std.specs.Prelude.{◌≡◌, List, IfOk, OnErr, MatchResult, option_and_then, option_copied};
 ghost use Rattle.dg_transcript.specs.Sessions.{entry_at};
-ghost use Rattle.dg_core.specs.Asking.{AsksOn, IsTold, Stops, Takes, Judges, Fails};
+ghost use Rattle.dg_world.specs.declared.question.Read.{Read};
+ghost use Rattle.dg_core.specs.Asking.{IsTold, Stops, Takes, Judges, Fails};
 ghost use Rattle.dg_core.specs.Grown.{IsGrown};
-ghost use Rattle.dg_core.specs.Turning.{AsksFirst, AsksInTurn};
+ghost use Rattle.dg_core.specs.Turning.{AsksInTurn};
 
 use dg_bytes::TryCopy;
 use dg_eval::{Answers, Job, JobFault, Readings, Turn};
@@ -17,7 +18,7 @@ use std::mem;
 
 /// The entry at a place of a transcript, if there is one.
 fn entry_in<'a>(transcript: Option<&'a Transcript>, place: &EntryPlace) -> Option<&'a Entry>
-    ensures { option_copied result ≡ option_and_then (λ kept. entry_at kept.sessions place.now.session place.now.place)
+    ensures { option_copied result ≡ option_and_then (λ ss. entry_at ss place.now.session place.now.place)
         (option_copied transcript.entry) }
 {
     match transcript {
@@ -104,7 +105,7 @@ fn take_turns(
     ensures grown { IsGrown kept.old.world kept.new.world }
     ensures shelf { kept.new.shelf ≡ kept.old.shelf }
     ensures turn { MatchResult result (Takes kept.old kept.new job.old job.new) (Fails kept.new.world job.old.test) }
-    ensures stopped { OnErr result (AsksOn kept.old job.old kept.new) }
+    ensures stopped { OnErr result ((reads : List Read) × AsksInTurn kept.old reads kept.new) }
 {
     let ask = match look_up_all(alloc, kept, test, job) {
         Ok(Turn::Need(ask)) => ask,
@@ -118,8 +119,8 @@ fn take_turns(
     }
 }
 
-/// Judges a test in a world. A pattern that its evaluation is the first to ask for enters the world's book. What its record
-/// reads is asked for in turn, and nothing else; where the judging fails, only some first questions of it are.
+/// Judges a test in a world. A pattern that its evaluation is the first to ask for enters the world's book; what its record
+/// reads is asked for in turn, and nothing else.
 pub(crate) fn evaluate(
     alloc: Global,
     kept: &mut Kept,
@@ -130,7 +131,7 @@ pub(crate) fn evaluate(
     ensures shelf { kept.new.shelf ≡ kept.old.shelf }
     ensures record { MatchResult result (Judges kept.new.world test.now) (Fails kept.new.world test.now) }
     ensures asked { IfOk result (λ r. AsksInTurn kept.old r.reads kept.new) }
-    ensures stopped { OnErr result (AsksFirst kept.old test.now kept.new) }
+    ensures stopped { OnErr result ((reads : List Read) × AsksInTurn kept.old reads kept.new) }
 {
     let read = mem::replace(readings, Readings::new());
     let mut job = Job::start_with(alloc, test.copy(alloc)?, read)?;

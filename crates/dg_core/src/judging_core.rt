@@ -1,10 +1,11 @@
 //! A world with the records that are kept of it.
-ghost use Rattle.std.specs.Prelude.{◌≡◌, ◌⊎◌, ◌++◌, [], Ok, Err, Some, true, IfOk, IfErr, OnOk, OnErr, IsTrue};
+ghost use Rattle.std.specs.Prelude.{◌≡◌, ◌⊎◌, ◌++◌, [], List, Ok, Err, Some, true, IfOk, IfErr, OnOk, OnErr, IsTrue};
 ghost use Rattle.std.specs.Option.{option_copied};
+ghost use Rattle.dg_world.specs.declared.question.Read.{Read};
 ghost use Rattle.dg_index.specs.Kept.{is_held, place_of};
 ghost use Rattle.dg_index.specs.Marks.{counted};
 ghost use Rattle.dg_core.specs.Lineup.{adds_at_most, place_in, HoldsElsewhere, IsCurrent, IsLineup, IsPlace};
-ghost use Rattle.dg_core.specs.Turning.{AsksFirst, JudgesOne, JudgesAll, JudgesSome};
+ghost use Rattle.dg_core.specs.Turning.{AsksInTurn, JudgesOne, JudgesAll, JudgesSome};
 ghost use Rattle.dg_core.specs.Core.{kept_of, committed, committed_live, IsAskedOf, core_of, new_core, pending, settled, edited_core, unheld, with_judged, IsPartlySettled};
 ghost use Rattle.dg_core.specs.Scratch.{scratch, all_judged, IsJudged};
 ghost use Rattle.dg_core.specs.Reply.{Replies};
@@ -40,7 +41,7 @@ pub enum CoreFault {
     Memory,
 }
 
-/// A world, the newest four records of each test, the number of reads compared, and that of evaluations begun. Beside them
+/// A world, one record for each test that had one, the number of reads compared, and that of evaluations begun. Beside them
 /// the lineup of the last report may stand, which no contract sees.
 pub struct Core {
     kept: Kept,
@@ -136,8 +137,8 @@ impl Core {
         self.kept.world().transcript(test)
     }
 
-    /// Keeps a record as its test's newest, of which a fifth one is dropped, or gives it back and changes nothing where there
-    /// is no room for it.
+    /// Keeps a record in the place of the one that its test had, or gives it back and changes nothing where there is no
+    /// room for it.
     pub fn commit(&mut self, alloc: Global, newest: Record) -> Result<(), Record>
         ensures ok { OnOk result (self.new ≡ committed self.old newest) }
         ensures err { OnErr result (self.new ≡ self.old) }
@@ -147,7 +148,7 @@ impl Core {
         self.kept.commit(alloc, newest)
     }
 
-    /// Keeps the record of a live run as its test's newest, and makes its transcript that of its
+    /// Keeps the record of a live run, in the place of the one that its test had, and makes its transcript that of its
     /// test: both, or neither, and then both come back. `TooMany` only where it is a new test beside 65,536 transcripts,
     /// and `Memory` where a growth was refused, which comes first.
     pub fn commit_live(
@@ -356,7 +357,7 @@ impl Core {
             { world = self.new.world; compared = self.new.compared; evaluations = counted self.old.evaluations 1 }) }
         ensures why { IfErr result (Blames test.now self.new.world) }
         ensures judges { OnOk result (JudgesOne (kept_of self.old) test.now (kept_of self.new)) }
-        ensures stopped { OnErr result (AsksFirst (kept_of self.old) test.now (kept_of self.new)) }
+        ensures stopped { OnErr result ((reads : List Read) × AsksInTurn (kept_of self.old) reads (kept_of self.new)) }
     {
         self.lineup = None;
         self.evaluations = self.evaluations.saturating_add(1);

@@ -1,15 +1,19 @@
 -- What a job's end says of the record that is made of it, and what a turn along a source comes to.
-use Rattle.std.proofs.Common.{◌≡◌, inl, inr, ◌∙◌, ◌++◌, ℕ, true, true≢false, refl, sym, ap, subst}
+use Rattle.std.proofs.Common.{◌≡◌, inl, inr, ◌∙◌, ◌++◌, ℕ, List, true, true≢false, refl, sym, ap, subst}
 use Rattle.std.proofs.lemmas.Result.{MatchResult-weaker}
 use Rattle.std.specs.Prelude.{None, Result, MatchResult}
 use Rattle.dg_world.specs.declared.question.Answer.{Answer}
 use Rattle.dg_world.specs.declared.question.Question.{Question}
+use Rattle.dg_world.specs.declared.question.Read.{Read}
 use Rattle.dg_world.specs.declared.test_id.TestId.{TestId}
 use Rattle.dg_language.specs.declared.ask.Ask.{Ask}
-use Rattle.dg_language.specs.Play.{Source, Leads}
-use Rattle.dg_language.specs.Judge.{judge}
+use Rattle.dg_language.specs.Play.{Source, Ends, Leads, end_of}
+use Rattle.dg_language.specs.Evaluation.{Ending}
+use Rattle.dg_language.specs.Judge.{judge, verdict_of}
+use Rattle.dg_language.proofs.Sources.{run-leads}
+use Rattle.dg_records.specs.Truth.{IsTrueRecord}
 use Rattle.dg_machine.specs.Arriving.{ArrivesAlong, IsUnanswered as IsStopUnanswered}
-use Rattle.dg_machine.specs.Evaluating.{EvaluationView}
+use Rattle.dg_machine.specs.Evaluating.{EvaluationView, HasEnded}
 use Rattle.dg_machine.specs.declared.evaluation.Arrival.{Arrival}
 use Rattle.dg_machine.specs.declared.evaluation.Arrival.TheVariants.{AtQuestion, AtEnd, Lost}
 use Rattle.dg_eval.specs.Truth.{IsStage, JobView, asked_of, has_failed, is_live, reads_of}
@@ -20,6 +24,11 @@ use Rattle.dg_eval.specs.Advance.{Advances, AdvancesAlong, Halts, HaltsAlong, Is
 use Rattle.dg_eval.specs.declared.job.JobFault.{JobFault}
 use Rattle.dg_eval.specs.declared.job.Turn.{Turn}
 use Rattle.dg_eval.specs.declared.job.Turn.TheVariants.{Need, Done}
+
+-- a record of it is true
+pub ended-true : (test : TestId) (reads : List Read) (e : Ending) → HasEnded test reads e → IsTrueRecord test reads e.verdict
+ended-true test reads e h =
+    record { holds = λ source g. ap (λ c. verdict_of (end_of c)) (run-leads (judge test) source reads (Ends e) h.leads g) }
 
 -- the question at which it has arrived has no answer there
 unanswered : (look : Source) (old : JobView) (arrival : Arrival) (turn : Turn) → IsStopUnanswered look arrival → IsTurnOf arrival turn

@@ -1,3 +1,2 @@
 pub mod JobLemmas
 pub mod Crosses
-pub mod LimitLemmas

@@ -1,9 +1,7 @@
 -- What the turns of a job come to.
 use Rattle.std.specs.Prelude.{◌≡◌, ◌⊎◌, ℕ, Bool, true, false, List, [], ◌∷◌, ◌++◌, Option, Some, None}
 use Rattle.dg_language.specs.declared.ask.Ask.{Ask}
-use Rattle.dg_language.specs.declared.kept.Kept.{Kept}
 use Rattle.dg_language.specs.Evaluation.{Ending}
-use Rattle.dg_language.specs.Kept.{kept_of}
 use Rattle.dg_language.specs.Judge.{judge}
 use Rattle.dg_language.specs.Play.{Play, Source, Leads}
 use Rattle.dg_world.specs.declared.question.Answer.{Answer}
@@ -40,13 +38,11 @@ abbrev pub steps_after : Option Ask → ℕ → ℕ → ℕ
 steps_after None before now = now
 steps_after (Some ask) before now = before
 
--- the judging has ended with this verdict, with these limits on steps that keep it, and after so many steps, with just these answers
--- as the source
-pub record HasEndedWith (test : TestId) (reads : List Read) (verdict : List Line) (kept : Kept) (steps : ℕ) : Type 0 where
+-- the judging has ended with this verdict and after so many steps, with just these answers as the source
+pub record HasEndedWith (test : TestId) (reads : List Read) (verdict : List Line) (steps : ℕ) : Type 0 where
   pub ending : Ending
   pub has_ended : HasEnded test reads ending
   pub lines : ending.verdict ≡ verdict
-  pub limits : kept ≡ kept_of ending
   pub count : ending.steps ≡ steps
 
 -- What a turn comes to with the answers so far: to the question that the judging needs next, which then stands, or to a
@@ -55,7 +51,7 @@ abbrev pub Advances : JobView → JobView → Turn → Type 0
 Advances old new (Need q) =
     (old.live ≡ true) × NeedsNext old.test old.reads q × (new ≡ record old { asked = Some q; steps = steps_after old.asked old.steps new.steps })
 Advances old new (Done r) =
-    (old.live ≡ true) × HasEndedWith old.test old.reads r.verdict r.kept new.steps
+    (old.live ≡ true) × HasEndedWith old.test old.reads r.verdict new.steps
     × (r.test ≡ old.test) × (r.reads ≡ old.reads) × (new ≡ over old.test new.steps)
 
 -- the job of a test that has failed, for good, with the steps that it had taken

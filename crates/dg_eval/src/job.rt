@@ -4,7 +4,7 @@ ghost use Rattle.dg_eval.specs.Advance.{Advances, AdvancesAlong, Halts, HaltsAlo
 
 use crate::stage::Stage;
 use dg_language::Ask;
-use dg_machine::{Answers, Arrival, Evaluation, Readings, Scene};
+use dg_machine::{Answers, Arrival, Evaluation, Readings};
 use dg_records::Record;
 use dg_world::{Answer, TestId};
 use std::alloc::{AllocError, Global};
@@ -100,14 +100,6 @@ impl Job {
         self.steps
     }
 
-    /// What stands round the question at which the job has stopped, for whoever tells a person of it. No contract speaks of it.
-    pub fn scene(&self, alloc: Global) -> Result<Option<Scene>, AllocError> {
-        match &self.stage {
-            Stage::Asking(asking) => Ok(Some(asking.scene(alloc)?)),
-            Stage::Running(_) | Stage::Finished(_) | Stage::Failed => Ok(None),
-        }
-    }
-
     /// Puts what the evaluation read of texts in the place of these readings, where the job is done.
     pub fn hand_on(mut self, readings: &mut Readings) {
         if let Stage::Finished(read) = mem::replace(&mut self.stage, Stage::Failed) {
@@ -190,7 +182,7 @@ impl Job {
             Arrival::AtEnd(ended) => {
                 self.steps = ended.steps;
                 self.stage.set(Stage::Finished(ended.readings));
-                let record = Record::from_parts(ended.test, ended.reads, ended.verdict, ended.kept);
+                let record = Record::from_parts(ended.test, ended.reads, ended.verdict);
                 Ok(Turn::Done(record.shared(alloc)))
             }
             Arrival::Lost => Err(JobFault::PatternLost),

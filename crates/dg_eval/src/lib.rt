@@ -5,4 +5,4 @@ mod job;
 mod stage;
 
 pub use crate::job::{Job, JobFault, Turn};
-pub use dg_machine::{Answers, Evaluated, Readings, Scene, Waited};
+pub use dg_machine::{Answers, Readings};

@@ -12,10 +12,6 @@ in_folder folder name = folder ++ codes "/" ++ name
 abbrev pub sum_in : List ℕ → List ℕ → List ℕ
 sum_in outdir tool = in_folder outdir tool ++ codes ".sum"
 
--- the log of a tool
-abbrev pub log_in : List ℕ → List ℕ → List ℕ
-log_in outdir tool = in_folder outdir tool ++ codes ".log"
-
 -- the transcript of a test
 abbrev pub transcript_in : List ℕ → List ℕ → List ℕ → List ℕ
 transcript_in outdir board script = in_folder (in_folder (in_folder outdir (codes "transcripts")) board) script ++ codes ".tr"

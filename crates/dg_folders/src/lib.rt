@@ -9,6 +9,6 @@ mod suite;
 mod writing;
 
 pub use crate::fault::RunFault;
-pub use crate::paths::{log_path, sum_path, transcript_path};
+pub use crate::paths::{sum_path, transcript_path};
 pub use crate::suite::{Intake, read_suite, read_transcript};
 pub use crate::writing::{renew, write_in_place, write_transcript, write_with_folders};

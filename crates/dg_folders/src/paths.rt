@@ -1,6 +1,6 @@
 //! Where the files of a run stand.
 ghost use Rattle.std.specs.Prelude.{◌≡◌, IfOk, string_bytes};
-ghost use Rattle.dg_folders.specs.Paths.{beside, in_folder, is_tool_folder, log_in, sum_in, transcript_in};
+ghost use Rattle.dg_folders.specs.Paths.{beside, in_folder, is_tool_folder, sum_in, transcript_in};
 
 use std::alloc::{AllocError, Global};
 
@@ -25,15 +25,6 @@ pub fn sum_path(alloc: Global, outdir: &str, tool: &str) -> Result<String, Alloc
 {
     let mut path = in_folder(alloc, outdir, tool)?;
     path.push_str(".sum")?;
-    Ok(path)
-}
-
-/// The path of a tool's log: `OUTDIR/TOOL.log`.
-pub fn log_path(alloc: Global, outdir: &str, tool: &str) -> Result<String, AllocError>
-    ensures { IfOk result (λ path. string_bytes path ≡ log_in outdir.now tool.now) }
-{
-    let mut path = in_folder(alloc, outdir, tool)?;
-    path.push_str(".log")?;
     Ok(path)
 }
 

@@ -3,7 +3,7 @@ ghost use Rattle.std.specs.Prelude.{◌≡◌, ◌&&◌, IfOk};
 ghost use Rattle.std.specs.List.{list_any};
 ghost use Rattle.dg_cmds.specs.Places.{glob_matches};
 ghost use Rattle.dg_language.specs.Boards.{content_of, do_board_info, do_load_generic_config, do_set_board_info, do_target_info, do_unset_board_info, flag_call, is_pattern, library_file, no_library, told_of, triplet_of};
-ghost use Rattle.dg_language.specs.Judge.{board_file, step_limit, tool_library, tool_of};
+ghost use Rattle.dg_language.specs.Judge.{board_file, tool_library, tool_of};
 
 use crate::arguments::{only, split, two};
 use crate::completing::{does, gives, miscounted};
@@ -53,8 +53,7 @@ pub fn content_of(alloc: Global, answer: &Answer) -> Result<Option<Bytes>, Alloc
 {
     match answer {
         Answer::Content(text) => Ok(Some(text.copy(alloc)?)),
-        Answer::Steps(_)
-        | Answer::Absent
+        Answer::Absent
         | Answer::Tool(_)
         | Answer::Triplet(_)
         | Answer::Unset
@@ -65,32 +64,13 @@ pub fn content_of(alloc: Global, answer: &Answer) -> Result<Option<Bytes>, Alloc
     }
 }
 
-/// The limit on steps that an answer gives.
-pub fn step_limit(answer: &Answer) -> u32
-    ensures { result ≡ step_limit answer.now }
-{
-    match answer {
-        Answer::Steps(limit) => *limit,
-        Answer::Absent
-        | Answer::Content(_)
-        | Answer::Tool(_)
-        | Answer::Triplet(_)
-        | Answer::Unset
-        | Answer::Value(_)
-        | Answer::Ended
-        | Answer::Entry(_)
-        | Answer::Reading(_) => 0,
-    }
-}
-
 /// The tool that an answer names.
 pub fn tool_of(answer: &Answer) -> &[u8]
     ensures { result.now ≡ tool_of answer.now }
 {
     match answer {
         Answer::Tool(tool) => tool.as_slice(),
-        Answer::Steps(_)
-        | Answer::Absent
+        Answer::Absent
         | Answer::Content(_)
         | Answer::Triplet(_)
         | Answer::Unset
@@ -107,8 +87,7 @@ pub fn triplet_of(answer: &Answer) -> &[u8]
 {
     match answer {
         Answer::Triplet(triplet) => triplet.as_slice(),
-        Answer::Steps(_)
-        | Answer::Absent
+        Answer::Absent
         | Answer::Content(_)
         | Answer::Tool(_)
         | Answer::Unset

@@ -24,7 +24,7 @@ mod switch;
 pub use crate::arguments::{four, only, split, three, two};
 pub use crate::boards::{
     any_pattern, board_file, content_of, flag_call, is_flagged, library_file, no_library,
-    step_limit, tool_library, tool_of, triplet_of,
+    tool_library, tool_of, triplet_of,
 };
 pub use crate::clause::clauses_of;
 pub use crate::elements::Elements;

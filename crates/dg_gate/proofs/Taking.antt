@@ -67,7 +67,6 @@ takes c (action.Spawn words) (entry.NoStart code given) fresh room made = by_wor
 takes c (action.Send bytes) (entry.Sent given) fresh room made = by_words c (action.Send bytes) (entry.Sent given) (same_bytes given bytes) room refl (same_text given bytes made)
 takes c (action.Send bytes) (entry.NoSend code given) fresh room made = by_words c (action.Send bytes) (entry.NoSend code given) (same_bytes given bytes) room refl (same_text given bytes made)
 takes c (action.Read limit) (entry.Chunk wait bytes) fresh room made = in_time c limit wait (entry.Chunk wait bytes) fresh room made.0 refl
-takes c (action.Read limit) (entry.ErrChunk wait bytes) fresh room made = in_time c limit wait (entry.ErrChunk wait bytes) fresh room made.0 refl
 takes c (action.Read limit) (entry.End wait) fresh room made = in_time c limit wait (entry.End wait) fresh room made refl
 takes c (action.Read limit) (entry.NoRead code) fresh room made = answered c (action.Read limit) (action.Read limit) (entry.NoRead code) room refl
 takes c (action.Read limit) (entry.Silence wait) fresh room made = subst (λ n. Takes c (action.Read limit) (entry.Silence n)) (sym made) (silent c limit fresh room)

@@ -17,7 +17,6 @@ Made (action.Spawn words) (entry.NoStart code given) = given ≡ words
 Made (action.Send bytes) (entry.Sent given) = given ≡ bytes
 Made (action.Send bytes) (entry.NoSend code given) = given ≡ bytes
 Made (action.Read limit) (entry.Chunk wait bytes) = (wait ≤ limit) × (1 ≤ length bytes) × (length bytes ≤ MAX_CHUNK)
-Made (action.Read limit) (entry.ErrChunk wait bytes) = (wait ≤ limit) × (1 ≤ length bytes) × (length bytes ≤ MAX_CHUNK)
 Made (action.Read limit) (entry.End wait) = wait ≤ limit
 Made (action.Read limit) (entry.NoRead code) = Unit {0}
 Made (action.Read limit) (entry.Silence wait) = wait ≡ limit

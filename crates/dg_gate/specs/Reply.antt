@@ -16,14 +16,10 @@ use Rattle.dg_gate.specs.declared.reply.Reply.{Reply}
 use Rattle.dg_gate.specs.declared.reply.Reply.TheVariants as reply
 use Rattle.dg_gate.specs.declared.reply.TheConstants.{MAX_CHUNK, MAX_SIGNAL}
 
--- a chunk comes within the limit, and has 1 to 4,096 bytes
-abbrev pub is_in_time : ℕ → ℕ → List ℕ → Bool
-is_in_time limit wait bytes = nat_le wait limit && (nat_le 1 (length bytes) && nat_le (length bytes) MAX_CHUNK)
-
 -- the entry of a read that gave a piece within its limit: a silence is of the whole limit
 abbrev pub entry_of_piece : ℕ → Piece → Option Entry
-entry_of_piece limit (piece.Chunk wait bytes) = if is_in_time limit wait bytes then Some (entry.Chunk wait bytes) else None
-entry_of_piece limit (piece.ErrChunk wait bytes) = if is_in_time limit wait bytes then Some (entry.ErrChunk wait bytes) else None
+entry_of_piece limit (piece.Chunk wait bytes) =
+    if nat_le wait limit && (nat_le 1 (length bytes) && nat_le (length bytes) MAX_CHUNK) then Some (entry.Chunk wait bytes) else None
 entry_of_piece limit (piece.End wait) = if nat_le wait limit then Some (entry.End wait) else None
 entry_of_piece limit piece.Silence = Some (entry.Silence limit)
 
@@ -58,11 +54,10 @@ fits a r = is_some (entry_of a r)
 abbrev pub Answered : (Reply → Type 0) → Action → ℕ → ℕ → Reply → Type 0
 Answered step a old new r = step r × (fits a r ≡ true) × (new ≡ old)
 
--- a call that was not: a step of the gate that fails with the code, and one failure more; or want of memory, which leaves the
--- gate as it was
-abbrev pub Refused : (Reply → Type 0) → Type 0 → ℕ → ℕ → GateFault → Type 0
-Refused step stays old new (fault.Device code) = step (reply.Failed code) × (new ≡ old + 1)
-Refused step stays old new fault.Memory = stays × (new ≡ old)
+-- a call that was not: a step of the gate that fails with the code, and one failure more; or want of memory
+abbrev pub Refused : (Reply → Type 0) → ℕ → ℕ → GateFault → Type 0
+Refused step old new (fault.Device code) = step (reply.Failed code) × (new ≡ old + 1)
+Refused step old new fault.Memory = new ≡ old
 
 -- what a list of answers gives: its first, or code 4 where there is none or it does not fit
 abbrev pub first_reply : Action → List Reply → Reply

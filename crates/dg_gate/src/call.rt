@@ -98,7 +98,6 @@ fn read<G: Gate>(gate: &mut G, session: u32, limit: u32) -> Result<Entry, AllocE
 {
     match gate.read(session, limit) {
         Ok(Piece::Chunk(wait, bytes)) => Ok(Entry::Chunk(wait, bytes)),
-        Ok(Piece::ErrChunk(wait, bytes)) => Ok(Entry::ErrChunk(wait, bytes)),
         Ok(Piece::End(wait)) => Ok(Entry::End(wait)),
         Ok(Piece::Silence) => Ok(Entry::Silence(limit)),
         Err(GateFault::Device(code)) => Ok(Entry::NoRead(code)),

@@ -5,7 +5,7 @@ use dg_bytes::{Bytes, Seq};
 
 /// A way to child processes. Sessions are numbered from 1, in the order in which they are started.
 /// A call that the child or the system refuses raises the count of failures by one and answers its
-/// code; want of memory changes nothing.
+/// code; want of memory leaves the count.
 pub trait Gate {
     ghost use Rattle.std.specs.Prelude.{ℕ, ◌≡◌, ◌-◌, ◌^◌, ◌<◌, OnOk, IfOk, IfErr};
     ghost use Rattle.dg_transcript.specs.declared.cursor.Action.{Action};
@@ -19,9 +19,6 @@ pub trait Gate {
 
     // What has to hold of a gate before a call, as that what it calls itself may be called.
     ghost is_ready: { Self → Type 0 };
-
-    // What a call that wants memory leaves as it was: the gate before, and the gate after.
-    ghost stays: { Self → Self → Type 0 };
 
     // How many calls were refused.
     ghost count: { Self → ℕ };
@@ -38,7 +35,7 @@ pub trait Gate {
         ensures ok { OnOk result (Answered (λ r. step self.old session (action.Spawn words.now) r self.new)
             (action.Spawn words.now) (count self.old) (count self.new) reply.Started) }
         ensures fault { IfErr result
-            (Refused (λ r. step self.old session (action.Spawn words.now) r self.new) (stays self.old self.new) (count self.old) (count self.new)) };
+            (Refused (λ r. step self.old session (action.Spawn words.now) r self.new) (count self.old) (count self.new)) };
 
     /// Sends bytes to the child.
     fn send(&mut self, session: u32, bytes: &Bytes) -> Result<(), GateFault>
@@ -48,9 +45,9 @@ pub trait Gate {
         ensures ok { OnOk result (Answered (λ r. step self.old session (action.Send bytes.now) r self.new)
             (action.Send bytes.now) (count self.old) (count self.new) reply.Sent) }
         ensures fault { IfErr result
-            (Refused (λ r. step self.old session (action.Send bytes.now) r self.new) (stays self.old self.new) (count self.old) (count self.new)) };
+            (Refused (λ r. step self.old session (action.Send bytes.now) r self.new) (count self.old) (count self.new)) };
 
-    /// Waits for the child's next bytes, or the end of its output and error stream, for so many milliseconds at most.
+    /// Waits for the child's next bytes or the end of its output, for so many milliseconds at most.
     fn read(&mut self, session: u32, limit: u32) -> Result<Piece, GateFault>
         requires room { count self.old < 2 ^ 64 - 1 }
         requires ready { is_ready self.old }
@@ -58,7 +55,7 @@ pub trait Gate {
         ensures ok { IfOk result (λ p. Answered (λ r. step self.old session (action.Read limit) r self.new)
             (action.Read limit) (count self.old) (count self.new) (reply.Piece p)) }
         ensures fault { IfErr result
-            (Refused (λ r. step self.old session (action.Read limit) r self.new) (stays self.old self.new) (count self.old) (count self.new)) };
+            (Refused (λ r. step self.old session (action.Read limit) r self.new) (count self.old) (count self.new)) };
 
     /// Closes the session.
     fn close(&mut self, session: u32) -> Result<(), GateFault>
@@ -68,7 +65,7 @@ pub trait Gate {
         ensures ok { OnOk result (Answered (λ r. step self.old session action.Close r self.new) action.Close
             (count self.old) (count self.new) reply.Closed) }
         ensures fault { IfErr result
-            (Refused (λ r. step self.old session action.Close r self.new) (stays self.old self.new) (count self.old) (count self.new)) };
+            (Refused (λ r. step self.old session action.Close r self.new) (count self.old) (count self.new)) };
 
     /// Waits for the child to end.
     fn wait(&mut self, session: u32) -> Result<Ended, GateFault>
@@ -78,5 +75,5 @@ pub trait Gate {
         ensures ok { IfOk result (λ e. Answered (λ r. step self.old session action.Wait r self.new) action.Wait
             (count self.old) (count self.new) (reply.Ended e)) }
         ensures fault { IfErr result
-            (Refused (λ r. step self.old session action.Wait r self.new) (stays self.old self.new) (count self.old) (count self.new)) };
+            (Refused (λ r. step self.old session action.Wait r self.new) (count self.old) (count self.new)) };
 }

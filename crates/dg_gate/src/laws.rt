@@ -1,17 +1,10 @@
 //! Laws of the entries that gates make, each the contract of a function that does nothing.
-ghost use Rattle.std.specs.Prelude.{◌≡◌, ◌<◌, ◌↔◌, None, Some};
+ghost use Rattle.std.specs.Prelude.{◌≡◌, ◌<◌, None};
 ghost use Rattle.dg_transcript.specs.declared.cursor.Cursor.{Cursor};
 ghost use Rattle.dg_transcript.specs.declared.cursor.Action.{Action};
 ghost use Rattle.dg_transcript.specs.declared.entry.Entry.{Entry};
 ghost use Rattle.dg_transcript.specs.declared.limits.TheConstants.{MAX_ENTRIES};
-ghost use Rattle.dg_gate.specs.declared.reply.Reply.{Reply as Told};
-ghost use Rattle.dg_gate.specs.Reply.{entry_of};
 ghost use Rattle.dg_gate.specs.Made.{Made, Takes};
-
-/// The entries that are made of an action are those that an answer to it makes.
-pub fn made_entries_are_of_answers()
-    ensures { (a : Action) (e : Entry) → Made a e ↔ ((r : Told) × (entry_of a r ≡ Some e)) }
-{}
 
 /// A replay that comes to an entry that a gate made of the same action takes it: as the answer, or
 /// as a silence that is used up as the limit passes.

@@ -14,6 +14,6 @@ pub use crate::asker::Asker;
 pub use crate::call::perform;
 pub use crate::fault::{AskFault, GateFault};
 pub use crate::gate::Gate;
-pub use crate::laws::{made_entries_are_of_answers, made_entries_are_taken};
+pub use crate::laws::made_entries_are_taken;
 pub use crate::reply::{Ended, Piece, Reply};
 pub use crate::script::ScriptGate;

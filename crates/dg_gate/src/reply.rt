@@ -12,14 +12,12 @@ const MAX_CHUNK: usize = 4_096;
 /// The greatest number of a signal.
 const MAX_SIGNAL: u8 = 127;
 
-/// What a read gives. Each wait is in milliseconds, and at most the limit.
+/// What a read gives.
 #[derive(Drop)]
 pub enum Piece {
-    /// After this wait the child wrote these bytes to its output: 1 to 4,096.
+    /// After so many milliseconds, at most the limit, these bytes came: 1 to 4,096.
     Chunk(u32, Bytes),
-    /// After this wait the child wrote these bytes to its error stream: 1 to 4,096.
-    ErrChunk(u32, Bytes),
-    /// After this wait both the output and the error stream had ended.
+    /// After so many milliseconds, at most the limit, the output ended.
     End(u32),
     /// Nothing came within the limit.
     Silence,
@@ -57,7 +55,7 @@ impl Piece {
         ensures { result ≡ fits (action.Read limit) (reply.Piece self.now) }
     {
         match self {
-            Piece::Chunk(wait, bytes) | Piece::ErrChunk(wait, bytes) => {
+            Piece::Chunk(wait, bytes) => {
                 let length = bytes.len();
                 *wait <= limit && 1 <= length && length <= MAX_CHUNK
             }

@@ -59,8 +59,6 @@ impl Gate for ScriptGate {
 
     ghost is_ready = { λ g. Unit {0} };
 
-    ghost stays = { λ before after. after ≡ before };
-
     ghost count = { λ g. g.failures };
 
     fn failures(&self) -> u64 {

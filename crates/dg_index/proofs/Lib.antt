@@ -1,6 +1,5 @@
 pub mod Crosses
 pub mod IndexLemmas
-pub mod RecentLemmas
 pub mod KeptLemmas
 pub mod LookingLemmas
 pub mod MarksLemmas

@@ -1,13 +1,12 @@
 -- What is known by numbers, and stays known.
-use Rattle.std.proofs.Common.{◌≡◌, ◌∙◌, ◌≤◌, ◌<◌, ◌+◌, ◌++◌, ℕ, zero, suc, Bool, true, false, cond, List, [], ◌∷◌, length, map, take, get_or, refl, ap, sym, subst, arith}
-use Rattle.std.specs.Option.{option_to_list}
+use Rattle.std.proofs.Common.{◌≡◌, ◌∙◌, ◌≤◌, ◌<◌, ◌+◌, ◌++◌, ℕ, zero, suc, Bool, true, false, cond, List, [], ◌∷◌, length, take, get_or, refl, ap, sym, subst, arith}
 use Rattle.std.specs.Prelude.{◌-◌, ◌&&◌, Option, Some, None, Ok, not, slice_get, option_and_then, if◌then◌else◌, is_some, nat_le}
 use Rattle.std.specs.Cmp.Lexicographic.{bytes_decides, slice_cmp, texts_ties}
 use Rattle.std.specs.declared.cmp.Ordering.{Ordering}
 use Rattle.std.specs.declared.cmp.Ordering.TheVariants.{Less, Equal, Greater}
 use Rattle.std.specs.Ordering.{nat_cmp, is_eq, match_ordering}
 use Rattle.std.specs.BTreeMap.{insert_entry, is_at}
-use Rattle.std.specs.Map.{lookup, set_value, values_of}
+use Rattle.std.specs.Map.{lookup, values_of}
 use Rattle.std.proofs.lemmas.List.{map_push, take_more}
 use Rattle.indexmap.specs.IndexMap.{insert_entry as insert_record}
 use Rattle.dg_contents.specs.Contents.{ContentsView, number_of, holders_of, one_at, IsNumbering, KeepsHeldNumbers, KeepsNumbers}
@@ -18,14 +17,12 @@ use Rattle.dg_world.specs.Name.{is_name}
 use Rattle.dg_world.specs.declared.edit.Edit.TheVariants.{PutFile}
 use Rattle.dg_world.specs.declared.question.Answer.TheVariants.{Content}
 use Rattle.dg_world.specs.declared.question.Question.{Question}
-use Rattle.dg_world.specs.declared.question.Question.TheVariants.{Steps, File, Tool, Triplet, Variable, Entry, Pattern}
+use Rattle.dg_world.specs.declared.question.Question.TheVariants.{File, Tool, Triplet, Variable, Entry, Pattern}
 use Rattle.dg_world.specs.declared.question.Read.{Read}
 use Rattle.dg_world.specs.declared.refusal.Refusal.TheVariants.{BadName, TooLong, TooMany}
 use Rattle.dg_world.specs.declared.test_id.TestId.{TestId}
-use Rattle.dg_records.specs.Shelf.{as_newest}
-use Rattle.dg_index.specs.Kept.{with_marked}
-use Rattle.dg_index.specs.Marks.{Entries, MarkedView, looked, all_looked}
-use Rattle.dg_index.specs.Numbers.{content_read, given_among, given_once, given_at, given_by, given_in, number_in, numbers_in, AllHaveNumbers, AllNumbered, AllRecordsHave, AreNumbered, HasNumber, HoldsMore, IsNumbered, Tells, TellsOn}
+use Rattle.dg_index.specs.Marks.{MarkedView, looked, all_looked}
+use Rattle.dg_index.specs.Numbers.{content_read, given_once, given_at, given_by, given_in, number_in, numbers_in, AllHaveNumbers, AllNumbered, HasNumber, HoldsMore, IsNumbered, Tells, TellsOn}
 use Rattle.dg_index.specs.Topic.{is_on}
 use Rattle.dg_index.specs.declared.numbers.Now.{Now}
 use Rattle.dg_index.specs.declared.numbers.Now.TheVariants.{Numbered}
@@ -33,6 +30,9 @@ use Rattle.dg_index.specs.declared.topic.Topic.{Topic}
 use Rattle.dg_index.specs.declared.topic.Topic.TheVariants as topic
 use Rattle.dg_index.proofs.TopicLemmas.{made}
 use Rattle.dg_index.proofs.LookingLemmas.{looked_where}
+
+abbrev Entries : Type 0
+Entries = List (TestId × MarkedView)
 
 one_at-itself : (text : List ℕ) → one_at text text ≡ 1
 one_at-itself text = ap (λ b. if b then 1 else 0) ((bytes_decides text text).1 refl)
@@ -87,31 +87,18 @@ numbers-more c rs i r lt is =
 
 -- the records that are kept
 module _ (c d : ContentsView) where
-  are-numbered-stay : (ms : List MarkedView) → KeepsNumbers c d → ((t : List ℕ) → given_among t ms ≤ holders_of c t) → AreNumbered c ms → AreNumbered d ms
-  are-numbered-stay [] keeps held h = tt
-  are-numbered-stay (m ∷ ms) keeps held h = (
-    h.0 ∙ sym (numbers-stay c d m.record_of.reads keeps (all-have c m.record_of.reads (λ t. omega (arith, held t)))),
-    are-numbered-stay ms keeps (λ t. omega (arith, held t)) h.1,
-  )
-
   numbered-stay : (es : Entries) → KeepsNumbers c d → ((t : List ℕ) → given_in t es ≤ holders_of c t) → AllNumbered c es → AllNumbered d es
   numbered-stay [] keeps held h = tt
-  numbered-stay (e ∷ es) keeps held h =
-      (are-numbered-stay e.1 keeps (λ t. omega (arith, held t)) h.0, numbered-stay es keeps (λ t. omega (arith, held t)) h.1)
-
-  are-numbered-kept : (ms : List MarkedView) → KeepsHeldNumbers c d → ((t : List ℕ) → given_among t ms ≤ holders_of c t)
-      → ((t : List ℕ) → given_among t ms ≤ holders_of d t) → AreNumbered c ms → AreNumbered d ms
-  are-numbered-kept [] keeps held left h = tt
-  are-numbered-kept (m ∷ ms) keeps held left h = (
-    h.0 ∙ sym (numbers-kept c d m.record_of.reads keeps (λ t. omega (arith, left t)) (all-have c m.record_of.reads (λ t. omega (arith, held t)))),
-    are-numbered-kept ms keeps (λ t. omega (arith, held t)) (λ t. omega (arith, left t)) h.1,
+  numbered-stay (e ∷ es) keeps held h = (
+    h.0 ∙ sym (numbers-stay c d e.1.record_of.reads keeps (all-have c e.1.record_of.reads (λ t. omega (arith, held t)))),
+    numbered-stay es keeps (λ t. omega (arith, held t)) h.1,
   )
 
   numbered-kept : (es : Entries) → KeepsHeldNumbers c d → ((t : List ℕ) → given_in t es ≤ holders_of c t) → ((t : List ℕ) → given_in t es ≤ holders_of d t)
       → AllNumbered c es → AllNumbered d es
   numbered-kept [] keeps held left h = tt
   numbered-kept (e ∷ es) keeps held left h = (
-    are-numbered-kept e.1 keeps (λ t. omega (arith, held t)) (λ t. omega (arith, left t)) h.0,
+    h.0 ∙ sym (numbers-kept c d e.1.record_of.reads keeps (λ t. omega (arith, left t)) (all-have c e.1.record_of.reads (λ t. omega (arith, held t)))),
     numbered-kept es keeps (λ t. omega (arith, held t)) (λ t. omega (arith, left t)) h.1,
   )
 
@@ -135,21 +122,13 @@ module _ (c d : ContentsView) where
   }
 
 -- looking again leaves the numbers
-looked-given-among : (w : WorldView) (t : Topic) (text : List ℕ) (ms : List MarkedView) → given_among text (map (looked w t) ms) ≡ given_among text ms
-looked-given-among w t text [] = refl
-looked-given-among w t text (m ∷ ms) = ap (λ n. given_by text m.record_of.reads + n) (looked-given-among w t text ms)
-
 looked-given : (w : WorldView) (t : Topic) (text : List ℕ) (es : Entries) → given_in text (all_looked w t es) ≡ given_in text es
 looked-given w t text [] = refl
-looked-given w t text (e ∷ es) = λ i. looked-given-among w t text e.1 i + looked-given w t text es i
-
-looked-are-numbered : (w : WorldView) (t : Topic) (c : ContentsView) (ms : List MarkedView) → AreNumbered c ms → AreNumbered c (map (looked w t) ms)
-looked-are-numbered w t c [] h = tt
-looked-are-numbered w t c (m ∷ ms) h = (h.0, looked-are-numbered w t c ms h.1)
+looked-given w t text (e ∷ es) = ap (λ n. given_by text e.1.record_of.reads + n) (looked-given w t text es)
 
 looked-numbered : (w : WorldView) (t : Topic) (c : ContentsView) (es : Entries) → AllNumbered c es → AllNumbered c (all_looked w t es)
 looked-numbered w t c [] h = tt
-looked-numbered w t c (e ∷ es) h = (looked-are-numbered w t c e.1 h.0, looked-numbered w t c es h.1)
+looked-numbered w t c (e ∷ es) h = (h.0, looked-numbered w t c es h.1)
 
 pub is_numbered-looked : (w : WorldView) (t : Topic) (c : ContentsView) (es fs : Entries) → fs ≡ all_looked w t es → IsNumbered c es → IsNumbered c fs
 is_numbered-looked w t c es fs is k =
@@ -161,101 +140,58 @@ is_numbered-looked w t c es fs is k =
 pub holds_more-looked : (w : WorldView) (t : Topic) (c : ContentsView) (es fs : Entries) (rs : List Read) → fs ≡ all_looked w t es → HoldsMore c es rs → HoldsMore c fs rs
 holds_more-looked w t c es fs rs is more text = omega (arith, looked-given w t text es, ap (given_in text) is, more text)
 
--- the contents of records have numbers where they are held
-records-have : (c : ContentsView) (ms : List MarkedView) → ((text : List ℕ) → given_among text ms ≤ holders_of c text) → AllRecordsHave c ms
-records-have c [] held = tt
-records-have c (m ∷ ms) held = (all-have c m.record_of.reads (λ text. omega (arith, held text)), records-have c ms (λ text. omega (arith, held text)))
+-- a record among those some of which were looked at again
+abbrev pub KnowsNumbers : ContentsView → MarkedView → Type 0
+KnowsNumbers c m = (m.numbers ≡ numbers_in c m.record_of.reads) × AllHaveNumbers c m.record_of.reads
 
-looked-have : (w : WorldView) (t : Topic) (c : ContentsView) (ms : List MarkedView) → AllRecordsHave c ms → AllRecordsHave c (map (looked w t) ms)
-looked-have w t c [] h = tt
-looked-have w t c (m ∷ ms) h = (h.0, looked-have w t c ms h.1)
-
--- the records of a test among those some of which were looked at again
-abbrev pub KnowNumbers : ContentsView → List MarkedView → Type 0
-KnowNumbers c ms = AreNumbered c ms × AllRecordsHave c ms
-
-knows-where : (w : WorldView) (t : Topic) (c : ContentsView) (es : Entries) (f : ℕ → Bool) (p : ℕ) (ms : List MarkedView) → AllNumbered c es
-    → ((text : List ℕ) → given_in text es ≤ holders_of c text) → Some ms ≡ slice_get (values_of (looked_where w t f es)) p → KnowNumbers c ms
-knows-where w t c [] f p ms h held is = cc
-knows-where w t c (e ∷ es) f zero ms h held is = step (f zero) is
+knows-where : (w : WorldView) (t : Topic) (c : ContentsView) (es : Entries) (f : ℕ → Bool) (p : ℕ) (m : MarkedView) → AllNumbered c es → ((text : List ℕ) → given_in text es ≤ holders_of c text)
+    → Some m ≡ slice_get (values_of (looked_where w t f es)) p → KnowsNumbers c m
+knows-where w t c [] f p m h held is = cc
+knows-where w t c (e ∷ es) f zero m h held is = step (f zero) is
   where
-    have : AllRecordsHave c e.1
-    have = records-have c e.1 (λ text. omega (arith, held text))
+    have : AllHaveNumbers c e.1.record_of.reads
+    have = all-have c e.1.record_of.reads (λ text. omega (arith, held text))
 
-    step : (b : Bool) → Some ms ≡ Some (cond b (map (looked w t) e.1) e.1) → KnowNumbers c ms
-    step true same = let it : ms ≡ map (looked w t) e.1 = cc in subst (KnowNumbers c) (sym it) (looked-are-numbered w t c e.1 h.0, looked-have w t c e.1 have)
-    step false same = let it : ms ≡ e.1 = cc in subst (KnowNumbers c) (sym it) (h.0, have)
-knows-where w t c (e ∷ es) f (suc p) ms h held is = knows-where w t c es (λ k. f (suc k)) p ms h.1 (λ text. omega (arith, held text)) is
+    step : (b : Bool) → Some m ≡ Some (cond b (looked w t e.1) e.1) → KnowsNumbers c m
+    step true same = let it : m ≡ looked w t e.1 = cc in subst (KnowsNumbers c) (sym it) (h.0, have)
+    step false same = let it : m ≡ e.1 = cc in subst (KnowsNumbers c) (sym it) (h.0, have)
+knows-where w t c (e ∷ es) f (suc p) m h held is = knows-where w t c es (λ k. f (suc k)) p m h.1 (λ text. omega (arith, held text)) is
 
-pub knows-numbers : (w : WorldView) (t : Topic) (c : ContentsView) (es : Entries) (f : ℕ → Bool) (p : ℕ) (ms : List MarkedView) → IsNumbered c es
-    → Some ms ≡ slice_get (values_of (looked_where w t f es)) p → KnowNumbers c ms
-knows-numbers w t c es f p ms k is = knows-where w t c es f p ms k.numbered k.held is
+pub knows-numbers : (w : WorldView) (t : Topic) (c : ContentsView) (es : Entries) (f : ℕ → Bool) (p : ℕ) (m : MarkedView) → IsNumbered c es
+    → Some m ≡ slice_get (values_of (looked_where w t f es)) p → KnowsNumbers c m
+knows-numbers w t c es f p m k is = knows-where w t c es f p m k.numbered k.held is
 
--- records with a newer one in front, of which a fifth is dropped
-given-append : (text : List ℕ) (ms ns : List MarkedView) → given_among text (ms ++ ns) ≡ given_among text ms + given_among text ns
-given-append text [] ns = omega arith
-given-append text (m ∷ ms) ns = omega (arith, given-append text ms ns)
-
-given-dropped : (text : List ℕ) (o : Option MarkedView) → given_among text (option_to_list o) ≡ given_at text o
-given-dropped text None = refl
-given-dropped text (Some m) = omega arith
-
-given-newest : (text : List ℕ) (m : MarkedView) (old new : List MarkedView) (o : Option MarkedView) → new ++ option_to_list o ≡ m ∷ old
-    → given_among text new + given_at text o ≡ given_by text m.record_of.reads + given_among text old
-given-newest text m old new o is =
-    sym (given-append text new (option_to_list o) ∙ ap (λ n. given_among text new + n) (given-dropped text o)) ∙ ap (given_among text) is
-
--- a record that is placed beside others
-pub given-again : (text : List ℕ) (es : Entries) (t : TestId) (m : MarkedView) (old new : List MarkedView) (o : Option MarkedView) → lookup (same_test t) es ≡ Some old
-    → new ++ option_to_list o ≡ m ∷ old → given_in text (set_value (same_test t) es new) + given_at text o ≡ given_in text es + given_by text m.record_of.reads
-given-again text [] t m old new o h is = cc
-given-again text (e ∷ es) t m old new o h is = step (same_test t e.0) h (given-again text es t m old new o)
+-- a record that is placed, and the one that its test had
+given-inserted : (text : List ℕ) (es : Entries) (k : TestId) (m : MarkedView)
+    → given_in text (insert_record same_test es k m) + given_at text (lookup (same_test k) es) ≡ given_in text es + given_by text m.record_of.reads
+given-inserted text [] k m = omega arith
+given-inserted text (e ∷ es) k m = step (same_test k e.0) (given-inserted text es k m)
   where
-    step : (b : Bool) → cond b (Some e.1) (lookup (same_test t) es) ≡ Some old
-        → (lookup (same_test t) es ≡ Some old → new ++ option_to_list o ≡ m ∷ old
-        → given_in text (set_value (same_test t) es new) + given_at text o ≡ given_in text es + given_by text m.record_of.reads)
-        → given_in text (cond b ((e.0, new) ∷ es) (e ∷ set_value (same_test t) es new)) + given_at text o ≡ given_in text (e ∷ es) + given_by text m.record_of.reads
-    step true h ih =
-        let same : e.1 ≡ old = cc in
-        omega (arith, given-newest text m old new o is, ap (given_among text) same)
-    step false h ih = omega (arith, ih h is)
+    step : (b : Bool) → given_in text (insert_record same_test es k m) + given_at text (lookup (same_test k) es) ≡ given_in text es + given_by text m.record_of.reads
+        → given_in text (cond b ((e.0, m) ∷ es) (e ∷ insert_record same_test es k m)) + given_at text (cond b (Some e.1) (lookup (same_test k) es))
+        ≡ given_in text (e ∷ es) + given_by text m.record_of.reads
+    step true ih = omega arith
+    step false ih = omega (arith, ih)
 
--- and as the first of its test
-pub given-first : (text : List ℕ) (es : Entries) (t : TestId) (m : MarkedView) (new : List MarkedView) → lookup (same_test t) es ≡ None → new ≡ m ∷ []
-    → given_in text (insert_record same_test es t new) ≡ given_in text es + given_by text m.record_of.reads
-given-first text [] t m new h is = omega (arith, ap (given_among text) is)
-given-first text (e ∷ es) t m new h is = step (same_test t e.0) h (given-first text es t m new)
+numbered-inserted : (c : ContentsView) (es : Entries) (k : TestId) (m : MarkedView) → m.numbers ≡ numbers_in c m.record_of.reads → AllNumbered c es → AllNumbered c (insert_record same_test es k m)
+numbered-inserted c [] k m here h = (here, tt)
+numbered-inserted c (e ∷ es) k m here h = step (same_test k e.0) (numbered-inserted c es k m here h.1)
   where
-    step : (b : Bool) → cond b (Some e.1) (lookup (same_test t) es) ≡ None
-        → (lookup (same_test t) es ≡ None → new ≡ m ∷ [] → given_in text (insert_record same_test es t new) ≡ given_in text es + given_by text m.record_of.reads)
-        → given_in text (cond b ((e.0, new) ∷ es) (e ∷ insert_record same_test es t new)) ≡ given_in text (e ∷ es) + given_by text m.record_of.reads
-    step true h ih = cc
-    step false h ih = omega (arith, ih h is)
-
-are-numbered-take : (c : ContentsView) (n : ℕ) (ms : List MarkedView) → AreNumbered c ms → AreNumbered c (take n ms)
-are-numbered-take c zero ms h = tt
-are-numbered-take c (suc n) [] h = tt
-are-numbered-take c (suc n) (m ∷ ms) h = (h.0, are-numbered-take c n ms h.1)
-
-numbered-with : (c : ContentsView) (es : Entries) (t : TestId) (m : MarkedView) → m.numbers ≡ numbers_in c m.record_of.reads → AllNumbered c es → AllNumbered c (with_marked es t m)
-numbered-with c [] t m here h = ((here, tt), tt)
-numbered-with c (e ∷ es) t m here h = step (same_test t e.0) (numbered-with c es t m here h.1)
-  where
-    step : (b : Bool) → AllNumbered c (with_marked es t m) → AllNumbered c (cond b ((e.0, as_newest m e.1) ∷ es) (e ∷ with_marked es t m))
-    step true ih = (are-numbered-take c 4 (m ∷ e.1) (here, h.0), h.1)
+    step : (b : Bool) → AllNumbered c (insert_record same_test es k m) → AllNumbered c (cond b ((e.0, m) ∷ es) (e ∷ insert_record same_test es k m))
+    step true ih = (here, h.1)
     step false ih = (h.0, ih)
 
-pub is_numbered-placed : (c d : ContentsView) (es fs : Entries) (t : TestId) (m : MarkedView) (o : Option MarkedView) → fs ≡ with_marked es t m → m.numbers ≡ numbers_in c m.record_of.reads
+pub is_numbered-placed : (c d : ContentsView) (es fs : Entries) (k : TestId) (m : MarkedView) → fs ≡ insert_record same_test es k m → m.numbers ≡ numbers_in c m.record_of.reads
     → HoldsMore c es m.record_of.reads → IsNumbered c es → KeepsHeldNumbers c d
-    → ((text : List ℕ) → given_in text fs + given_at text o ≡ given_in text es + given_by text m.record_of.reads)
-    → ((text : List ℕ) → holders_of d text ≡ holders_of c text - given_at text o) → IsNumbered d fs
-is_numbered-placed c d es fs t m o is numbers more h keeps given fewer = record {
-  numbered = numbered-kept c d fs keeps (λ text. omega (arith, given text, more text)) left (subst (AllNumbered c) (sym is) (numbered-with c es t m numbers h.numbered));
-  held = left;
-}
+    → ((text : List ℕ) → holders_of d text ≡ holders_of c text - given_at text (lookup (same_test k) es)) → IsNumbered d fs
+is_numbered-placed c d es fs k m is numbers more h keeps fewer =
+    subst (IsNumbered d) (sym is) (record {
+      numbered = numbered-kept c d (insert_record same_test es k m) keeps (λ t. omega (arith, given-inserted t es k m, more t)) left (numbered-inserted c es k m numbers h.numbered);
+      held = left;
+    })
   where
-    left : (text : List ℕ) → given_in text fs ≤ holders_of d text
-    left text = omega (arith, given text, more text, fewer text)
+    left : (t : List ℕ) → given_in t (insert_record same_test es k m) ≤ holders_of d t
+    left t = omega (arith, given-inserted t es k m, more t, fewer t)
 
 -- what a file has that was put
 module _ (w : WorldView) (name bytes : List ℕ) where
@@ -284,7 +220,6 @@ module _ (w : WorldView) (name bytes : List ℕ) where
 
 on-file : (name : List ℕ) (q : Question) → is_on (topic.File name) q ≡ true → q ≡ File name
 on-file name (File n) on = ap File (sym ((bytes_decides name n).0 on))
-on-file name Steps on = cc
 on-file name Tool on = cc
 on-file name (Triplet machine) on = cc
 on-file name (Variable n) on = cc

@@ -10,25 +10,28 @@ use Rattle.std.specs.Map.{lookup, remove_entry}
 use Rattle.std.specs.Cmp.Lexicographic.{slice_cmp, bytes_decides, texts_ties}
 use Rattle.dg_match.specs.declared.reading.Reading.{Reading as ReadingOfText}
 use Rattle.dg_match.specs.Book.{reading_of}
-use Rattle.dg_transcript.specs.Transcript.{TranscriptView}
+use Rattle.dg_transcript.specs.declared.entry.Entry.{Entry as EntryOfSession}
 use Rattle.dg_transcript.specs.Sessions.{entry_at}
 use Rattle.dg_world.specs.Name.{is_name, is_single_part}
 use Rattle.dg_bytes.specs.Same.{same_bytes}
 use Rattle.dg_world.specs.Test.{TestView, test_cmp, test_of}
-use Rattle.dg_world.specs.Transcripts.{entry_answer, for_test, for_transcript, transcript_in}
+use Rattle.dg_world.specs.Transcripts.{entry_answer, for_test, for_sessions, transcript_in}
 use Rattle.dg_world.specs.World.{WorldView, look, answer_of, content_of, transcript_of, edited, recorded, lacks_room, with_file, without_file, with_transcript, without_transcript, IsAsked}
 use Rattle.dg_world.specs.declared.edit.Edit.{Edit}
 use Rattle.dg_world.specs.declared.edit.Edit.TheVariants.{PutFile, RemoveFile, Select, PutTranscript, DropTranscript}
 use Rattle.dg_world.specs.declared.question.Answer.{Answer}
 use Rattle.dg_world.specs.declared.question.Answer.TheVariants as answer
 use Rattle.dg_world.specs.declared.question.Question.{Question}
-use Rattle.dg_world.specs.declared.question.Question.TheVariants.{Steps, File, Tool, Triplet, Variable, Entry, Pattern}
+use Rattle.dg_world.specs.declared.question.Question.TheVariants.{File, Tool, Triplet, Variable, Entry, Pattern}
 use Rattle.dg_world.specs.declared.refusal.Refusal.{Refusal}
 use Rattle.dg_world.specs.Selection.{is_selection}
 use Rattle.dg_world.specs.declared.refusal.Refusal.TheVariants.{BadName, TooLong, TooMany, NoSuchFile, NoSuchTranscript, BadSelection}
 use Rattle.dg_world.specs.declared.selection.Selection.{Selection}
 use Rattle.dg_index.specs.Topic.{is_on, topic_of, touched}
 use Rattle.dg_index.specs.declared.topic.Topic.TheVariants as topic
+
+abbrev Sessions : Type 0
+Sessions = List (List EntryOfSession)
 
 -- a test that fails at one of two equal values fails at the other
 not_at : {X : Type 0} (test : X → Bool) (x y : X) → test x ≡ false → x ≡ y → test y ≡ false
@@ -96,7 +99,6 @@ files-look : (w : WorldView) (name : List ℕ) (fs : List (List ℕ × List ℕ)
     → ((n : List ℕ) → same_bytes name n ≡ false → lookup (is_at (slice_cmp nat_cmp n)) fs ≡ lookup (is_at (slice_cmp nat_cmp n)) w.files)
     → (q : Question) → is_on (topic.File name) q ≡ false → look (record w { files = fs }) q ≡ look w q
 files-look w name fs h (File n) other = ap (λ o. Some (answer_of o)) (h n other)
-files-look w name fs h Steps other = refl
 files-look w name fs h Tool other = refl
 files-look w name fs h (Triplet machine) other = refl
 files-look w name fs h (Variable n) other = refl
@@ -104,21 +106,19 @@ files-look w name fs h (Entry place) other = refl
 files-look w name fs h (Pattern text) other = refl
 
 -- and other transcripts those that aren't on them
-transcripts-look : (w : WorldView) (t : TestView) (ts : List (TestView × TranscriptView))
+transcripts-look : (w : WorldView) (t : TestView) (ts : List (TestView × Sessions))
     → ((u : TestView) → (same_bytes t.board u.board && same_bytes t.script u.script) ≡ false → lookup (is_at (test_cmp u)) ts ≡ lookup (is_at (test_cmp u)) w.transcripts)
     → (q : Question) → is_on (topic.Transcript t.board t.script) q ≡ false → look (record w { transcripts = ts }) q ≡ look w q
 transcripts-look w t ts h (File n) other = refl
-transcripts-look w t ts h Steps other = refl
 transcripts-look w t ts h Tool other = refl
 transcripts-look w t ts h (Triplet machine) other = refl
 transcripts-look w t ts h (Variable n) other = refl
 transcripts-look w t ts h (Entry place) other =
-    ap (λ o. Some (entry_answer (option_and_then (λ (kept : TranscriptView). entry_at kept.sessions place.session place.place) o))) (h place.test other)
+    ap (λ o. Some (entry_answer (option_and_then (λ (ss : Sessions). entry_at ss place.session place.place) o))) (h place.test other)
 transcripts-look w t ts h (Pattern text) other = refl
 
 selection-look : (w : WorldView) (s : Selection) (q : Question) → is_on topic.Selection q ≡ false → look (record w { selection = s }) q ≡ look w q
 selection-look w s (File n) other = refl
-selection-look w s Steps other = cc
 selection-look w s Tool other = cc
 selection-look w s (Triplet machine) other = cc
 selection-look w s (Variable n) other = cc
@@ -145,9 +145,9 @@ removed-look : (w : WorldView) (name : List ℕ) (q : Question) → is_on (topic
 removed-look w name q other =
     files-look w name _ (λ n apart. lookup-remove_other (slice_cmp nat_cmp) bytes_equal w.files n name (other_name name n apart)) q other
 
-recorded_in-look : (w : WorldView) (t : TestView) (transcript : TranscriptView) (q : Question) → is_on (topic.Transcript t.board t.script) q ≡ false → look (with_transcript w t transcript) q ≡ look w q
-recorded_in-look w t transcript q other =
-    transcripts-look w t _ (λ u apart. lookup-insert_other test_cmp tests_equal w.transcripts u t transcript (other_test t u apart)) q other
+recorded_in-look : (w : WorldView) (t : TestView) (ss : Sessions) (q : Question) → is_on (topic.Transcript t.board t.script) q ≡ false → look (with_transcript w t ss) q ≡ look w q
+recorded_in-look w t ss q other =
+    transcripts-look w t _ (λ u apart. lookup-insert_other test_cmp tests_equal w.transcripts u t ss (other_test t u apart)) q other
 
 dropped-look : (w : WorldView) (t : TestView) (q : Question) → is_on (topic.Transcript t.board t.script) q ≡ false → look (without_transcript w t) q ≡ look w q
 dropped-look w t q other =
@@ -165,10 +165,10 @@ named_test board script f v h = step (is_single_part board && is_name script) h
     step true g = g
     step false g = cc
 
-transcript-look : (w v : WorldView) (t : TestView) (r : Result TranscriptView Refusal) (q : Question) → for_transcript r (with_transcript w t) ≡ Ok v
+sessions-look : (w v : WorldView) (t : TestView) (r : Result Sessions Refusal) (q : Question) → for_sessions r (with_transcript w t) ≡ Ok v
     → is_on (topic.Transcript t.board t.script) q ≡ false → look v q ≡ look w q
-transcript-look w v t (Ok transcript) q h other = made-look w (with_transcript w t transcript) v q (Ok (with_transcript w t transcript)) h refl (recorded_in-look w t transcript q other)
-transcript-look w v t (Err refusal) q h other = cc
+sessions-look w v t (Ok ss) q h other = made-look w (with_transcript w t ss) v q (Ok (with_transcript w t ss)) h refl (recorded_in-look w t ss q other)
+sessions-look w v t (Err refusal) q h other = cc
 
 -- an edit that is made leaves the answers to the questions of the other topics
 pub edited-look : (w v : WorldView) (e : Edit) (q : Question) → edited w e ≡ Ok v → is_on (touched e) q ≡ false → look v q ≡ look w q
@@ -183,15 +183,15 @@ edited-look w v (Select selection) q h other =
     made-look w (record w { selection = selection }) v q (Ok (record w { selection = selection })) (made_where (is_selection selection) BadSelection _ v h) refl (selection-look w selection q other)
 edited-look w v (PutTranscript board script text) q h other =
     let t : TestView = record { board = board; script = script } in
-    transcript-look w v t (transcript_in text) q (made (lacks_room w t) TooMany _ v (named_test board script _ v h)) other
+    sessions-look w v t (transcript_in text) q (made (lacks_room w t) TooMany _ v (named_test board script _ v h)) other
 edited-look w v (DropTranscript board script) q h other =
     let t : TestView = record { board = board; script = script } in
     made-look w (without_transcript w t) v q (Ok (without_transcript w t)) (made_where (is_some (transcript_of w t)) NoSuchTranscript _ v (named_test board script _ v h)) refl (dropped-look w t q other)
 
 -- so does the recording of a transcript
-pub recorded-look : (w v : WorldView) (t : TestView) (transcript : TranscriptView) (q : Question) → recorded w t transcript ≡ Ok v → is_on (topic.Transcript t.board t.script) q ≡ false → look v q ≡ look w q
-recorded-look w v t transcript q h other =
-    made-look w (with_transcript w t transcript) v q (Ok (with_transcript w t transcript)) (made (lacks_room w t) TooMany _ v h) refl (recorded_in-look w t transcript q other)
+pub recorded-look : (w v : WorldView) (t : TestView) (ss : Sessions) (q : Question) → recorded w t ss ≡ Ok v → is_on (topic.Transcript t.board t.script) q ≡ false → look v q ≡ look w q
+recorded-look w v t ss q h other =
+    made-look w (with_transcript w t ss) v q (Ok (with_transcript w t ss)) (made (lacks_room w t) TooMany _ v h) refl (recorded_in-look w t ss q other)
 
 -- what the book has for another text stays as one is read
 reading-more : (book : List (List ℕ × ReadingOfText)) (text other_text : List ℕ) (r : ReadingOfText) → same_bytes text other_text ≡ false
@@ -202,7 +202,6 @@ reading-more (e ∷ book) text other_text r apart = ap (λ o. cond (same_bytes o
 
 book-look : (w : WorldView) (text : List ℕ) (r : ReadingOfText) (q : Question) → is_on (topic.Pattern text) q ≡ false → look (record w { book = w.book ++ (text, r) ∷ [] }) q ≡ look w q
 book-look w text r (File n) other = refl
-book-look w text r Steps other = refl
 book-look w text r Tool other = refl
 book-look w text r (Triplet machine) other = refl
 book-look w text r (Variable n) other = refl

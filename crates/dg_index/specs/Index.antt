@@ -1,16 +1,17 @@
--- An index: the places of the tests whose records read a topic.
+-- An index: the places of the records that read a topic.
 use Rattle.std.specs.Prelude.{ℕ, suc, Bool, List, [], ◌∷◌, ◌≡◌, ◌⊎◌, true, false, Option, Some, IsTrue, MatchOption, nat_eq, unwrap_or}
 use Rattle.std.specs.Borrow.{Bor}
 use Rattle.std.specs.List.{list_any, IsDistinct}
 use Rattle.std.specs.Map.{lookup}
 use Rattle.dg_world.specs.declared.question.Read.{Read}
+use Rattle.dg_world.specs.declared.test_id.TestId.{TestId}
 use Rattle.dg_index.specs.declared.index.Named.{Named}
 use Rattle.dg_index.specs.declared.topic.Topic.{Topic}
 use Rattle.dg_index.specs.declared.topic.Topic.TheVariants as topic
-use Rattle.dg_index.specs.Marks.{Entries, MarkedView, reads_among, records_of}
+use Rattle.dg_index.specs.Marks.{MarkedView, reads_on}
 use Rattle.dg_index.specs.Topic.{same_topic, topic_of}
 
--- each topic with the places of the tests whose records may read it
+-- each topic with the places of records that may read it
 abbrev pub IndexView : Type 0
 IndexView = List (Topic × List ℕ)
 
@@ -44,21 +45,16 @@ abbrev pub NamesReads : IndexView → ℕ → List Read → Type 0
 NamesReads index place [] = Unit {0}
 NamesReads index place (r ∷ rs) = IsTrue (is_among (readers_of index (topic_of r.question)) place) × NamesReads index place rs
 
--- and of each read of these records
-abbrev pub NamesRecords : IndexView → ℕ → List MarkedView → Type 0
-NamesRecords index place [] = Unit {0}
-NamesRecords index place (m ∷ ms) = NamesReads index place m.record_of.reads × NamesRecords index place ms
-
--- the index names each test's place, counted from this one, for the topic of each read of its records
-abbrev pub NamesAll : IndexView → ℕ → Entries → Type 0
+-- the index names each record's place, counted from this one, for the topic of each of its reads
+abbrev pub NamesAll : IndexView → ℕ → List (TestId × MarkedView) → Type 0
 NamesAll index first [] = Unit {0}
-NamesAll index first (e ∷ es) = NamesRecords index first e.1 × NamesAll index (suc first) es
+NamesAll index first (e ∷ es) = NamesReads index first e.1.record_of.reads × NamesAll index (suc first) es
 
 -- what is found for a topic: nothing, or the topic with its places, each once
 abbrev pub Finds : IndexView → Topic → Option (Bor Topic × Bor (List ℕ)) → Type 0
 Finds index t found = MatchOption found (readers_of index t ≡ []) (λ r. (r.0.now ≡ t) × (r.1.now ≡ readers_of index t) × IsDistinct nat_eq r.1.now)
 
--- no record but those of the tests whose place passes the check reads a topic
-abbrev pub NoneElseReads : (ℕ → Bool) → Topic → Entries → Type 0
+-- no record but those whose place passes the test reads a topic
+abbrev pub NoneElseReads : (ℕ → Bool) → Topic → List (TestId × MarkedView) → Type 0
 NoneElseReads at t [] = Unit {0}
-NoneElseReads at t (e ∷ es) = (at 0 ≡ false → reads_among t (records_of e.1) ≡ 0) × NoneElseReads (λ k. at (suc k)) t es
+NoneElseReads at t (e ∷ es) = (at 0 ≡ false → reads_on t e.1.record_of.reads ≡ 0) × NoneElseReads (λ k. at (suc k)) t es

@@ -9,7 +9,8 @@ use Rattle.dg_world.specs.declared.question.Answer.TheVariants.{Content}
 use Rattle.dg_world.specs.declared.question.Question.{Question}
 use Rattle.dg_world.specs.declared.question.Question.TheVariants.{File}
 use Rattle.dg_world.specs.declared.question.Read.{Read}
-use Rattle.dg_index.specs.Marks.{Entries, MarkedView}
+use Rattle.dg_world.specs.declared.test_id.TestId.{TestId}
+use Rattle.dg_index.specs.Marks.{MarkedView}
 use Rattle.dg_index.specs.Topic.{is_on}
 use Rattle.dg_index.specs.declared.numbers.Now.{Now}
 use Rattle.dg_index.specs.declared.numbers.Now.TheVariants.{Numbered, Elsewhere}
@@ -34,15 +35,10 @@ abbrev pub given_by : List ℕ → List Read → ℕ
 given_by text [] = 0
 given_by text (r ∷ rs) = given_once text (content_read r) + given_by text rs
 
--- how many reads of some records were
-abbrev pub given_among : List ℕ → List MarkedView → ℕ
-given_among text [] = 0
-given_among text (m ∷ ms) = given_by text m.record_of.reads + given_among text ms
-
 -- how many reads of all records were
-abbrev pub given_in : List ℕ → Entries → ℕ
+abbrev pub given_in : List ℕ → List (TestId × MarkedView) → ℕ
 given_in text [] = 0
-given_in text (e ∷ es) = given_among text e.1 + given_in text es
+given_in text (e ∷ es) = given_by text e.1.record_of.reads + given_in text es
 
 -- how many reads of a record were, if there is one
 abbrev pub given_at : List ℕ → Option MarkedView → ℕ
@@ -67,28 +63,18 @@ abbrev pub AllHaveNumbers : ContentsView → List Read → Type 0
 AllHaveNumbers c [] = Unit {0}
 AllHaveNumbers c (r ∷ rs) = HasNumber c (content_read r) × AllHaveNumbers c rs
 
--- beside each of these records stand the numbers of what it was given
-abbrev pub AreNumbered : ContentsView → List MarkedView → Type 0
-AreNumbered c [] = Unit {0}
-AreNumbered c (m ∷ ms) = (m.numbers ≡ numbers_in c m.record_of.reads) × AreNumbered c ms
-
--- and beside each of all records
-abbrev pub AllNumbered : ContentsView → Entries → Type 0
+-- beside each record stand the numbers of what it was given
+abbrev pub AllNumbered : ContentsView → List (TestId × MarkedView) → Type 0
 AllNumbered c [] = Unit {0}
-AllNumbered c (e ∷ es) = AreNumbered c e.1 × AllNumbered c es
-
--- what each of these records was given has a number
-abbrev pub AllRecordsHave : ContentsView → List MarkedView → Type 0
-AllRecordsHave c [] = Unit {0}
-AllRecordsHave c (m ∷ ms) = AllHaveNumbers c m.record_of.reads × AllRecordsHave c ms
+AllNumbered c (e ∷ es) = (e.1.numbers ≡ numbers_in c e.1.record_of.reads) × AllNumbered c es
 
 -- and each content is held at least once for each read that was given it
-pub record IsNumbered (c : ContentsView) (es : Entries) : Type 0 where
+pub record IsNumbered (c : ContentsView) (es : List (TestId × MarkedView)) : Type 0 where
   pub numbered : AllNumbered c es
   pub held : (text : List ℕ) → given_in text es ≤ holders_of c text
 
 -- besides, it is held once more for each of some reads that was given it
-abbrev pub HoldsMore : ContentsView → Entries → List Read → Type 0
+abbrev pub HoldsMore : ContentsView → List (TestId × MarkedView) → List Read → Type 0
 HoldsMore c es reads = (text : List ℕ) → given_in text es + given_by text reads ≤ holders_of c text
 
 -- what is known of a question's answer now, if it is known by a number

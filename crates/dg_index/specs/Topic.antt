@@ -4,14 +4,13 @@ use Rattle.dg_bytes.specs.Same.{same_bytes}
 use Rattle.dg_world.specs.declared.edit.Edit.{Edit}
 use Rattle.dg_world.specs.declared.edit.Edit.TheVariants.{PutFile, RemoveFile, Select, PutTranscript, DropTranscript}
 use Rattle.dg_world.specs.declared.question.Question.{Question}
-use Rattle.dg_world.specs.declared.question.Question.TheVariants.{Steps, File, Tool, Triplet, Variable, Entry, Pattern}
+use Rattle.dg_world.specs.declared.question.Question.TheVariants.{File, Tool, Triplet, Variable, Entry, Pattern}
 use Rattle.dg_index.specs.declared.topic.Topic.{Topic}
 use Rattle.dg_index.specs.declared.topic.Topic.TheVariants as topic
 
 -- what a question is about
 abbrev pub topic_of : Question → Topic
 topic_of (File name) = topic.File name
-topic_of Steps = topic.Selection
 topic_of Tool = topic.Selection
 topic_of (Triplet machine) = topic.Selection
 topic_of (Variable name) = topic.Selection

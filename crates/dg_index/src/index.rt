@@ -57,8 +57,7 @@ impl Named {
         ensures { IsTrue result → IsOneOf self.now (topic_of question.now) }
     {
         match question {
-            Question::Steps | Question::Tool | Question::Triplet(_) | Question::Variable(_) =>
-                self.selection,
+            Question::Tool | Question::Triplet(_) | Question::Variable(_) => self.selection,
             _ => match &self.last {
                 Some(topic) => topic.covers(question),
                 None => false,

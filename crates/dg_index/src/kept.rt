@@ -1,18 +1,18 @@
 //! A world with its kept records, of which an edit compares only the reads that it touches.
 ghost use Rattle.std.specs.Prelude.{◌≡◌, ◌⊎◌, Ok, Err, None, true, IfOk, IfErr, IfSome, OnOk, OnErr, IsTrue, length, option_map, slice_get};
 ghost use Rattle.dg_index.specs.Index.{is_among};
-ghost use Rattle.dg_index.specs.Kept.{committed, committed_live, edited_kept, new_kept, newest_holding, one_holds, place_of, records_at, IsAskedOf, IsTrueOf};
+ghost use Rattle.dg_index.specs.Kept.{committed, committed_live, edited_kept, holds_if_kept, new_kept, place_of, IsAskedOf};
 ghost use Rattle.dg_index.specs.Marks.{judged_of};
 ghost use Rattle.dg_index.specs.Topic.{touched};
 ghost use Rattle.dg_index.specs.Touching.{OnlyTheseRead};
-ghost use Rattle.dg_records.specs.Truth.{holds};
+ghost use Rattle.dg_records.specs.Truth.{holds, IsTrueRecord};
 ghost use Rattle.dg_world.specs.World.{look, takes_memory};
 
 use crate::index::Index;
 use crate::looking::{look_again, look_at_readers};
+use crate::marked::Marked;
 use crate::numbers::Now;
 use crate::placing::{give_back, make_room, place, place_marked};
-use crate::recent::Recent;
 use crate::topic::Topic;
 use crate::touching::places_touched;
 use dg_bytes::TryCopy;
@@ -25,11 +25,11 @@ use indexmap::IndexMap;
 use std::alloc::{AllocError, Global};
 use std::marker::Model;
 
-/// A world, the newest four records of each test, and the number of reads that were compared with the world. The contents of
+/// A world, one record for each test that had one, and the number of reads that were compared with the world. The contents of
 /// files that records were given are known by numbers.
 pub struct Kept {
     world: World,
-    records: IndexMap<TestId, Recent>,
+    records: IndexMap<TestId, Marked>,
     index: Index,
     contents: Contents,
     compared: u64,
@@ -88,43 +88,43 @@ impl Kept {
         self.compared
     }
 
-    /// The place of a test among those that have records, which it keeps from then on.
+    /// The place of a test's record among those that are kept, which it keeps from then on.
     pub fn place_of(&self, test: &TestId) -> Option<usize>
         ensures { result ≡ place_of self.now.shelf test.now }
     {
         self.records.get_index_of(test)
     }
 
-    /// The lines of the test at a place, by the newest of its records that holds in the world. It compares nothing.
+    /// The test of the record at a place with its lines, which are those that it has wherever the answers that were read are
+    /// given.
     pub fn judged_at(&self, place: usize) -> Option<Judged<'_>>
-        ensures judged { result ≡ option_map judged_of (newest_holding self.now.world (records_at self.now.shelf place)) }
-        ensures is_true { IfSome (slice_get self.now.shelf place)
-            (λ x. IsTrueOf x.test (newest_holding self.now.world x.records)) }
+        ensures judged { result ≡ option_map judged_of (slice_get self.now.shelf place) }
+        ensures is_true { IfSome (slice_get self.now.shelf place) (λ r. IsTrueRecord r.test r.reads r.verdict) }
     {
         match self.records.get_index(place) {
-            Some((_, recent)) => recent.judged(),
+            Some((_, marked)) => Some(marked.judged()),
             None => None,
         }
     }
 
-    /// Whether a record of the test at a place holds in the world. It compares nothing.
+    /// Whether the record at a place holds in the world. It compares nothing.
     pub fn is_held_at(&self, place: usize) -> bool
-        ensures { result ≡ one_holds self.now.world (records_at self.now.shelf place) }
+        ensures { result ≡ holds_if_kept self.now.world (slice_get self.now.shelf place) }
     {
         match self.records.get_index(place) {
-            Some((_, recent)) => recent.newest_clear().is_some(),
+            Some((_, marked)) => marked.is_clear(),
             None => false,
         }
     }
 
-    /// How many tests have records.
+    /// How many records are kept.
     pub fn record_count(&self) -> usize
         ensures { result ≡ length self.now.shelf }
     {
         self.records.len()
     }
 
-    /// The places of the tests whose records may read what an edit touches, with the edit back. It takes no memory.
+    /// The places of the records that may read what an edit touches, with the edit back. It takes no memory.
     pub fn places_touched(&self, edit: Edit) -> (&[usize], Edit)
         ensures only { OnlyTheseRead (is_among result.0.now) (touched edit) self.now.shelf }
         ensures back { result.1 ≡ edit }
@@ -190,8 +190,8 @@ impl Kept {
         Ok(answer)
     }
 
-    /// Keeps a record as its test's newest, of which a fifth one is dropped, and compares its reads; or gives it back and
-    /// changes nothing where there is no room for it.
+    /// Keeps a record in the place of the one that its test had and compares its reads, or gives it back and changes
+    /// nothing where there is no room for it.
     pub fn commit(&mut self, alloc: Global, newest: Record) -> Result<(), Record>
         ensures ok { OnOk result (self.new ≡ committed self.old newest) }
         ensures err { OnErr result (self.new ≡ self.old) }
@@ -240,7 +240,7 @@ impl Kept {
         Ok(())
     }
 
-    /// Keeps the record of a live run as its test's newest, and makes its transcript that of its
+    /// Keeps the record of a live run, in the place of the one that its test had, and makes its transcript that of its
     /// test: both, or neither, and then both come back. `TooMany` only where it is a new test beside 65,536 transcripts,
     /// and `Memory` where a growth was refused, which comes first.
     pub fn commit_live(

@@ -9,7 +9,6 @@ mod marks;
 mod numbers;
 mod places;
 mod placing;
-mod recent;
 mod topic;
 mod touching;
 

@@ -7,17 +7,17 @@ ghost use Rattle.dg_index.specs.Marks.{all_looked, counted, reads_of, shelf_of};
 ghost use Rattle.dg_index.specs.Numbers.{IsNumbered, TellsOn};
 
 use crate::index::Index;
+use crate::marked::Marked;
 use crate::numbers::Now;
-use crate::recent::Recent;
 use crate::topic::Topic;
 use dg_contents::Contents;
 use dg_world::{TestId, World};
 use indexmap::IndexMap;
 
-/// Compares each read of a topic with the world, where only the records of the tests at these places read it. It adds to a
-/// count how many reads those are.
+/// Compares each read of a topic with the world, where only the records at these places read it. It adds to a count how
+/// many reads those are.
 pub fn look_again(
-    records: &mut IndexMap<TestId, Recent>,
+    records: &mut IndexMap<TestId, Marked>,
     places: &[usize],
     topic: &Topic,
     world: &World,
@@ -34,8 +34,9 @@ pub fn look_again(
     ensures count { result ≡ counted compared (reads_of topic.now (shelf_of records.old.entries)) }
 {
     for place in places {
-        if let Some(recent) = records.get_index_mut(*place) {
-            compared = recent.look_again(world, topic, contents, now, compared);
+        if let Some(marked) = records.get_index_mut(*place) {
+            let reads = marked.look_again(world, topic, contents, now);
+            compared = compared.saturating_add(reads as u64);
         }
     }
     compared
@@ -43,7 +44,7 @@ pub fn look_again(
 
 /// Compares each read of a topic with the world, of all records that read it. It adds to a count how many reads those are.
 pub fn look_at_readers(
-    records: &mut IndexMap<TestId, Recent>,
+    records: &mut IndexMap<TestId, Marked>,
     index: &Index,
     topic: &Topic,
     world: &World,

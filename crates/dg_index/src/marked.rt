@@ -1,19 +1,15 @@
 //! Records with their marks.
 ghost use Rattle.std.specs.Prelude.{◌≡◌, false, length, replicate, IfOk, IfErr};
-ghost use Rattle.std.specs.Option.{option_copied};
-ghost use Rattle.dg_index.specs.Marks.{is_clear, is_stale, judged_of, looked_again, marks_in, reads_on};
+ghost use Rattle.dg_index.specs.Marks.{is_clear, judged_of, looked_again, marks_in, reads_on};
 ghost use Rattle.dg_index.specs.Numbers.{numbers_in, AllHaveNumbers, TellsOn};
 ghost use Rattle.dg_records.specs.Truth.{IsTrueRecord};
-ghost use Rattle.dg_world.specs.World.{transcript_of};
 
 use crate::marks::Marks;
 use crate::numbers::{Now, is_stale};
 use crate::topic::Topic;
 use dg_contents::Contents;
-use dg_language::Kept;
-use dg_records::{Record, keeps_now};
+use dg_records::Record;
 use dg_sum::{Block, Judged};
-use dg_transcript::Transcript;
 use dg_world::{Read, TestId, World};
 use std::alloc::Global;
 use std::marker::Model;
@@ -94,7 +90,7 @@ impl Marked {
     /// The test with its lines, which are those that it has wherever the answers that were read are given.
     pub fn judged(&self) -> Judged<'_>
         ensures judged { result ≡ judged_of self.now.record_of }
-        ensures is_true { IsTrueRecord self.now.record_of.test self.now.record_of.reads self.now.record_of.verdict self.now.record_of.kept }
+        ensures is_true { IsTrueRecord self.now.record_of.test self.now.record_of.reads self.now.record_of.verdict }
     {
         let verdict = self.kept.verdict();
         Judged::new(self.kept.test(), verdict, &self.block)
@@ -109,9 +105,9 @@ impl Marked {
 
     /// Compares each read with the world.
     pub fn look(&mut self, world: &World)
-        ensures { self.new ≡ record self.old { marks = marks_in world.now self.old.record_of.kept self.old.record_of.reads } }
+        ensures { self.new ≡ record self.old { marks = marks_in world.now self.old.record_of.reads } }
     {
-        look(&self.kept, &mut self.marks, world);
+        look(self.kept.test(), self.kept.reads(), &mut self.marks, world);
     }
 
     /// Compares each read of a topic with the world, and tells how many those are. What is known by a number is compared by
@@ -127,12 +123,12 @@ impl Marked {
         requires held { AllHaveNumbers contents.now self.old.record_of.reads }
         requires tells { TellsOn contents.now world.now topic.now now.now }
         ensures marks { self.new ≡ record self.old
-            { marks = looked_again world.now topic.now self.old.record_of.kept self.old.record_of.reads self.old.marks } }
+            { marks = looked_again world.now topic.now self.old.record_of.reads self.old.marks } }
         ensures compared { result ≡ reads_on topic.now self.old.record_of.reads }
     {
         let numbers = self.numbers.as_slice();
         look_again(
-            &self.kept,
+            self.kept.reads(),
             numbers,
             &mut self.marks,
             world,
@@ -143,41 +139,21 @@ impl Marked {
     }
 }
 
-/// Marks each read of a record as it compares with the world. Most are of the entries of its test.
-fn look(held: &Record, marks: &mut Marks, world: &World)
-    requires { length marks.old ≡ length held.now.reads }
-    ensures { marks.new ≡ marks_in world.now held.now.kept held.now.reads }
+/// Marks each read as it compares with the world. Most are of the entries of one test.
+fn look(test: &TestId, reads: &[Read], marks: &mut Marks, world: &World)
+    requires { length marks.old ≡ length reads.now }
+    ensures { marks.new ≡ marks_in world.now reads.now }
 {
-    let kept = held.kept();
-    let test = held.test();
-    let reads = held.reads();
     let transcript = world.transcript(test);
     for (place, read) in reads.iter().enumerate() {
-        marks.put(place, is_stale_now(world, test, transcript, kept, read));
+        let agrees = world.agrees_with(test, transcript, &read.question, &read.answer);
+        marks.put(place, !agrees);
     }
-}
-
-/// Whether a record's read has an answer with which the one that the world gives now doesn't agree, where the transcript of the
-/// test was looked for before.
-fn is_stale_now(
-    world: &World,
-    test: &TestId,
-    transcript: Option<&Transcript>,
-    kept: Kept,
-    read: &Read,
-) -> bool
-    requires { option_copied transcript ≡ transcript_of world.now test.now }
-    ensures { result ≡ is_stale world.now kept read.now }
-{
-    if world.agrees_with(test, transcript, &read.question, &read.answer) {
-        return false;
-    }
-    !keeps_now(world, kept, &read.question)
 }
 
 /// Marks each read of a topic as it compares with the world, and counts them.
 fn look_again(
-    held: &Record,
+    reads: &[Read],
     numbers: &[Option<u64>],
     marks: &mut Marks,
     world: &World,
@@ -185,22 +161,17 @@ fn look_again(
     contents: &Contents,
     now: &Now,
 ) -> usize
-    requires marks { length marks.old ≡ length held.now.reads }
-    requires numbers { numbers.now ≡ numbers_in contents.now held.now.reads }
-    requires held { AllHaveNumbers contents.now held.now.reads }
+    requires marks { length marks.old ≡ length reads.now }
+    requires numbers { numbers.now ≡ numbers_in contents.now reads.now }
+    requires held { AllHaveNumbers contents.now reads.now }
     requires tells { TellsOn contents.now world.now topic.now now.now }
-    ensures marks { marks.new ≡ looked_again world.now topic.now held.now.kept held.now.reads marks.old }
-    ensures compared { result ≡ reads_on topic.now held.now.reads }
+    ensures marks { marks.new ≡ looked_again world.now topic.now reads.now marks.old }
+    ensures compared { result ≡ reads_on topic.now reads.now }
 {
-    let kept = held.kept();
-    let reads = held.reads();
     let mut compared = 0;
     for (place, read) in reads.iter().enumerate() {
         if topic.covers(&read.question) {
-            marks.put(
-                place,
-                is_stale(read, numbers[place], kept, world, contents, now),
-            );
+            marks.put(place, is_stale(read, numbers[place], world, contents, now));
             compared += 1;
         }
     }

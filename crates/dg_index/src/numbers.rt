@@ -2,15 +2,14 @@
 ghost use Rattle.std.specs.Prelude.{◌≡◌, ◌+◌, ◌-◌, ℕ, List, Ok, IfOk, OnOk, OnErr};
 ghost use Rattle.std.specs.Option.{option_copied};
 ghost use Rattle.dg_contents.specs.Contents.{holders_of, KeepsHeldNumbers, KeepsNumbers};
-ghost use Rattle.dg_index.specs.Marks.{is_other, is_stale, Entries};
+ghost use Rattle.dg_index.specs.Marks.{is_stale, MarkedView};
 ghost use Rattle.dg_index.specs.Numbers.{content_read, given_by, given_once, now_after, number_in, numbers_in, HasNumber, HoldsMore, IsNumbered, Tells, TellsOn};
+ghost use Rattle.dg_world.specs.declared.test_id.TestId.{TestId};
 ghost use Rattle.dg_index.specs.Topic.{touched};
 ghost use Rattle.dg_world.specs.World.{edited, WorldView};
 
 use dg_bytes::Bytes;
 use dg_contents::Contents;
-use dg_language::Kept;
-use dg_records::keeps_now;
 use dg_world::{Answer, Edit, Question, Read, World};
 use std::alloc::{AllocError, Global};
 
@@ -39,29 +38,9 @@ impl Now {
     }
 }
 
-/// Whether a record's read has an answer with which the one that the world gives now doesn't agree. Where the content of its
-/// file is known by a number, numbers are compared.
+/// Whether a read has another answer than the world gives now. Where the content of its file is known by a number, numbers are
+/// compared.
 pub fn is_stale(
-    read: &Read,
-    number: Option<u64>,
-    kept: Kept,
-    world: &World,
-    contents: &Contents,
-    now: &Now,
-) -> bool
-    requires known { number ≡ number_in contents.now read.now }
-    requires held { HasNumber contents.now (content_read read.now) }
-    requires tells { Tells contents.now world.now read.now.question now.now }
-    ensures { result ≡ is_stale world.now kept read.now }
-{
-    if is_other(read, number, world, contents, now) {
-        return !keeps_now(world, kept, &read.question);
-    }
-    false
-}
-
-/// Whether a read has another answer than the world gives now.
-fn is_other(
     read: &Read,
     number: Option<u64>,
     world: &World,
@@ -71,7 +50,7 @@ fn is_other(
     requires known { number ≡ number_in _contents.now read.now }
     requires held { HasNumber _contents.now (content_read read.now) }
     requires tells { Tells _contents.now world.now read.now.question now.now }
-    ensures { result ≡ is_other world.now read.now }
+    ensures { result ≡ is_stale world.now read.now }
 {
     match now {
         Now::Numbered(current) => match (&read.answer, number, current) {
@@ -115,8 +94,8 @@ pub fn hold_all(
 ) -> Result<Vec<Option<u64>>, AllocError>
     ensures numbers { IfOk result (λ l. l.items ≡ numbers_in contents.new reads.now) }
     ensures held { OnOk result
-        ((es : Entries) → IsNumbered contents.old es → HoldsMore contents.new es reads.now) }
-    ensures numbered { (es : Entries) → IsNumbered contents.old es → IsNumbered contents.new es }
+        ((es : List (TestId × MarkedView)) → IsNumbered contents.old es → HoldsMore contents.new es reads.now) }
+    ensures numbered { (es : List (TestId × MarkedView)) → IsNumbered contents.old es → IsNumbered contents.new es }
 {
     let mut numbers = Vec::with_capacity(alloc, reads.len())?;
     for (place, read) in reads.iter().enumerate() {

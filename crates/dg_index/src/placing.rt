@@ -1,18 +1,16 @@
 //! A record's place among the kept ones: all growths first, and then what can't fail.
-ghost use Rattle.std.specs.Prelude.{◌≡◌, ◌<◌, ◌+◌, ◌-◌, ℕ, List, false, true, is_some, length, replicate, unwrap_or, IfErr, IfOk, OnOk};
-ghost use Rattle.std.specs.Map.{lookup};
-ghost use Rattle.indexmap.specs.IndexMap.{index_of_by, spare};
+ghost use Rattle.std.specs.Prelude.{◌≡◌, ◌<◌, ◌-◌, ℕ, List, false, length, replicate, unwrap_or, IfErr, IfOk, OnOk};
+ghost use Rattle.indexmap.specs.IndexMap.{index_of_by, insert_entry, spare};
 ghost use Rattle.dg_contents.specs.Contents.{holders_of, KeepsHeldNumbers};
 ghost use Rattle.dg_index.specs.Index.{NamesMore, NamesReads};
-ghost use Rattle.dg_index.specs.Kept.{with_marked};
-ghost use Rattle.dg_index.specs.Marks.{counted, marks_in, Entries};
-ghost use Rattle.dg_index.specs.Numbers.{given_at, given_by, given_in, numbers_in, HoldsMore, IsNumbered};
+ghost use Rattle.dg_index.specs.Marks.{counted, marks_in, MarkedView};
+ghost use Rattle.dg_index.specs.Numbers.{given_at, given_by, numbers_in, HoldsMore, IsNumbered};
 ghost use Rattle.dg_world.specs.Test.{same_test};
+ghost use Rattle.dg_world.specs.declared.test_id.TestId.{TestId};
 
 use crate::index::Index;
 use crate::marked::Marked;
 use crate::numbers::{hold_all, release_all};
-use crate::recent::Recent;
 use dg_contents::Contents;
 use dg_records::Record;
 use dg_world::{TestId, World};
@@ -23,7 +21,7 @@ use std::alloc::{AllocError, Global};
 /// contents that it was given held. Where memory is refused the record comes back.
 pub fn make_room(
     alloc: Global,
-    records: &mut IndexMap<TestId, Recent>,
+    records: &mut IndexMap<TestId, Marked>,
     index: &mut Index,
     contents: &mut Contents,
     newest: Record,
@@ -53,7 +51,7 @@ pub fn make_room(
 /// Names the place that a record will have for its reads, makes room for it, and copies its test.
 fn name(
     alloc: Global,
-    records: &mut IndexMap<TestId, Recent>,
+    records: &mut IndexMap<TestId, Marked>,
     index: &mut Index,
     newest: &Record,
 ) -> Result<TestId, AllocError>
@@ -77,9 +75,9 @@ fn name(
 fn number(alloc: Global, contents: &mut Contents, newest: Record) -> Result<Marked, Record>
     ensures marked { IfOk result (λ m. m ≡ record
         { record_of = newest; marks = replicate (length newest.reads) false; numbers = numbers_in contents.new newest.reads }) }
-    ensures numbered { (es : Entries) → IsNumbered contents.old es → IsNumbered contents.new es }
+    ensures numbered { (es : List (TestId × MarkedView)) → IsNumbered contents.old es → IsNumbered contents.new es }
     ensures held { OnOk result
-        ((es : Entries) → IsNumbered contents.old es → HoldsMore contents.new es newest.reads) }
+        ((es : List (TestId × MarkedView)) → IsNumbered contents.old es → HoldsMore contents.new es newest.reads) }
     ensures back { IfErr result (λ r. r ≡ newest) }
 {
     let Ok(numbers) = hold_all(alloc, contents, newest.reads()) else {
@@ -105,10 +103,10 @@ pub fn give_back(contents: &mut Contents, marked: Marked) -> Record
     newest
 }
 
-/// Compares a record with the world and keeps it as its test's newest, where there is room for it and what it was given is
-/// held. What the record was given that is dropped is let go. It adds to a count how many reads it has.
+/// Compares a record with the world and keeps it, where there is room for it and what it was given is held. What the record
+/// was given that its test had before is let go. It adds to a count how many reads it has.
 pub fn place(
-    records: &mut IndexMap<TestId, Recent>,
+    records: &mut IndexMap<TestId, Marked>,
     contents: &mut Contents,
     test: TestId,
     mut marked: Marked,
@@ -119,8 +117,8 @@ pub fn place(
     requires numbered { IsNumbered contents.old records.old.entries }
     requires numbers { marked.numbers ≡ numbers_in contents.old marked.record_of.reads }
     requires held { HoldsMore contents.old records.old.entries marked.record_of.reads }
-    ensures entries { records.new.entries ≡ with_marked records.old.entries test
-        (record marked { marks = marks_in world.now marked.record_of.kept marked.record_of.reads }) }
+    ensures entries { records.new.entries ≡ insert_entry same_test records.old.entries test
+        (record marked { marks = marks_in world.now marked.record_of.reads }) }
     ensures numbered { IsNumbered contents.new records.new.entries }
     ensures count { result ≡ counted compared (length marked.record_of.reads) }
 {
@@ -128,10 +126,10 @@ pub fn place(
     place_marked(records, contents, test, marked, compared)
 }
 
-/// Keeps a record as it is marked, as its test's newest, where there is room for it and what it was given is held. What the
-/// record was given that is dropped is let go. It adds to a count how many reads it has.
+/// Keeps a record as it is marked, where there is room for it and what it was given is held. What the record was given that
+/// its test had before is let go. It adds to a count how many reads it has.
 pub fn place_marked(
-    records: &mut IndexMap<TestId, Recent>,
+    records: &mut IndexMap<TestId, Marked>,
     contents: &mut Contents,
     test: TestId,
     marked: Marked,
@@ -141,67 +139,24 @@ pub fn place_marked(
     requires numbered { IsNumbered contents.old records.old.entries }
     requires numbers { marked.numbers ≡ numbers_in contents.old marked.record_of.reads }
     requires held { HoldsMore contents.old records.old.entries marked.record_of.reads }
-    ensures entries { records.new.entries ≡ with_marked records.old.entries test marked }
+    ensures entries { records.new.entries ≡ insert_entry same_test records.old.entries test marked }
     ensures numbered { IsNumbered contents.new records.new.entries }
     ensures count { result ≡ counted compared (length marked.record_of.reads) }
 {
     let reads = marked.kept().reads().len() as u64;
-    let dropped = put(records, test, marked);
-    let_go(contents, dropped);
+    match records.insert(test, marked) {
+        Ok(previous) => let_go(contents, previous),
+        Err(_) => unreachable!(),
+    }
     compared.saturating_add(reads)
 }
 
-/// Keeps a record as its test's newest, where there is room for a test more, and gives the one that is dropped.
-fn put(records: &mut IndexMap<TestId, Recent>, test: TestId, marked: Marked) -> Option<Marked>
-    requires { 0 < spare records.old }
-    ensures entries { records.new.entries ≡ with_marked records.old.entries test marked }
-    ensures fewer { (text : List ℕ) → given_in text records.new.entries + given_at text result
-        ≡ given_in text records.old.entries + given_by text marked.record_of.reads }
-{
-    if records.contains_key(&test) {
-        return put_again(records, &test, marked);
-    }
-    put_first(records, test, marked);
-    None
-}
-
-/// Keeps a record beside those that its test has, and gives the one that is dropped.
-fn put_again(
-    records: &mut IndexMap<TestId, Recent>,
-    test: &TestId,
-    marked: Marked,
-) -> Option<Marked>
-    requires { is_some (lookup (same_test test.now) records.old.entries) ≡ true }
-    ensures entries { records.new.entries ≡ with_marked records.old.entries test.now marked }
-    ensures fewer { (text : List ℕ) → given_in text records.new.entries + given_at text result
-        ≡ given_in text records.old.entries + given_by text marked.record_of.reads }
-{
-    match records.get_mut(test) {
-        Some(recent) => return recent.put(marked),
-        None => unreachable!(),
-    }
-}
-
-/// Keeps the first record of a test.
-fn put_first(records: &mut IndexMap<TestId, Recent>, test: TestId, marked: Marked)
-    requires room { 0 < spare records.old }
-    requires first { is_some (lookup (same_test test) records.old.entries) ≡ false }
-    ensures entries { records.new.entries ≡ with_marked records.old.entries test marked }
-    ensures fewer { (text : List ℕ) → given_in text records.new.entries
-        ≡ given_in text records.old.entries + given_by text marked.record_of.reads }
-{
-    match records.insert(test, Recent::one(marked)) {
-        Ok(_) => {}
-        Err(_) => unreachable!(),
-    }
-}
-
-/// Lets go the contents that a record was given which is dropped, if there is one.
-fn let_go(contents: &mut Contents, dropped: Option<Marked>)
-    ensures fewer { (text : List ℕ) → holders_of contents.new text ≡ holders_of contents.old text - given_at text dropped }
+/// Lets go the contents that a record was given which has lost its place, if there was one.
+fn let_go(contents: &mut Contents, previous: Option<Marked>)
+    ensures fewer { (text : List ℕ) → holders_of contents.new text ≡ holders_of contents.old text - given_at text previous }
     ensures stays { KeepsHeldNumbers contents.old contents.new }
 {
-    if let Some(dropped) = dropped {
-        release_all(contents, dropped.kept().reads());
+    if let Some(previous) = previous {
+        release_all(contents, previous.kept().reads());
     }
 }

@@ -11,7 +11,7 @@ use std::alloc::{AllocError, Global};
 pub enum Topic {
     /// The file of this name.
     File(Bytes),
-    /// What is run: the limit on steps, the tool, the triplets, and the variables of the line.
+    /// What is run: the tool, the triplets, and the variables of the line.
     Selection,
     /// The transcript of a test: its board and its script.
     Transcript(Bytes, Bytes),
@@ -38,8 +38,7 @@ impl Topic {
     {
         Ok(match question {
             Question::File(name) => Topic::File(Bytes::from_slice(alloc, name.as_slice())?),
-            Question::Steps | Question::Tool | Question::Triplet(_) | Question::Variable(_) =>
-                Topic::Selection,
+            Question::Tool | Question::Triplet(_) | Question::Variable(_) => Topic::Selection,
             Question::Entry(place) => Topic::of_test(alloc, &place.test)?,
             Question::Pattern(text) => Topic::Pattern(text.copy(alloc)?),
         })
@@ -78,10 +77,8 @@ impl Topic {
                 name.as_slice(),
                 asked.as_slice(),
             ),
-            (
-                Topic::Selection,
-                Question::Steps | Question::Tool | Question::Triplet(_) | Question::Variable(_),
-            ) => true,
+            (Topic::Selection, Question::Tool | Question::Triplet(_) | Question::Variable(_)) =>
+                true,
             (Topic::Transcript(board, script), Question::Entry(place)) => {
                 is_same(board.as_slice(), place.test.board().as_slice())
                     && is_same(script.as_slice(), place.test.script().as_slice())

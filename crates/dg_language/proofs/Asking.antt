@@ -3,7 +3,7 @@ use Rattle.std.proofs.Common.{◌≡◌, Bool, true, false, List, [], ◌∷◌,
 use Rattle.std.specs.Prelude.{Option, Some, None}
 use Rattle.std.specs.Cmp.Lexicographic.{nat_list_eq_equiv, same_text}
 use Rattle.dg_world.specs.declared.question.Question.{Question}
-use Rattle.dg_world.specs.declared.question.Question.TheVariants.{Steps, File, Tool, Triplet, Variable, Entry, Pattern}
+use Rattle.dg_world.specs.declared.question.Question.TheVariants.{File, Tool, Triplet, Variable, Entry, Pattern}
 use Rattle.dg_world.specs.declared.question.System.{System}
 use Rattle.dg_world.specs.declared.question.System.TheVariants.{Target, Host, Build}
 use Rattle.dg_world.specs.declared.question.Answer.{Answer}
@@ -27,7 +27,6 @@ same_system-true _ _ e = cc
 
 pub same_question-refl : (q : Question) → same_question q q ≡ true
 same_question-refl (File n) = nat_list_eq_equiv.refl n
-same_question-refl Steps = refl
 same_question-refl Tool = refl
 same_question-refl (Triplet m) = same_system-refl m
 same_question-refl (Variable n) = nat_list_eq_equiv.refl n
@@ -36,7 +35,6 @@ same_question-refl (Pattern t) = nat_list_eq_equiv.refl t
 
 pub same_question-true : (p q : Question) → same_question p q ≡ true → p ≡ q
 same_question-true (File m) (File n) e = ap File (same_text m n (sym e))
-same_question-true Steps Steps e = refl
 same_question-true Tool Tool e = refl
 same_question-true (Triplet m) (Triplet n) e = ap Triplet (same_system-true m n e)
 same_question-true (Variable m) (Variable n) e = ap Variable (same_text m n (sym e))

@@ -7,7 +7,7 @@ use Rattle.std.specs.Option.{option_map}
 use Rattle.std.specs.Map as entries
 use Rattle.std.specs.Cmp.Lexicographic.{nat_list_eq_equiv}
 use Rattle.dg_world.specs.declared.question.Question.{Question}
-use Rattle.dg_world.specs.declared.question.Question.TheVariants.{Steps, File, Tool, Triplet, Variable, Entry, Pattern}
+use Rattle.dg_world.specs.declared.question.Question.TheVariants.{File, Tool, Triplet, Variable, Entry, Pattern}
 use Rattle.dg_world.specs.declared.question.System.{System}
 use Rattle.dg_world.specs.declared.question.System.TheVariants.{Target, Host, Build}
 use Rattle.dg_world.specs.declared.question.Answer.{Answer}
@@ -34,7 +34,6 @@ equal_system _ _ = refl
 -- the map's keys are equal where they are the same question
 equal_same : (p q : Question) → (derived.ghosts).eq p q ≡ same_question q p
 equal_same (File m) (File n) = nat_list_eq_equiv.symm m n
-equal_same Steps Steps = refl
 equal_same Tool Tool = refl
 equal_same (Triplet m) (Triplet n) = equal_system m n
 equal_same (Variable m) (Variable n) = nat_list_eq_equiv.symm m n

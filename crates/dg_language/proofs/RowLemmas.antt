@@ -5,7 +5,7 @@ use Rattle.std.specs.Prelude.{Option, Some, None}
 use Rattle.std.specs.List.{slice_get}
 use Rattle.dg_world.specs.declared.question.EntryPlace.{EntryPlace}
 use Rattle.dg_world.specs.declared.question.Question.{Question}
-use Rattle.dg_world.specs.declared.question.Question.TheVariants.{Steps, File, Tool, Triplet, Variable, Entry, Pattern}
+use Rattle.dg_world.specs.declared.question.Question.TheVariants.{File, Tool, Triplet, Variable, Entry, Pattern}
 use Rattle.dg_world.specs.declared.question.Answer.{Answer}
 use Rattle.dg_world.specs.declared.question.Read.{Read}
 use Rattle.dg_world.specs.Question.{same_question}
@@ -63,7 +63,6 @@ row-at s p (x ∷ xs) (suc i) r h g =
 -- only for that one
 pub asks-only : (s n : ℕ) (q : Question) (e : EntryPlace) → asks_at s n q ≡ true → same_question q (Entry e) ≡ true → (e.session ≡ s) × (e.place ≡ n)
 asks-only s n (File m) e a t = cc
-asks-only s n Steps e a t = cc
 asks-only s n Tool e a t = cc
 asks-only s n (Triplet m) e a t = cc
 asks-only s n (Variable m) e a t = cc
@@ -85,14 +84,12 @@ row-entries s p rs q not h = lookup-none rs q (λ i r g. other r.question q not 
   where
     other : (d q : Question) → ((e : EntryPlace) → q ≡ Entry e → ⊥) → (n : ℕ) → asks_at s n d ≡ true → same_question d q ≡ false
     other (Entry d) (File m) not n a = refl
-    other (Entry d) Steps not n a = refl
     other (Entry d) Tool not n a = refl
     other (Entry d) (Triplet m) not n a = refl
     other (Entry d) (Variable m) not n a = refl
     other (Entry d) (Pattern m) not n a = refl
     other (Entry d) (Entry e) not n a = absurd (not e refl)
     other (File m) q not n a = cc
-    other Steps q not n a = cc
     other Tool q not n a = cc
     other (Triplet m) q not n a = cc
     other (Variable m) q not n a = cc

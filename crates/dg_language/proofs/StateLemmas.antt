@@ -1,5 +1,5 @@
 -- Bindings and links, one after another.
-use Rattle.std.proofs.Common.{◌≡◌, ℕ, ◌+◌, ◌-◌, ◌<◌, ◌≤◌, max, Bool, true, false, List, [], ◌∷◌, ◌++◌, drop, get_or, length, ap, sym, ◌∙◌, refl, arith}
+use Rattle.std.proofs.Common.{◌≡◌, ℕ, ◌+◌, ◌<◌, ◌≤◌, Bool, true, false, List, [], ◌∷◌, ◌++◌, drop, get_or, length, ap, sym, ◌∙◌, refl, arith}
 use Rattle.std.proofs.lemmas.Bool.Decides.{nat_tests}
 use Rattle.std.proofs.lemmas.List.{drop_more, drop_all}
 use Rattle.std.specs.Prelude.{nat_lt}
@@ -35,14 +35,3 @@ longest-last (c ∷ bs) b n h =
     let both = within-both (nat_lt (longest (bs ++ b ∷ [])) (length c.value)) (length c.value) (longest (bs ++ b ∷ [])) n refl h in
     let last = longest-last bs b n both.1 in
     (last.0, within-longer (nat_lt (longest bs) (length c.value)) (length c.value) (longest bs) n both.0 last.1)
-
--- the larger of two parts, where the first is all without the second
-pub most_of_parts : (on_board : Bool) (earlier steps : ℕ)
-    → max earlier steps
-    ≡ max (elim on_board as (λ _. ℕ) [ true ↦ steps | false ↦ earlier ]) ((earlier + steps) - (elim on_board as (λ _. ℕ) [ true ↦ steps | false ↦ earlier ]))
-most_of_parts true earlier steps =
-    let left : (earlier + steps) - steps ≡ earlier = omega arith in
-    rw left (omega arith)
-most_of_parts false earlier steps =
-    let left : (earlier + steps) - earlier ≡ steps = omega arith in
-    rw left refl

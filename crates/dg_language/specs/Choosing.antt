@@ -4,7 +4,7 @@ use Rattle.std.specs.Cmp.Lexicographic.{pointwise}
 use Rattle.dg_language.specs.declared.code.Code.TheVariants.{Done, Failed, Returned, Broken, Continued, ExpContinued}
 use Rattle.dg_language.specs.declared.clause.Clause.{Clause}
 use Rattle.dg_language.specs.declared.clause.Clauses.{Clauses}
-use Rattle.dg_language.specs.declared.state.TheConstants.{MOST_STEPS}
+use Rattle.dg_language.specs.declared.state.TheConstants.{STEPS}
 use Rattle.dg_language.specs.Play.{Play, Ends}
 use Rattle.dg_language.specs.State.{State}
 use Rattle.dg_language.specs.Evaluation.{Ending, Then, Nested, out_of_steps, tick, fail, if_done, loop_after, wrong_count}
@@ -90,10 +90,10 @@ repeat nested (suc r) test next body s k =
 -- `while test body`
 unfoldable pub do_while : Nested → List (List ℕ) → State → Then → Play Ending
 do_while nested args s k =
-    on (two args) (fail (wrong_count (codes "while")) s k) (λ a. repeat nested MOST_STEPS a.0 None a.1 s k)
+    on (two args) (fail (wrong_count (codes "while")) s k) (λ a. repeat nested STEPS a.0 None a.1 s k)
 
 -- `for start test next body`
 unfoldable pub do_for : Nested → List (List ℕ) → State → Then → Play Ending
 do_for nested args s k =
     on (four args) (fail (wrong_count (codes "for")) s k) (λ a.
-    nested a.0 s (if_done (λ v t. repeat nested MOST_STEPS a.1 (Some a.2) a.3 t k) k))
+    nested a.0 s (if_done (λ v t. repeat nested STEPS a.1 (Some a.2) a.3 t k) k))

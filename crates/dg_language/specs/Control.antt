@@ -4,7 +4,7 @@ use Rattle.dg_language.specs.declared.code.Code.{Code}
 use Rattle.dg_language.specs.declared.code.Code.TheVariants.{Done, Failed, Returned, Broken, Continued, ExpContinued}
 use Rattle.dg_language.specs.declared.command.ControlCommand.{ControlCommand}
 use Rattle.dg_language.specs.declared.command.ControlCommand.TheVariants.{Foreach, Catch}
-use Rattle.dg_language.specs.declared.state.TheConstants.{MOST_STEPS}
+use Rattle.dg_language.specs.declared.state.TheConstants.{STEPS}
 use Rattle.dg_language.specs.Play.{Play, Ends}
 use Rattle.dg_language.specs.State.{State, assigned}
 use Rattle.dg_language.specs.Evaluation.{Ending, Then, Nested, out_of_steps, tick, within, fail, loop_after, wrong_count, list_in}
@@ -84,7 +84,7 @@ each nested (suc r) names body (v ∷ vs) s k =
 
 abbrev pub with_values : Nested → List (List ℕ) → List ℕ → Result (List (List ℕ)) (List ℕ) → State → Then → Play Ending
 with_values nested names body (Err message) s k = fail message s k
-with_values nested names body (Ok values) s k = each nested MOST_STEPS names body values s k
+with_values nested names body (Ok values) s k = each nested STEPS names body values s k
 
 abbrev pub with_names : Nested → Result (List (List ℕ)) (List ℕ) → List ℕ → List ℕ → State → Then → Play Ending
 with_names nested (Err message) values body s k = fail message s k

@@ -12,21 +12,20 @@ use Rattle.dg_language.specs.declared.code.Code.{Code}
 use Rattle.dg_language.specs.declared.code.Code.TheVariants.{Done, Failed, Returned, Broken, Continued, ExpContinued}
 use Rattle.dg_language.specs.declared.close.Close.{Close}
 use Rattle.dg_language.specs.declared.close.Close.TheVariants.{Finished, Aborted, OutOfSteps}
+use Rattle.dg_language.specs.declared.state.TheConstants.{STEPS}
 use Rattle.dg_language.specs.Play.{Play, Ends, Asks, plain, lookup}
 use Rattle.dg_language.specs.State.{State, stepped, taken, board_steps, learn}
 
--- How the judging of a test ends: with these lines, in this way, after so many steps, of which so many were of the board's file,
--- and with this limit on the steps of that file and on those of the rest.
+-- How the judging of a test ends: with these lines, in this way, after so many steps, of which so many were of the board's file.
 pub record Ending : Type 0 where
   pub verdict : List Line
   pub close : Close
   pub board_steps : ℕ
   pub steps : ℕ
-  pub limit : ℕ
 
 -- it ends now
 abbrev pub closed : List Line → Close → State → Ending
-closed verdict close s = record { verdict = verdict; close = close; board_steps = board_steps s; steps = taken s; limit = s.limit }
+closed verdict close s = record { verdict = verdict; close = close; board_steps = board_steps s; steps = taken s }
 
 -- what is done with the code, the value and the state in which an evaluation ends
 abbrev pub Then : Type 0
@@ -59,9 +58,9 @@ hear None q s k = Asks (plain q) (λ a. k a (learn q a s))
 unfoldable pub ask : Question → State → (Answer → State → Play Ending) → Play Ending
 ask q s k = hear (lookup q s.known) q s k
 
--- a step is taken, if the limit leaves one
+-- a step is taken, if one is left
 unfoldable pub tick : State → (State → Play Ending) → Play Ending
-tick s k = elim (nat_lt s.steps s.limit) [ true ↦ k (stepped s) | false ↦ Ends (out_of_steps s) ]
+tick s k = elim (nat_lt s.steps STEPS) [ true ↦ k (stepped s) | false ↦ Ends (out_of_steps s) ]
 
 -- a value of so many bytes is made, if it is no longer than a value may be
 unfoldable pub within : ℕ → State → Play Ending → Play Ending

@@ -16,7 +16,7 @@ use Rattle.dg_sessions.specs.Steps.{changed, emptied, taken}
 use Rattle.dg_language.specs.declared.code.Code.TheVariants.{Done, Failed, Returned, Broken, Continued, ExpContinued}
 use Rattle.dg_language.specs.declared.expect.Pair.{Pair}
 use Rattle.dg_language.specs.declared.expect.Awaited.{Awaited}
-use Rattle.dg_language.specs.declared.state.TheConstants.{MOST_STEPS}
+use Rattle.dg_language.specs.declared.state.TheConstants.{STEPS}
 use Rattle.dg_language.specs.Play.{Play, Ends}
 use Rattle.dg_language.specs.State.{State, assigned, with_sessions, in_action, out_of_action, stands_in_action}
 use Rattle.dg_language.specs.Evaluation.{Ending, Then, Nested, out_of_steps, fail, wrong_count, outside_of_expect}
@@ -168,7 +168,7 @@ with_limit None s k f =
 unfoldable pub expect_with : Nested → List (List ℕ) → State → Then → Play Ending
 expect_with nested words s k =
     on_words (expect_words None None words) s k (λ e. on_session is_open e.id s k (λ n t. with_limit e.timeout t k (λ limit u.
-    with_patterns (regexes_in e.pairs) u k (λ v. rounds MOST_STEPS nested (record { session = n; pairs = e.pairs; limit = limit }) v k))))
+    with_patterns (regexes_in e.pairs) u k (λ v. rounds (STEPS + 1) nested (record { session = n; pairs = e.pairs; limit = limit }) v k))))
 
 -- ---- exp_continue
 

@@ -1,14 +1,14 @@
--- What the judging of a test means: the limit on steps, the board's file, then the tool's library, then the script.
+-- What the judging of a test means: the board's file, then the tool's library, then the script.
 use Rattle.std.specs.Prelude.{ℕ, true, false, Option, Some, None, List, [], ◌++◌, codes}
 use Rattle.dg_world.specs.Name.{is_name}
-use Rattle.dg_world.specs.declared.question.Question.TheVariants.{Steps, File, Tool}
+use Rattle.dg_world.specs.declared.question.Question.TheVariants.{File, Tool}
 use Rattle.dg_world.specs.declared.question.Answer.{Answer}
 use Rattle.dg_world.specs.declared.question.Answer.TheVariants as answer
 use Rattle.dg_world.specs.declared.test_id.TestId.{TestId}
 use Rattle.dg_results.specs.declared.verdict.Line.{Line}
 use Rattle.dg_language.specs.declared.code.Code.TheVariants.{Done, Failed, Returned, Broken, Continued, ExpContinued}
 use Rattle.dg_language.specs.Play.{Play, Ends, Source, run, end_of}
-use Rattle.dg_language.specs.State.{State, fresh, with_step_limit, marked, with_board_made}
+use Rattle.dg_language.specs.State.{State, fresh, marked, with_board_made}
 use Rattle.dg_language.specs.Evaluation.{Ending, Then, ask, fail, if_done, ended, aborted, quoted, outside}
 use Rattle.dg_language.specs.Boards.{content_of}
 use Rattle.dg_language.specs.Language.{evaluate}
@@ -76,17 +76,9 @@ board_file board = codes "boards/" ++ (board ++ codes ".exp")
 unfoldable pub open_board : State → Then → Play Ending
 open_board s k = first_file (board_file s.test.board) leave_board s k
 
-abbrev pub step_limit : Answer → ℕ
-step_limit (answer.Steps limit) = limit
-step_limit _ = 0
-
--- the limit on steps is asked for before all else; then comes the board's file
-unfoldable pub open_limit : State → Then → Play Ending
-open_limit s k = ask Steps s (λ a s'. open_board (with_step_limit (step_limit a) s') k)
-
 -- the judging of a test
 unfoldable pub judge : TestId → Play Ending
-judge t = open_limit (fresh t) finish
+judge t = open_board (fresh t) finish
 
 -- the lines that a test has in a source, if that answers all its questions
 abbrev pub verdict_of : Option Ending → Option (List Line)

@@ -25,7 +25,6 @@ pub mod Immediate
 pub mod Builtins
 pub mod Language
 pub mod Judge
-pub mod Kept
 pub mod Law
 pub mod Touch
 pub mod Growing

@@ -24,8 +24,6 @@ pub record State : Type 0 where
   pub earlier : ℕ
   -- the steps that were taken since
   pub steps : ℕ
-  -- the most steps that the board's file may take, and what comes after it
-  pub limit : ℕ
   -- the sessions of the test, and how many entries of their records are used up
   pub sessions : SessionsView
   -- for each procedure call, library and action of `expect` that evaluation stands in, from the innermost out, whether it is
@@ -51,7 +49,6 @@ fresh t =
       on_board = true;
       earlier = 0;
       steps = 0;
-      limit = 0;
       sessions = no_sessions;
       actions = [];
       known = [];
@@ -61,10 +58,6 @@ fresh t =
       libraries = map.empty;
       settings = [];
     }
-
--- the limit on steps is this
-unfoldable pub with_step_limit : ℕ → State → State
-with_step_limit limit s = record s { limit = limit }
 
 -- The board's file has been evaluated. Its settings stay, and the count of its steps; variables, procedures, libraries and
 -- the steps that are left begin anew.

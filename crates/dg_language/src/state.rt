@@ -1,12 +1,12 @@
 //! What an evaluation has made so far.
-ghost use Rattle.std.specs.Prelude.{◌≡◌, ◌<◌, ◌≤◌, ◌++◌, ◌-◌, ℕ, max, List, None, Some, Ok, Err, OnOk, IfOk, IfSome, MatchResult, length, nat_lt, true};
+ghost use Rattle.std.specs.Prelude.{◌≡◌, ◌<◌, ◌≤◌, ◌++◌, ℕ, List, None, Some, Ok, Err, OnOk, IfOk, IfSome, MatchResult, length, nat_lt, true};
 ghost use Rattle.std.specs.Option.{option_copied};
 ghost use Rattle.std.specs.FinMap as map;
 ghost use Rattle.dg_scope.specs.Scopes.{value_limit, value_of, with_value};
 ghost use Rattle.dg_lists.specs.Canonical.{text_of_list};
 ghost use Rattle.dg_lists.specs.Elements.{elements_of};
+ghost use Rattle.dg_language.specs.declared.state.TheConstants.{STEPS};
 ghost use Rattle.dg_language.specs.Growing.{Gets};
-ghost use Rattle.dg_language.specs.Kept.{kept_by};
 ghost use Rattle.dg_language.specs.Variables.{is_to_begin, first_value, all_linked, or_empty};
 ghost use Rattle.dg_language.specs.Procedures.{longest};
 ghost use Rattle.dg_language.specs.State.{bound};
@@ -16,9 +16,7 @@ ghost use Rattle.dg_results.specs.Standing.{after_calls};
 
 use crate::actions::Actions;
 use crate::calls::Calls;
-use crate::close::Close;
 use crate::completion::Change;
-use crate::kept::Kept;
 use crate::procedure::{Binding, Procedure};
 use crate::reads::Reads;
 use dg_boards::BoardTable;
@@ -33,8 +31,8 @@ use dg_world::{Answer, Question, Read, TestId};
 use std::alloc::{AllocError, Global};
 use std::marker::Model;
 
-/// No limit allows more steps than this. Each round of a loop takes a step, so no loop has more rounds.
-pub const MOST_STEPS: u32 = 4_294_967_295;
+/// The most steps of the board's file, and of the tool's library and the script together.
+pub const STEPS: u32 = 100_000;
 
 /// The state of an evaluation.
 pub struct State {
@@ -43,7 +41,6 @@ pub struct State {
     on_board: bool,
     earlier: u32,
     steps: u32,
-    limit: u32,
     sessions: Sessions,
     actions: Actions,
     known: Reads,
@@ -62,7 +59,6 @@ impl Drop for State {
             on_board: _,
             earlier: _,
             steps: _,
-            limit: _,
             sessions: _,
             actions: _,
             known: _,
@@ -102,12 +98,12 @@ impl Model for State {
 
     ghost coded = { Prim.hlevel (codes, scopes.the_row.coded, sessions_code, map.code {R = slice_cmp nat_cmp} (coded_list coded_ℕ) procedure.the_row.coded, map.code {R = slice_cmp nat_cmp} (coded_list coded_ℕ) coded_unit) };
 
-    ghost view = { λ s. record { test = s.test; calls = s.calls; on_board = s.on_board; earlier = s.earlier; steps = s.steps; limit = s.limit; sessions = s.sessions; actions = s.actions; known = s.known; variables = s.variables; begun = s.begun; procedures = s.procedures; libraries = s.libraries; settings = s.board } };
+    ghost view = { λ s. record { test = s.test; calls = s.calls; on_board = s.on_board; earlier = s.earlier; steps = s.steps; sessions = s.sessions; actions = s.actions; known = s.known; variables = s.variables; begun = s.begun; procedures = s.procedures; libraries = s.libraries; settings = s.board } };
 }
 
-#[tactic(auto, unfolding(crate::specs::State::fresh, crate::specs::State::with_call, crate::specs::State::board_steps, crate::specs::State::stepped, crate::specs::State::with_step_limit, crate::specs::State::learn))]
+#[tactic(auto, unfolding(crate::specs::State::fresh, crate::specs::State::with_call, crate::specs::State::board_steps, crate::specs::State::stepped, crate::specs::State::learn))]
 impl State {
-    ghost use Rattle.dg_language.specs.State.{fresh, with_call, stepped, with_step_limit, taken, board_steps, learn};
+    ghost use Rattle.dg_language.specs.State.{fresh, with_call, stepped, taken, board_steps, learn};
     ghost use Rattle.dg_language.specs.Play.{lookup};
 
     /// Nothing was done yet.
@@ -120,7 +116,6 @@ impl State {
             on_board: true,
             earlier: 0,
             steps: 0,
-            limit: 0,
             sessions: Sessions::new(alloc),
             actions: Actions::new(alloc),
             known: Reads::new(alloc),
@@ -157,51 +152,18 @@ impl State {
         }
     }
 
-    /// The most steps that the board's file may take, and the tool's library and the script together.
-    pub fn limit(&self) -> u32
-        ensures { result ≡ self.now.limit }
-    {
-        self.limit
-    }
-
-    /// Sets that limit.
-    pub fn set_limit(&mut self, limit: u32)
-        ensures { self.new ≡ with_step_limit limit self.old }
-    {
-        self.limit = limit;
-    }
-
-    /// With which limits the verdict is the same, where the judging has closed like this.
-    pub fn kept(&self, close: Close) -> Kept
-        ensures { result ≡ kept_by close self.now.limit (max (board_steps self.now) (taken self.now - board_steps self.now)) }
-    {
-        match close {
-            Close::OutOfSteps => Kept::Cut(self.limit),
-            Close::Finished | Close::Aborted | Close::Departed => Kept::Within(self.most_steps()),
-        }
-    }
-
-    /// The larger of the steps of the board's file and those of what comes after it.
-    fn most_steps(&self) -> u32
-        ensures { result ≡ max (board_steps self.now) (taken self.now - board_steps self.now) }
-    {
-        self.earlier.max(self.steps)
-    }
-
-    /// Whether the limit leaves a step.
+    /// Whether a step is left: of 100,000 for the board's file, and of as many for what comes after it.
     pub fn has_step(&self) -> bool
-        ensures { result ≡ nat_lt self.now.steps self.now.limit }
+        ensures { result ≡ nat_lt self.now.steps STEPS }
     {
-        self.steps < self.limit
+        self.steps < STEPS
     }
 
     /// Takes a step.
     pub fn take_step(&mut self)
-        requires { self.old.steps < self.old.limit }
+        requires { self.old.steps < STEPS }
         ensures { self.new ≡ stepped self.old }
     {
-        // The limit is a `u32`, which the proof sees where it is read.
-        let _limit = self.limit;
         self.steps += 1;
     }
 
@@ -261,7 +223,6 @@ impl State {
             on_board: _,
             earlier: _,
             steps: _,
-            limit: _,
             sessions: _,
             actions: _,
             known,

@@ -37,9 +37,6 @@ module _ (add : List ℕ → List ℕ → List ℕ) (buffer : List ℕ) where
   reads-hear limit wait (entry.Chunk whole bytes ∷ es) =
       in_time (nat_le (unwrap_or wait whole) limit) (entry.Chunk whole bytes) es (entry.Chunk whole bytes ∷ es) (add buffer bytes) (limit - unwrap_or wait whole)
       (Some (unwrap_or wait whole - limit)) refl
-  reads-hear limit wait (entry.ErrChunk whole bytes ∷ es) =
-      in_time (nat_le (unwrap_or wait whole) limit) (entry.ErrChunk whole bytes) es (entry.ErrChunk whole bytes ∷ es) (add buffer bytes) (limit - unwrap_or wait whole)
-      (Some (unwrap_or wait whole - limit)) refl
   reads-hear limit wait (entry.End whole ∷ es) =
       in_time (nat_le (unwrap_or wait whole) limit) (entry.End whole) es (entry.End whole ∷ es) buffer (limit - unwrap_or wait whole)
       (Some (unwrap_or wait whole - limit)) refl

@@ -14,87 +14,87 @@ use Rattle.dg_language.specs.Play.{Play}
 use Rattle.dg_language.specs.State.{State}
 use Rattle.dg_language.specs.Evaluation.{Ending, Then, Nested}
 use Rattle.dg_language.specs.Expressions.{host, value_of_tree, calculate, judged, condition, in_decimal, behind_spaces, do_expr}
-use Rattle.dg_laws.proofs.Limits.{Sources, Walks, there}
-use Rattle.dg_laws.proofs.Steps.{WalksInside, completes, either_if, within-walks, fail-walks, if_done-walks}
+use Rattle.dg_laws.specs.Grafting.{Grafted}
+use Rattle.dg_laws.proofs.Steps.{IsGraftedInside, completes, either_if, within-grafted, fail-grafted, if_done-grafted}
 use Rattle.dg_language.specs.Words.{nested_in}
-use Rattle.dg_laws.proofs.WordMaking.{joined-walks}
+use Rattle.dg_laws.proofs.WordMaking.{joined-grafted}
 
-module _ {src : Sources} (nested : Nested) (inside : WalksInside src nested) where
-  settle-walks : (r : Value) (x y : List ℕ) (s : State) {f : List ℕ → State → Then → Play Ending}
-      → ((v : List ℕ) (s' : State) → Walks src s' (f v s') (f v (there src s'))) → Walks src s (λ k. settle (host nested k) r x y s (λ v s'. f v s' k)) (λ k. settle (host nested k) r x y (there src s) (λ v s'. f v s' k))
+module _ (nested : Nested) (inside : IsGraftedInside nested) where
+  settle-grafted : (r : Value) (x y : List ℕ) (s : State) {f : List ℕ → State → Then → Play Ending}
+      → ((v : List ℕ) (s' : State) → Grafted (f v s')) → Grafted (λ k. settle (host nested k) r x y s (λ v s'. f v s' k))
   unfolding host
-  settle-walks (Ok v) x y s f = f v s
-  settle-walks (Err fault) x y s f = fail-walks _ s
+  settle-grafted (Ok v) x y s f = f v s
+  settle-grafted (Err fault) x y s f = fail-grafted _ s
 
-  judge-walks : (o : Option Bool) (x : List ℕ) (s : State) {f g : Bool → Then → Play Ending} → ((t : Bool) → Walks src s (f t) (g t))
-      → Walks src s (λ k. judge (host nested k) o x s (λ t. f t k)) (λ k. judge (host nested k) o x (there src s) (λ t. g t k))
+  judge-grafted : (o : Option Bool) (x : List ℕ) (s : State) {f : Bool → Then → Play Ending} → ((t : Bool) → Grafted (f t))
+      → Grafted (λ k. judge (host nested k) o x s (λ t. f t k))
   unfolding host
-  judge-walks None x s f = fail-walks _ s
-  judge-walks (Some t) x s f = f t
+  judge-grafted None x s f = fail-grafted _ s
+  judge-grafted (Some t) x s f = f t
 
   -- whatever comes after the value of a tree
-  WalksValue : Tree → Type 0
-  WalksValue tree = (s : State) (f : List ℕ → State → Then → Play Ending) → ((v : List ℕ) (s' : State) → Walks src s' (f v s') (f v (there src s')))
-      → Walks src s (λ k. value (host nested k) tree s (λ v s'. f v s' k)) (λ k. value (host nested k) tree (there src s) (λ v s'. f v s' k))
+  IsGraftedValue : Tree → Type 0
+  IsGraftedValue tree = (s : State) (f : List ℕ → State → Then → Play Ending) → ((v : List ℕ) (s' : State) → Grafted (f v s'))
+      → Grafted (λ k. value (host nested k) tree s (λ v s'. f v s' k))
 
-  truth_behind-walks : (right : Tree) → WalksValue right → (s : State) {f : List ℕ → State → Then → Play Ending}
-      → ((v : List ℕ) (s' : State) → Walks src s' (f v s') (f v (there src s')))
-      → Walks src s (λ k. truth_behind (host nested k) (λ t l. value (host nested k) right t l) s (λ v s'. f v s' k)) (λ k. truth_behind (host nested k) (λ t l. value (host nested k) right t l) (there src s) (λ v s'. f v s' k))
-  unfolding WalksValue
-  truth_behind-walks right is s {f} more =
+  truth_behind-grafted : (right : Tree) → IsGraftedValue right → (s : State) {f : List ℕ → State → Then → Play Ending}
+      → ((v : List ℕ) (s' : State) → Grafted (f v s'))
+      → Grafted (λ k. truth_behind (host nested k) (λ t l. value (host nested k) right t l) s (λ v s'. f v s' k))
+  unfolding IsGraftedValue
+  truth_behind-grafted right is s {f} more =
       is s (λ y s' k. judge (host nested k) (truth_of y) y s' (λ t. f (truth_text t) s' k))
-      (λ y s'. judge-walks (truth_of y) y s' (λ t. more (truth_text t) s'))
+      (λ y s'. judge-grafted (truth_of y) y s' (λ t. more (truth_text t) s'))
 
-  value_behind-walks : (j : Joins) (op : Infix) (x : List ℕ) (right : Tree) → WalksValue right → (s : State)
-      {f : List ℕ → State → Then → Play Ending} → ((v : List ℕ) (s' : State) → Walks src s' (f v s') (f v (there src s')))
-      → Walks src s (λ k. value_behind (host nested k) j op x (λ t l. value (host nested k) right t l) s (λ v s'. f v s' k)) (λ k. value_behind (host nested k) j op x (λ t l. value (host nested k) right t l) (there src s) (λ v s'. f v s' k))
-  unfolding WalksValue
-  value_behind-walks Always op x right is s {f} more =
+  value_behind-grafted : (j : Joins) (op : Infix) (x : List ℕ) (right : Tree) → IsGraftedValue right → (s : State)
+      {f : List ℕ → State → Then → Play Ending} → ((v : List ℕ) (s' : State) → Grafted (f v s'))
+      → Grafted (λ k. value_behind (host nested k) j op x (λ t l. value (host nested k) right t l) s (λ v s'. f v s' k))
+  unfolding IsGraftedValue
+  value_behind-grafted Always op x right is s {f} more =
       is s (λ y s' k. settle (host nested k) (value_of op x y) x y s' (λ v t. f v t k))
-      (λ y s'. settle-walks (value_of op x y) x y s' more)
-  value_behind-walks WhereTrue op x right is s more =
-      judge-walks (truth_of x) x s (λ t. either_if t (truth_behind-walks right is s more) (more (truth_text false) s))
-  value_behind-walks WhereFalse op x right is s more =
-      judge-walks (truth_of x) x s (λ t. either_if t (more (truth_text true) s) (truth_behind-walks right is s more))
+      (λ y s'. settle-grafted (value_of op x y) x y s' more)
+  value_behind-grafted WhereTrue op x right is s more =
+      judge-grafted (truth_of x) x s (λ t. either_if t (truth_behind-grafted right is s more) (more (truth_text false) s))
+  value_behind-grafted WhereFalse op x right is s more =
+      judge-grafted (truth_of x) x s (λ t. either_if t (more (truth_text true) s) (truth_behind-grafted right is s more))
 
-  value-walks : (tree : Tree) → WalksValue tree
-  unfolding value WalksValue host
-  value-walks (Operand pieces) s f more = joined-walks nested inside (nested_in pieces) [] s more
-  value-walks (One op a) s f more =
-      value-walks a s (λ x s' k. settle (host nested k) (value_of_one op x) x [] s' (λ v t. f v t k))
-      (λ x s'. settle-walks (value_of_one op x) x [] s' more)
-  value-walks (Two op a b) s f more =
-      value-walks a s (λ x s' k. value_behind (host nested k) (joining op) op x (λ t l. value (host nested k) b t l) s' (λ v t. f v t k))
-      (λ x s'. value_behind-walks (joining op) op x b (value-walks b) s' more)
-  value-walks (Choice c a b) s f more =
-      value-walks c s
+  value-grafted : (tree : Tree) → IsGraftedValue tree
+  unfolding value IsGraftedValue host
+  value-grafted (Operand pieces) s f more = joined-grafted nested inside (nested_in pieces) [] s more
+  value-grafted (One op a) s f more =
+      value-grafted a s (λ x s' k. settle (host nested k) (value_of_one op x) x [] s' (λ v t. f v t k))
+      (λ x s'. settle-grafted (value_of_one op x) x [] s' more)
+  value-grafted (Two op a b) s f more =
+      value-grafted a s (λ x s' k. value_behind (host nested k) (joining op) op x (λ t l. value (host nested k) b t l) s' (λ v t. f v t k))
+      (λ x s'. value_behind-grafted (joining op) op x b (value-grafted b) s' more)
+  value-grafted (Choice c a b) s f more =
+      value-grafted c s
       (λ x s' k. judge (host nested k) (truth_of x) x s' (λ t.
       if t then value (host nested k) a s' (λ v u. f v u k) else value (host nested k) b s' (λ v u. f v u k)))
-      (λ x s'. judge-walks (truth_of x) x s' (λ t. either_if t (value-walks a s' f more) (value-walks b s' f more)))
+      (λ x s'. judge-grafted (truth_of x) x s' (λ t. either_if t (value-grafted a s' f more) (value-grafted b s' f more)))
 
-  value_of_tree-walks : (tree : Option Tree) (text : List ℕ) (s : State) → Walks src s (value_of_tree nested tree text s) (value_of_tree nested tree text (there src s))
-  unfolding WalksValue
-  value_of_tree-walks None text s = fail-walks _ s
-  value_of_tree-walks (Some tree) text s = value-walks tree s (λ v s' k. k Done v s') (λ v s'. completes Done v s')
+  value_of_tree-grafted : (tree : Option Tree) (text : List ℕ) (s : State) → Grafted (value_of_tree nested tree text s)
+  unfolding IsGraftedValue
+  value_of_tree-grafted None text s = fail-grafted _ s
+  value_of_tree-grafted (Some tree) text s = value-grafted tree s (λ v s' k. k Done v s') (λ v s'. completes Done v s')
 
-  calculate-walks : (text : List ℕ) (s : State) → Walks src s (calculate nested text s) (calculate nested text (there src s))
+  calculate-grafted : (text : List ℕ) (s : State) → Grafted (calculate nested text s)
   unfolding calculate
-  calculate-walks text s = value_of_tree-walks (tree_in text) text s
+  calculate-grafted text s = value_of_tree-grafted (tree_in text) text s
 
-  judged-walks : (truth : Option Bool) (v : List ℕ) (s : State) {f g : Bool → Then → Play Ending} → ((holds : Bool) → Walks src s (f holds) (g holds))
-      → Walks src s (λ k. judged truth v s k (λ holds. f holds k)) (λ k. judged truth v (there src s) k (λ holds. g holds k))
-  judged-walks None v s f = fail-walks _ s
-  judged-walks (Some holds) v s f = f holds
+  judged-grafted : (truth : Option Bool) (v : List ℕ) (s : State) {f : Bool → Then → Play Ending} → ((holds : Bool) → Grafted (f holds))
+      → Grafted (λ k. judged truth v s k (λ holds. f holds k))
+  judged-grafted None v s f = fail-grafted _ s
+  judged-grafted (Some holds) v s f = f holds
 
-  pub condition-walks : (text : List ℕ) (s : State) {f : Bool → State → Then → Play Ending}
-      → ((holds : Bool) (s' : State) → Walks src s' (f holds s') (f holds (there src s'))) → Walks src s (λ k. condition nested text s (λ holds s'. f holds s' k) k) (λ k. condition nested text (there src s) (λ holds s'. f holds s' k) k)
+  pub condition-grafted : (text : List ℕ) (s : State) {f : Bool → State → Then → Play Ending}
+      → ((holds : Bool) (s' : State) → Grafted (f holds s')) → Grafted (λ k. condition nested text s (λ holds s'. f holds s' k) k)
   unfolding condition
-  condition-walks text s more =
-      if_done-walks (calculate-walks text s) (λ v s'. judged-walks (truth_of v) v s' (λ holds. more holds s'))
+  condition-grafted text s more =
+      if_done-grafted (calculate-grafted text s) (λ v s'. judged-grafted (truth_of v) v s' (λ holds. more holds s'))
 
-  pub do_expr-walks : (args : List (List ℕ)) (s : State) → Walks src s (do_expr nested args s) (do_expr nested args (there src s))
+  pub do_expr-grafted : (args : List (List ℕ)) (s : State) → Grafted (do_expr nested args s)
   unfolding do_expr
-  do_expr-walks [] s = fail-walks _ s
-  do_expr-walks (w ∷ ws) s =
-      within-walks (length (w ++ behind_spaces ws)) s
-      (if_done-walks (calculate-walks (w ++ behind_spaces ws) s) (λ v s'. completes Done (in_decimal v) s'))
+  do_expr-grafted [] s = fail-grafted _ s
+  do_expr-grafted (w ∷ ws) s =
+      within-grafted (length (w ++ behind_spaces ws)) s
+      (if_done-grafted (calculate-grafted (w ++ behind_spaces ws) s) (λ v s'. completes Done (in_decimal v) s'))

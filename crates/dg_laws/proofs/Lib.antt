@@ -1,6 +1,4 @@
 pub mod Trees
-pub mod Limits
-pub mod Changes
 pub mod Steps
 pub mod Completing
 pub mod VariableCommands
@@ -15,7 +13,6 @@ pub mod Matching
 pub mod ExpectCommands
 pub mod Texts
 pub mod Judging
-pub mod LimitLaw
 pub mod Conclusions
 pub mod Peeking
 pub mod Replaying

@@ -12,7 +12,7 @@ use Rattle.dg_laws.specs.Law.{peek}
 
 -- some end, and some question
 an_ending : ℕ → Ending
-an_ending n = record { verdict = []; close = Finished; board_steps = 0; steps = n; limit = 0 }
+an_ending n = record { verdict = []; close = Finished; board_steps = 0; steps = n }
 
 ends : ℕ → Then
 ends n c v s = Ends (an_ending n)

@@ -1,8 +1,8 @@
 -- An action comes to the replay of the entries that a source tells of.
 use Rattle.std.proofs.Common.{◌≡◌, ℕ, ◌+◌, ◌-◌, ◌<◌, ◌≤◌, Bool, true, false, cond, List, [], ◌∷◌, length, set, refl, ap, sym, ◌∙◌, subst, ⊎_elim, arith, get_or-set_same, length-set}
-use Rattle.std.specs.Prelude.{Option, Some, None, ◌==◌, nat_lt, slice_get, codes}
+use Rattle.std.specs.Prelude.{Option, Some, None, ◌==◌, slice_get}
 use Rattle.std.proofs.lemmas.Option.{slice_get-get_or, slice_get_within}
-use Rattle.std.proofs.lemmas.Bool.{eq-eqb, ne_eqb, ltb-true, ltb-false, lt-ltb}
+use Rattle.std.proofs.lemmas.Bool.{eq-eqb, ne_eqb}
 use Rattle.dg_transcript.specs.declared.entry.Entry.{Entry}
 use Rattle.dg_transcript.specs.declared.cursor.Cursor.{Cursor}
 use Rattle.dg_transcript.specs.declared.cursor.Act.{Act}
@@ -13,7 +13,7 @@ use Rattle.dg_transcript.proofs.Replaying.{steps_replay}
 use Rattle.dg_sessions.specs.Views.{SessionView, SessionsView, most_entries, session_at}
 use Rattle.dg_sessions.specs.Phases.{phase_behind}
 use Rattle.dg_sessions.specs.Steps.{with_chunk, step_of, behind, acted, acted_at, all_acted, used_between}
-use Rattle.dg_sessions.proofs.StepLemmas.{UsesUp, RestsBy, one_used, step_goes, step_rests, acted_answered, acted_wants, acted_timed_out, acted_departed}
+use Rattle.dg_sessions.proofs.StepLemmas.{UsesUp, RestsBy, one_used, step_goes, step_rests, acted_answered, acted_wants, acted_timed_out}
 use Rattle.dg_world.specs.declared.question.Question.{Question}
 use Rattle.dg_world.specs.declared.question.Answer.{Answer}
 use Rattle.dg_world.specs.declared.question.Answer.TheVariants as answer
@@ -22,13 +22,13 @@ use Rattle.dg_world.specs.Question.{same_question}
 use Rattle.dg_language.specs.declared.ask.Ask.{Ask}
 use Rattle.dg_language.specs.Play.{Play, Source, heard, on_answer, GivesEach, lookup, run}
 use Rattle.dg_language.specs.State.{State, learn, with_sessions}
-use Rattle.dg_language.specs.Evaluation.{Ending, cut}
+use Rattle.dg_language.specs.Evaluation.{Ending}
 use Rattle.dg_language.specs.Arguments.{on}
-use Rattle.dg_language.specs.Sessions.{Told, Late, depart, entry_for, hear_for, ask_for, entry_in, come_to, at_entry, performing, perform}
+use Rattle.dg_language.specs.Sessions.{Told, Late, depart, entry_for, hear_for, ask_for, entry_in, come_to, at_entry, perform}
 use Rattle.dg_language.proofs.Asking.{same_question-true}
 use Rattle.dg_language.proofs.Once.{gives-append}
 use Rattle.dg_language.proofs.Performing.{perform-first}
-use Rattle.dg_laws.specs.Replays.{Tells, Stands, OnlySessions, ComesTo, unanswered, ActionsAreReplayed}
+use Rattle.dg_laws.specs.Replays.{Tells, Stands, OnlySessions, ComesTo, ActionsAreReplayed}
 
 some-same : (a b : Answer) → Some a ≡ Some b → a ≡ b
 some-same a b e = cc
@@ -102,25 +102,13 @@ module _ (n : ℕ) (a : Action) (e : Entry) where
   unfolding with_sessions
   at_entry-test t = refl
 
--- where an entry may still be used up, what nothing answers is a departure
-departs : (s : State) → nat_lt s.sessions.used most_entries ≡ true → unanswered s ≡ depart s
-departs s room = rw room refl
-
--- and else it meets the limit, as each action does then
-meets-limit : (n : ℕ) (a : Action) (told : Told) (late : Late) (s : State) → nat_lt s.sessions.used most_entries ≡ false → perform n a told late s ≡ unanswered s
-unfolding perform performing
-meets-limit n a told late s full =
-    let over : most_entries ≤ s.sessions.used = ltb-false s.sessions.used most_entries full in
-    let none : most_entries - s.sessions.used ≡ 0 = omega arith in
-    ap (λ r. performing r n a told late s) none ∙ ap (λ (b : Bool). cond b (depart s) (cut (codes "too many transcript entries") s)) (sym full)
-
 -- a session of whose record these entries are left, and the source tells of them
 record Holds (look : Source) (n : ℕ) (s : State) (es : List Entry) : Type 0 where
   given : GivesEach look s.known
   session : SessionView
   there : session_at n s.sessions ≡ Some session
   tells : Tells look s.test n session.cursor.place es
-  room : s.sessions.used + length es ≤ most_entries
+  room : s.sessions.used + length es < most_entries
   within : session.cursor.place + length es ≤ 65536
 
 pub only-only : (s t u : State) → OnlySessions s t → OnlySessions t u → OnlySessions s u
@@ -157,13 +145,9 @@ module _ (look : Source) (n : ℕ) (told : Told) (late : Late) where
 
   comes : (es : List Entry) (a : Action) (s : State) (h : Holds look n s es)
       → ComesTo look n h.session.max told late s (perform n a told late s) (steps (with_chunk h.session.max) h.session.cursor a h.session.buffer es)
-  comes [] a s h = at_end (nat_lt s.sessions.used most_entries) refl
-    where
-      at_end : (b : Bool) → nat_lt s.sessions.used most_entries ≡ b → ComesTo look n h.session.max told late s (perform n a told late s) departed
-      at_end true room =
-          let r = reached a s h.session answer.Ended h.there (ltb-true s.sessions.used most_entries room) h.given (ap (heard (entry_for n h.session a s).question) h.tells) in
-          (r.then, r.runs ∙ ap (run look) (sym (departs r.then (ap (λ ss. nat_lt ss.used most_entries) r.sessions ∙ room))), r.only)
-      at_end false full = (s, ap (run look) (meets-limit n a told late s full), refl)
+  comes [] a s h =
+      let r = reached a s h.session answer.Ended h.there (omega (arith, h.room)) h.given (ap (heard (entry_for n h.session a s).question) h.tells) in
+      (r.then, r.runs, r.only)
   comes (e ∷ es) a s h = by_act (step_of v a e).act refl r.runs (λ b t g. comes es b t g)
     where
       v : SessionView
@@ -276,10 +260,7 @@ module _ (look : Source) (n : ℕ) (told : Told) (late : Late) where
             room = omega (arith, h.room, u_used, place-kept, next_place);
             within = omega (arith, h.within, next_place);
           })
-      by_act act.Departed is runs more =
-          let stays : (acted v a e).cursor.place ≡ v.cursor.place = ap (λ w. w.cursor.place) (acted_departed v a e is) in
-          let room : nat_lt u.sessions.used most_entries ≡ true = lt-ltb u.sessions.used most_entries (omega (arith, h.room, u_used, stays)) in
-          (u, runs ∙ ap (run look) (sym (departs u room)), u_only)
+      by_act act.Departed is runs more = (u, runs, u_only)
 
 pub actions_replayed : ActionsAreReplayed
 actions_replayed look n max a told late s l st =

@@ -18,9 +18,9 @@ graft-onward (Ends (Completes c v s)) g k = refl
 graft-onward (Ends (Stops e)) g k = refl
 graft-onward (Asks q f) g k = ap (Asks q) (λ i a. graft-onward (f a) g k i)
 
-pub grafted-after : {f : Then → Play Ending} {g : Code → List ℕ → State → Then → Play Ending} → Grafted f
+pub one_after_another : {f : Then → Play Ending} {g : Code → List ℕ → State → Then → Play Ending} → Grafted f
     → ((c : Code) (v : List ℕ) (s : State) → Grafted (g c v s)) → Grafted (λ k. f (λ c v s. g c v s k))
-grafted-after {g = g} first second =
+one_after_another {g = g} first second =
     record {
       alone = onward first.alone (λ c v s. (second c v s).alone);
       grows = λ k.

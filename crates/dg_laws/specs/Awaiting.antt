@@ -13,9 +13,10 @@ use Rattle.dg_sessions.specs.Steps.{with_chunk}
 use Rattle.dg_language.specs.Play.{Play, Source, run}
 use Rattle.dg_language.specs.State.{State}
 use Rattle.dg_language.specs.Evaluation.{Ending, Then, Nested}
+use Rattle.dg_language.specs.Sessions.{depart}
 use Rattle.dg_language.specs.ExpectWords.{patterns_in, is_for_timeout, is_for_end}
 use Rattle.dg_language.specs.Expecting.{Waiting, with_match, with_end, action_at, first_action, act, one_round}
-use Rattle.dg_laws.specs.Replays.{Stands, OnlySessions, unanswered}
+use Rattle.dg_laws.specs.Replays.{Stands, OnlySessions}
 
 -- With so much of a limit, a read of what is left is answered with a chunk, and then that limit and those entries are left.
 pub record ReadsChunk (max limit : ℕ) (l : Left) (chunk : List ℕ) (less : ℕ) (r : Left) : Type 0 where
@@ -41,7 +42,7 @@ Ends look max nested w again k s play r None (answered e q a) =
 Ends look max nested w again k s play r None (timed_out q) =
     (t : State) × OnlySessions s t × Stands look w.session max t q
     × (run look play ≡ run look (act nested w.session (first_action is_for_timeout w.pairs) again t k))
-Ends look max nested w again k s play r None departed = (t : State) × OnlySessions s t × (run look play ≡ run look (unanswered t))
+Ends look max nested w again k s play r None departed = (t : State) × OnlySessions s t × (run look play ≡ run look (depart t))
 
 -- In a source that answers a session's entries from a list, `expect` takes the hit at the least number of chunks that has one, unless a timeout, the end
 -- or a departure comes first.

@@ -1,5 +1,5 @@
 -- What an action on a session comes to in a source that answers the session's entries from a list.
-use Rattle.std.specs.Prelude.{◌≡◌, ℕ, ◌+◌, ◌≤◌, nat_lt, if◌then◌else◌, List, [], ◌∷◌, length, Some, codes}
+use Rattle.std.specs.Prelude.{◌≡◌, ℕ, ◌+◌, ◌<◌, ◌≤◌, List, [], ◌∷◌, length, Some}
 use Rattle.dg_sessions.specs.declared.sessions.TheConstants.{MAX_USED}
 use Rattle.dg_transcript.specs.declared.entry.Entry.{Entry}
 use Rattle.dg_transcript.specs.declared.cursor.Action.{Action}
@@ -12,7 +12,7 @@ use Rattle.dg_world.specs.declared.question.Question.{Question}
 use Rattle.dg_world.specs.declared.test_id.TestId.{TestId}
 use Rattle.dg_language.specs.Play.{Play, Source, GivesEach, run}
 use Rattle.dg_language.specs.State.{State}
-use Rattle.dg_language.specs.Evaluation.{Ending, cut}
+use Rattle.dg_language.specs.Evaluation.{Ending}
 use Rattle.dg_language.specs.Sessions.{Told, Late, depart, perform}
 
 -- the question for the entry of session n at a place, in the transcript of a test
@@ -25,7 +25,7 @@ Tells look test n place [] = look (entry_question test n place) ≡ Some answer.
 Tells look test n place (e ∷ es) = (look (entry_question test n place) ≡ Some (answer.Entry e)) × Tells look test n (place + 1) es
 
 -- What was answered so far the source gives too, and session n has this left of its record: of which the source tells, and which is
--- no longer than what an evaluation may still use up.
+-- so short that not all entries of an evaluation come to be used up.
 pub record Stands (look : Source) (n max : ℕ) (s : State) (l : Left) : Type 0 where
   pub given : GivesEach look s.known
   pub session : SessionView
@@ -34,25 +34,21 @@ pub record Stands (look : Source) (n max : ℕ) (s : State) (l : Left) : Type 0 
   pub buffer : session.buffer ≡ l.buffer
   pub kept : session.max ≡ max
   pub tells : Tells look s.test n session.cursor.place l.entries
-  pub room : s.sessions.used + length l.entries ≤ most_entries
+  pub room : s.sessions.used + length l.entries < most_entries
   pub within : session.cursor.place + length l.entries ≤ MAX_USED
-
--- What comes of an action that its record doesn't answer: a departure; or the limit, where all entries of an evaluation are used up.
-abbrev pub unanswered : State → Play Ending
-unanswered s = if nat_lt s.sessions.used most_entries then depart s else cut (codes "too many transcript entries") s
 
 -- only the sessions have changed, and what is known
 abbrev pub OnlySessions : State → State → Type 0
 OnlySessions s t = t ≡ record s { known = t.known; sessions = t.sessions }
 
 -- What an action on session n goes on with in the source: with the entry that answers it, from what is left then; with what is done when its
--- limit has passed; or with what comes where nothing answers it.
+-- limit has passed; or it departs.
 abbrev pub ComesTo : Source → ℕ → ℕ → Told → Late → State → Play Ending → Outcome → Type 0
 ComesTo look n max told late s play (answered e l a) =
     (t : State) × (run look play ≡ run look (told e t (perform n a told late t))) × OnlySessions s t × Stands look n max t l
 ComesTo look n max told late s play (timed_out l) =
     (t : State) × (run look play ≡ run look (late t)) × OnlySessions s t × Stands look n max t l
-ComesTo look n max told late s play departed = (t : State) × (run look play ≡ run look (unanswered t)) × OnlySessions s t
+ComesTo look n max told late s play departed = (t : State) × (run look play ≡ run look (depart t)) × OnlySessions s t
 
 -- In a source that answers a session's entries from a list, an action comes to the replay of that list.
 abbrev pub ActionsAreReplayed : Type 0

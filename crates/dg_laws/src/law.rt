@@ -1,5 +1,4 @@
 //! The laws on continuations.
-ghost use Rattle.dg_language.specs.Law.{LimitsKeepTheEnd};
 ghost use Rattle.dg_laws.specs.Law.{EachTextIsGrafted, TheJudgingIsGrafted, EachTextComesToAConclusion, NoPeekIsGrafted};
 ghost use Rattle.dg_laws.specs.WordValues.{NestedFormIsOne, ReadWordsAreNested};
 
@@ -11,13 +10,6 @@ pub fn each_text_is_grafted()
 /// So is the tree of a whole judging: of the board's file, the tool's library and the script.
 pub fn the_judging_is_grafted()
     ensures { TheJudgingIsGrafted }
-{}
-
-/// Where the judging of a test ends in one source, and another gives each of its answers and a limit on steps that keeps the
-/// verdict, the judging ends there in the same way, after as many steps: where no limit was met, each limit keeps the verdict
-/// that leaves as many steps as the board's file took and as many as came after it; else the limit that was met does.
-pub fn limits_keep_the_end()
-    ensures { LimitsKeepTheEnd }
 {}
 
 /// In each source a text comes to a code, a value and a state, to a limit, or to a question without an answer, and which

@@ -1,12 +1,11 @@
 -- What a plan by what words match can fail with.
-use Rattle.std.proofs.Common.{◌≡◌, ℕ, Bool, true, false, List, [], if◌then◌else◌, Option, Some, None, Result, Ok, Err, IfErr, ◌⊎◌, inl, inr, subst, sym, codes}
-use Rattle.clap.specs.Walk.{Row, Text, first_of}
+use Rattle.std.proofs.Common.{◌≡◌, ℕ, Bool, true, false, List, [], if◌then◌else◌, Option, Some, None, Result, Ok, Err, IfErr, ◌⊎◌, inl, inr, subst, sym}
+use Rattle.clap.specs.Walk.{Row, Text}
 use Rattle.clap.specs.Faults.{fault_of}
 use Rattle.dg_line.specs.Options.{line_app, line_rows}
-use Rattle.dg_line.specs.Values.{logged_in, selects_well, words_of}
-use Rattle.dg_line.specs.declared.logged.Logged.{Logged}
+use Rattle.dg_line.specs.Values.{selects_well, words_of}
 use Rattle.dg_line.specs.Words.{bad_word_in}
-use Rattle.dg_line.specs.Plan.{HasFault, is_bare, mode_of, plan_by, plan_in, plan_logged, plan_made, plan_where}
+use Rattle.dg_line.specs.Plan.{HasFault, is_bare, mode_of, plan_by, plan_in, plan_made, plan_where}
 use Rattle.dg_line.specs.declared.plan.Plan.{Plan}
 use Rattle.dg_line.specs.declared.plan.Mode.{Mode}
 use Rattle.dg_line.specs.declared.fault.LineFault.{LineFault}
@@ -26,28 +25,23 @@ chosen : (b : Bool) (plan : Plan) → IsReadSo (if b then Ok plan else Err fault
 chosen true plan = tt
 chosen false plan = tt
 
-in_mode : (l : Logged) (m : Option Mode) (rows : List Row) → IsReadSo (plan_in l m rows)
-in_mode l None rows = tt
-in_mode l (Some mode) rows = chosen (selects_well rows) (plan_made l mode rows)
+in_mode : (m : Option Mode) (rows : List Row) → IsReadSo (plan_in m rows)
+in_mode None rows = tt
+in_mode (Some mode) rows = chosen (selects_well rows) (plan_made mode rows)
 
-placed : (o : Option ℕ) (l : Logged) (m : Option Mode) (rows : List Row) → IsReadSo (plan_where o l m rows)
-placed (Some place) l m rows = tt
-placed None l m rows = in_mode l m rows
-
-logged : (o : Option Logged) (bare : Bool) (rows : List Row) → IsReadSo (plan_logged o bare rows)
-logged None bare rows = tt
-logged (Some l) bare rows = placed (bad_word_in (words_of rows)) l (mode_of bare rows) rows
+placed : (o : Option ℕ) (m : Option Mode) (rows : List Row) → IsReadSo (plan_where o m rows)
+placed (Some place) m rows = tt
+placed None m rows = in_mode m rows
 
 textless : (bare : Bool) (rows : List Row) (f : LineFault) → plan_by bare rows ≡ Err f → IsTextless f
 unfolding plan_by
-textless bare rows f e = subst IsReadSo e (logged (logged_in (first_of (codes "log") rows)) bare rows)
+textless bare rows f e = subst IsReadSo e (placed (bad_word_in (words_of rows)) (mode_of bare rows) rows)
 
 fails : (words : List Text) (f : LineFault) → fault_of line_app words ≡ [] → (f ≡ fault.Memory) ⊎ (plan_by (is_bare words) (line_rows words) ≡ Err f) → HasFault words f
 fails words f none (inl e) = subst (HasFault words) (sym e) tt
 fails words (fault.Words text) none (inr e) = absurd (textless _ _ _ e)
 fails words (fault.Shown text) none (inr e) = absurd (textless _ _ _ e)
 fails words fault.Memory none (inr e) = tt
-fails words fault.BadLog none (inr e) = (none, e)
 fails words (fault.BadWord place) none (inr e) = (none, e)
 fails words fault.TwoModes none (inr e) = (none, e)
 fails words fault.BadSelection none (inr e) = (none, e)

@@ -29,7 +29,6 @@ pub selects_by_fault : (words : List (List ℕ)) (f : LineFault) → list_all is
 selects_by_fault words (fault.Words t) e (kind, among, asks) other = refused kind _ (planned words) among ∙ text words e
 selects_by_fault words (fault.Shown t) e (kind, among, asks) other = refused kind _ (planned words) among ∙ text words e
 selects_by_fault words fault.Memory e h other = absurd (true≢false other)
-selects_by_fault words fault.BadLog e (none, read) other = sym (ap₂ selected_in none read) ∙ text words e
 selects_by_fault words (fault.BadWord place) e (none, read) other = sym (ap₂ selected_in none read) ∙ text words e
 selects_by_fault words fault.TwoModes e (none, read) other = sym (ap₂ selected_in none read) ∙ text words e
 selects_by_fault words fault.BadSelection e (none, read) other = sym (ap₂ selected_in none read) ∙ text words e

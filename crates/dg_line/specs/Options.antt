@@ -1,11 +1,11 @@
 -- The options of the line, as `clap` reads them.
-use Rattle.std.specs.Prelude.{ℕ, List, Some, codes, true}
+use Rattle.std.specs.Prelude.{List, Some, codes, true}
 use Rattle.clap.specs.Lexer.{usize_max}
 use Rattle.clap.specs.Walk.{Row, Rule, Text}
 use Rattle.clap.specs.Simple.{App, matches_of, new_app, new_rule, on_top, with_rule}
 use Rattle.clap.specs.declared.builder.action.ArgAction.{ArgAction}
 use Rattle.clap.specs.declared.builder.action.ArgAction.TheVariants.{Set, SetTrue, Append, Help, Version}
-use Rattle.clap.specs.declared.builder.value_parser.ValueParser.TheVariants.{NonEmptyString, Unsigned}
+use Rattle.clap.specs.declared.builder.value_parser.ValueParser.TheVariants.{Unsigned}
 
 -- an option `--NAME VALUE`
 abbrev pub option_rule : Text → Rule
@@ -15,21 +15,13 @@ option_rule name = record (new_rule name) { long = Some name; action = Some Set;
 abbrev pub jobs_rule : Rule
 jobs_rule = record (option_rule (codes "jobs")) { parser = Some (Unsigned 1 16) }
 
--- the limit on steps: a number from 1,000 to 1,000,000
-abbrev pub steps_rule : Rule
-steps_rule = record (option_rule (codes "steps")) { parser = Some (Unsigned 1000 1000000) }
-
--- an option for a folder, whose name is not empty
-abbrev pub place_rule : Text → Rule
-place_rule name = record (option_rule name) { parser = Some NonEmptyString }
-
 -- a flag `--NAME`
 abbrev pub flag_rule : Text → Rule
 flag_rule name = record (new_rule name) { long = Some name; action = Some SetTrue }
 
--- a flag that asks for a text, and its letter
-abbrev pub asking_rule : ArgAction → ℕ → Text → Rule
-asking_rule action letter name = record (new_rule name) { long = Some name; short = Some letter; action = Some action }
+-- a flag that asks for a text
+abbrev pub asking_rule : ArgAction → Text → Rule
+asking_rule action name = record (new_rule name) { long = Some name; action = Some action }
 
 -- the words that are no options
 abbrev pub words_rule : Rule
@@ -50,7 +42,7 @@ with_option app name = with_rule app (option_rule name)
 
 -- what is run
 abbrev pub with_choices : App → App
-with_choices app = with_rule (with_rule (with_option (with_option app (codes "tool")) (codes "ignore")) steps_rule) jobs_rule
+with_choices app = with_rule (with_option (with_option app (codes "tool")) (codes "ignore")) jobs_rule
 
 -- on what it runs
 abbrev pub with_machines : App → App
@@ -59,16 +51,13 @@ with_machines app =
 
 -- where files stand
 abbrev pub with_places : App → App
-with_places app = with_option (with_rule (with_rule app (place_rule (codes "srcdir"))) (place_rule (codes "outdir"))) (codes "log")
+with_places app = with_option (with_option app (codes "srcdir")) (codes "outdir")
 
 -- what is done
-abbrev pub with_flags : App → App
-with_flags app =
-    with_rule (with_rule (with_rule app (flag_rule (codes "rejudge"))) (flag_rule (codes "session"))) (flag_rule (codes "list"))
-
 abbrev pub with_modes : App → App
 with_modes app =
-    with_rule (with_rule (with_flags app) (asking_rule Help 104 (codes "help"))) (asking_rule Version 86 (codes "version"))
+    with_rule (with_rule (with_rule (with_rule app (flag_rule (codes "rejudge"))) (flag_rule (codes "session")))
+    (asking_rule Help (codes "help"))) (asking_rule Version (codes "version"))
 
 -- the program with its options
 unfoldable pub line_app : App

@@ -8,8 +8,7 @@ use Rattle.clap.specs.declared.error.kind.ErrorKind.{ErrorKind}
 use Rattle.clap.specs.declared.error.kind.ErrorKind.TheVariants.{DisplayHelp, DisplayVersion, OutOfMemory}
 use Rattle.dg_line.specs.Options.{line_app, line_rows}
 use Rattle.dg_line.specs.Words.{bad_word_in}
-use Rattle.dg_line.specs.Values.{jobs_in, logged_in, option_or, selected_by, selects_well, words_of}
-use Rattle.dg_line.specs.declared.logged.Logged.{Logged}
+use Rattle.dg_line.specs.Values.{jobs_in, option_or, selected_by, selects_well, words_of}
 use Rattle.dg_line.specs.declared.plan.Plan.{Plan}
 use Rattle.dg_line.specs.declared.plan.Mode.{Mode}
 use Rattle.dg_line.specs.declared.plan.Mode.TheVariants.{Run, Rejudge, Session}
@@ -40,37 +39,30 @@ mode_by bare false false = Some (if bare then Session else Run)
 abbrev pub mode_of : Bool → List Row → Option Mode
 mode_of bare rows = mode_by bare (has_flag (codes "rejudge") rows) (has_flag (codes "session") rows)
 
--- the plan in a mode, whose log tells of these tests
-abbrev pub plan_made : Logged → Mode → List Row → Plan
-plan_made logged mode rows =
+-- the plan in a mode
+abbrev pub plan_made : Mode → List Row → Plan
+plan_made mode rows =
     record {
       mode = mode;
       srcdir = option_or rows (codes "srcdir") (codes ".");
       outdir = option_or rows (codes "outdir") (codes ".");
       jobs = jobs_in (first_of (codes "jobs") rows);
-      logged = logged;
-      lists = has_flag (codes "list") rows;
       selection = selected_by rows;
     }
 
 -- the plan in a mode, where what is selected is valid
-abbrev pub plan_in : Logged → Option Mode → List Row → Result Plan LineFault
-plan_in logged None rows = Err fault.TwoModes
-plan_in logged (Some mode) rows = if selects_well rows then Ok (plan_made logged mode rows) else Err fault.BadSelection
+abbrev pub plan_in : Option Mode → List Row → Result Plan LineFault
+plan_in None rows = Err fault.TwoModes
+plan_in (Some mode) rows = if selects_well rows then Ok (plan_made mode rows) else Err fault.BadSelection
 
 -- the plan where this is the place of the first bad word
-abbrev pub plan_where : Option ℕ → Logged → Option Mode → List Row → Result Plan LineFault
-plan_where (Some place) logged mode rows = Err (fault.BadWord (place + 1))
-plan_where None logged mode rows = plan_in logged mode rows
+abbrev pub plan_where : Option ℕ → Option Mode → List Row → Result Plan LineFault
+plan_where (Some place) mode rows = Err (fault.BadWord (place + 1))
+plan_where None mode rows = plan_in mode rows
 
--- the plan where the log tells of these tests, if it tells of any that can be meant
-abbrev pub plan_logged : Option Logged → Bool → List Row → Result Plan LineFault
-plan_logged None bare rows = Err fault.BadLog
-plan_logged (Some logged) bare rows = plan_where (bad_word_in (words_of rows)) logged (mode_of bare rows) rows
-
--- the plan of a line by what its words match, or its first fault: a bad value of `--log`, a bad word, two modes, a bad selection
+-- the plan of a line by what its words match, or its first fault: a bad word, two modes, a bad selection
 unfoldable pub plan_by : Bool → List Row → Result Plan LineFault
-plan_by bare rows = plan_logged (logged_in (first_of (codes "log") rows)) bare rows
+plan_by bare rows = plan_where (bad_word_in (words_of rows)) (mode_of bare rows) rows
 
 -- the plan of words that match
 abbrev pub planned : List Text → Result Plan LineFault
@@ -95,7 +87,6 @@ abbrev pub HasFault : List Text → LineFault → Type 0
 HasFault words (fault.Words text) = IsRefused false words
 HasFault words (fault.Shown text) = IsRefused true words
 HasFault words fault.Memory = Unit {0}
-HasFault words fault.BadLog = (fault_of line_app words ≡ []) × (planned words ≡ Err fault.BadLog)
 HasFault words (fault.BadWord place) = (fault_of line_app words ≡ []) × (planned words ≡ Err (fault.BadWord place))
 HasFault words fault.TwoModes = (fault_of line_app words ≡ []) × (planned words ≡ Err fault.TwoModes)
 HasFault words fault.BadSelection = (fault_of line_app words ≡ []) × (planned words ≡ Err fault.BadSelection)
@@ -105,7 +96,6 @@ abbrev pub IsFaultOf : ErrorKind → LineFault → Type 0
 IsFaultOf kind (fault.Words text) = (asks kind ≡ false) × (kind ≢ OutOfMemory)
 IsFaultOf kind (fault.Shown text) = asks kind ≡ true
 IsFaultOf kind fault.Memory = Unit {0}
-IsFaultOf kind fault.BadLog = ⊥
 IsFaultOf kind (fault.BadWord place) = ⊥
 IsFaultOf kind fault.TwoModes = ⊥
 IsFaultOf kind fault.BadSelection = ⊥

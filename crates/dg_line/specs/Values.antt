@@ -1,17 +1,11 @@
 -- The values of the options, and what is selected by them.
-use Rattle.std.specs.Prelude.{ℕ, Bool, not, ◌==◌, ◌&&◌, ◌||◌, List, [], length, codes, nat_lt, nat_eq, if◌then◌else◌, Option, Some, None, unwrap_or, min, max}
-use Rattle.std.specs.Char.{digit_value}
-use Rattle.std.specs.Cmp.Lexicographic.{pointwise}
-use Rattle.std.specs.List.{filter, list_all, slice_split}
-use Rattle.std.specs.Str.Parse.{digits_value, without_leading_plus}
+use Rattle.std.specs.Prelude.{ℕ, Bool, not, ◌==◌, ◌&&◌, ◌||◌, List, [], length, codes, Option, Some, None, unwrap_or, min, max}
+use Rattle.std.specs.List.{filter, slice_split}
 use Rattle.clap.specs.Walk.{Row, Text, all_of, byte_or_zero, first_of}
 use Rattle.dg_boards.specs.Triplet.{is_triplet}
 use Rattle.dg_world.specs.Selection.{is_selection}
 use Rattle.dg_world.specs.declared.selection.Selection.{Selection}
-use Rattle.dg_world.specs.declared.selection.TheConstants.{FIRST_STEPS}
 use Rattle.dg_line.specs.Words.{scripts_in, settings_in}
-use Rattle.dg_line.specs.declared.logged.Logged.{Logged}
-use Rattle.dg_line.specs.declared.logged.Logged.TheVariants.{All, Unexpected, Nothing}
 
 -- the value of an option, or what stands for it
 abbrev pub option_or : List Row → Text → Text → Text
@@ -40,29 +34,6 @@ abbrev pub jobs_in : Option Text → ℕ
 jobs_in None = 1
 jobs_in (Some text) = max (min (byte_or_zero text) 16) 1
 
--- the number that a text is, or 0 where it is none below 2 ^ 32
-abbrev pub number_in : Text → ℕ
-number_in text =
-    let ds = without_leading_plus text in
-    if nat_lt 0 (length ds) && list_all (λ d. nat_lt (digit_value d) 10) ds && nat_lt (digits_value 10 ds) 4294967296 then digits_value 10 ds else 0
-
--- the limit on steps
-abbrev pub steps_in : Option Text → ℕ
-steps_in None = FIRST_STEPS
-steps_in (Some text) = number_in text
-
--- which tests a word of `--log` means
-abbrev pub logged_by : Text → Option Logged
-logged_by word =
-    if pointwise nat_eq word (codes "all") then Some All
-    else (if pointwise nat_eq word (codes "unexpected") then Some Unexpected
-    else (if pointwise nat_eq word (codes "none") then Some Nothing else None))
-
--- which tests the log tells of: those with an unexpected result, where the option isn't there
-abbrev pub logged_in : Option Text → Option Logged
-logged_in None = Some Unexpected
-logged_in (Some word) = logged_by word
-
 -- what a line selects
 unfoldable pub selected_by : List Row → Selection
 selected_by rows =
@@ -75,7 +46,6 @@ selected_by rows =
       only = scripts_in (words_of rows);
       ignore = names_in (option_or rows (codes "ignore") []);
       variables = settings_in (words_of rows);
-      steps = steps_in (first_of (codes "steps") rows);
     }
 
 -- whether the triplets are some

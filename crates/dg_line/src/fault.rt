@@ -14,9 +14,6 @@ pub enum LineFault {
     /// which, and how the program is used.
     #[error("bad command line\n{0}")]
     Words(String),
-    /// The value of `--log` is none of its three.
-    #[error("bad command line\nerror: the value of --log is none of all, unexpected and none")]
-    BadLog,
     /// A word is neither a script nor a variable; the first such one, counted from 1 among the words that are no options.
     #[error("bad word {0}")]
     BadWord(usize),

@@ -1,17 +1,13 @@
 //! The command line of `runtest`: what its words ask for.
 #![tactic(auto)]
 
-mod culprit;
 mod fault;
-mod logged;
 mod options;
 mod plan;
 mod select;
 mod values;
 mod words;
 
-pub use crate::culprit::culprit_of;
 pub use crate::fault::LineFault;
-pub use crate::logged::Logged;
 pub use crate::plan::{Mode, Plan, plan_of};
 pub use crate::select::selection_of;

@@ -1,7 +1,7 @@
 //! The options, as `clap` reads them.
 ghost use Rattle.std.specs.Prelude.{◌≡◌, IfOk, codes, false, map};
 ghost use Rattle.clap.specs.Words.{app_of, found_of, rows_of, rule_of, with_rule, fault_of, FailsBy};
-ghost use Rattle.dg_line.specs.Options.{asking_rule, bare_app, flag_rule, jobs_rule, line_app, line_rows, option_rule, place_rule, steps_rule, with_choices, with_flags, with_machines, with_modes, with_places, words_rule};
+ghost use Rattle.dg_line.specs.Options.{asking_rule, bare_app, flag_rule, jobs_rule, line_app, line_rows, option_rule, with_choices, with_machines, with_modes, with_places, words_rule};
 ghost use Rattle.clap.specs.declared.builder.action.ArgAction.TheVariants.{Help, Version};
 
 use clap::builder::ValueParser;
@@ -69,29 +69,6 @@ fn jobs_arg<'a>(alloc: Global) -> Arg<'a>
     .value_parser(ValueParser::unsigned(1, 16))
 }
 
-/// The option for the limit on steps.
-fn steps_arg<'a>(alloc: Global) -> Arg<'a>
-    ensures rule { rule_of result ≡ steps_rule }
-    ensures local { result.global ≡ false }
-{
-    option_arg(
-        alloc,
-        WHAT,
-        "steps",
-        "N",
-        "The most steps of a board's file, and of a library and a script, 1000 to 1000000 [100000]",
-    )
-    .value_parser(ValueParser::unsigned(1_000, 1_000_000))
-}
-
-/// An option for a folder, whose name is not empty.
-fn place_arg<'a>(alloc: Global, name: &'a str, help: &'a str) -> Arg<'a>
-    ensures rule { rule_of result ≡ place_rule name.entry.now }
-    ensures local { result.global ≡ false }
-{
-    option_arg(alloc, PLACES, name, "FOLDER", help).value_parser(ValueParser::NonEmptyString)
-}
-
 /// A flag.
 fn flag_arg<'a>(alloc: Global, name: &'a str, help: &'a str) -> Arg<'a>
     ensures rule { rule_of result ≡ flag_rule name.entry.now }
@@ -106,12 +83,11 @@ fn flag_arg<'a>(alloc: Global, name: &'a str, help: &'a str) -> Arg<'a>
 
 /// The flag that asks for the help.
 fn help_arg<'a>(alloc: Global) -> Arg<'a>
-    ensures rule { rule_of result ≡ asking_rule Help 104 (codes "help") }
+    ensures rule { rule_of result ≡ asking_rule Help (codes "help") }
     ensures local { result.global ≡ false }
 {
     Arg::new(alloc, "help")
         .long("help")
-        .short('h')
         .action(ArgAction::Help)
         .help_heading(MODES)
         .help("Print this help")
@@ -119,12 +95,11 @@ fn help_arg<'a>(alloc: Global) -> Arg<'a>
 
 /// The flag that asks for the version.
 fn version_arg<'a>(alloc: Global) -> Arg<'a>
-    ensures rule { rule_of result ≡ asking_rule Version 86 (codes "version") }
+    ensures rule { rule_of result ≡ asking_rule Version (codes "version") }
     ensures local { result.global ≡ false }
 {
     Arg::new(alloc, "version")
         .long("version")
-        .short('V')
         .action(ArgAction::Version)
         .help_heading(MODES)
         .help("Print the version")
@@ -197,7 +172,6 @@ fn with_choices<'a>(alloc: Global, c: Command<'a>) -> Result<Command<'a>, AllocE
         "NAMES",
         "Scripts that are left out, separated by spaces or commas",
     )?;
-    let c = with_arg(c, steps_arg(alloc))?;
     with_arg(c, jobs_arg(alloc))
 }
 
@@ -243,35 +217,27 @@ fn with_machines<'a>(alloc: Global, c: Command<'a>) -> Result<Command<'a>, Alloc
 fn with_places<'a>(alloc: Global, c: Command<'a>) -> Result<Command<'a>, AllocError>
     ensures { IfOk result (λ r. app_of r ≡ with_places (app_of c.entry)) }
 {
-    let c = with_arg(
+    let c = with_option(
+        alloc,
         c,
-        place_arg(
-            alloc,
-            "srcdir",
-            "The folder of the suite, with lib, boards and the folders of the tool [.]",
-        ),
-    )?;
-    let c = with_arg(
-        c,
-        place_arg(
-            alloc,
-            "outdir",
-            "The folder that TOOL.sum, TOOL.log and transcripts are written to [.]",
-        ),
+        PLACES,
+        "srcdir",
+        "FOLDER",
+        "The folder of the suite, with lib, boards and the folders of the tool [.]",
     )?;
     with_option(
         alloc,
         c,
         PLACES,
-        "log",
-        "WHICH",
-        "The tests that TOOL.log tells of: all, unexpected or none [unexpected]",
+        "outdir",
+        "FOLDER",
+        "The folder that TOOL.sum and transcripts are written to [.]",
     )
 }
 
-/// The program with the flags that say what it does.
-fn with_flags<'a>(alloc: Global, c: Command<'a>) -> Result<Command<'a>, AllocError>
-    ensures { IfOk result (λ r. app_of r ≡ with_flags (app_of c.entry)) }
+/// The program with its flags.
+fn with_modes<'a>(alloc: Global, c: Command<'a>) -> Result<Command<'a>, AllocError>
+    ensures { IfOk result (λ r. app_of r ≡ with_modes (app_of c.entry)) }
 {
     let c = with_arg(
         c,
@@ -285,21 +251,6 @@ fn with_flags<'a>(alloc: Global, c: Command<'a>) -> Result<Command<'a>, AllocErr
         c,
         flag_arg(alloc, "session", "Answer the lines of standard input"),
     )?;
-    with_arg(
-        c,
-        flag_arg(
-            alloc,
-            "list",
-            "Print the selected tests, BOARD SCRIPT a line, and judge nothing",
-        ),
-    )
-}
-
-/// The program with all its flags.
-fn with_modes<'a>(alloc: Global, c: Command<'a>) -> Result<Command<'a>, AllocError>
-    ensures { IfOk result (λ r. app_of r ≡ with_modes (app_of c.entry)) }
-{
-    let c = with_flags(alloc, c)?;
     let c = with_arg(c, help_arg(alloc))?;
     with_arg(c, version_arg(alloc))
 }

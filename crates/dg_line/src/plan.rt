@@ -4,7 +4,6 @@ ghost use Rattle.clap.specs.Words.{found_of, kind_of, rows_of};
 ghost use Rattle.dg_line.specs.Plan.{HasFault, HasPlan, IsFaultOf, is_bare, mode_of, plan_by};
 
 use crate::fault::LineFault;
-use crate::logged::{Logged, logged_of};
 use crate::options::line_matches;
 use crate::values::{has_flag, jobs_of, option_or, selection_of, words_of};
 use crate::words::find_bad;
@@ -35,10 +34,6 @@ pub struct Plan {
     pub outdir: Bytes,
     /// How many tests run at a time, 1 to 16.
     pub jobs: u8,
-    /// Which tests the log tells of.
-    pub logged: Logged,
-    /// Whether the selected tests are printed and nothing is judged. It has no effect on a session.
-    pub lists: bool,
     /// What is selected; it is valid.
     pub selection: Selection,
 }
@@ -50,8 +45,6 @@ impl Drop for Plan {
             srcdir: _,
             outdir: _,
             jobs: _,
-            logged: _,
-            lists: _,
             selection: _,
         } = self;
     }
@@ -67,8 +60,6 @@ impl Plan {
             srcdir: _,
             outdir: _,
             jobs: _,
-            logged: _,
-            lists: _,
             selection,
         } = self;
         selection
@@ -104,9 +95,6 @@ fn plan_by(alloc: Global, bare: bool, matches: &ArgMatches<'_>) -> Result<Plan, 
     ensures ok { IfOk result (λ plan. plan_by bare (rows_of (found_of matches.now)) ≡ Ok plan) }
     ensures err { IfErr result (λ f. (f ≡ LineFault.Memory) ⊎ (plan_by bare (rows_of (found_of matches.now)) ≡ Err f)) }
 {
-    let Some(logged) = logged_of(matches) else {
-        return Err(LineFault::BadLog);
-    };
     let words = words_of(alloc, matches)?;
     if let Some(place) = find_bad(words.as_slice()) {
         return Err(LineFault::BadWord(place + 1));
@@ -120,8 +108,6 @@ fn plan_by(alloc: Global, bare: bool, matches: &ArgMatches<'_>) -> Result<Plan, 
         srcdir: Bytes::from_slice(alloc, option_or(matches, "srcdir", ".").as_bytes())?,
         outdir: Bytes::from_slice(alloc, option_or(matches, "outdir", ".").as_bytes())?,
         jobs: jobs_of(matches),
-        logged,
-        lists: has_flag(matches, "list"),
         selection,
     })
 }

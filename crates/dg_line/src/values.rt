@@ -1,7 +1,7 @@
 //! The values of the options, and what is selected by them.
 ghost use Rattle.std.specs.Prelude.{◌≡◌, IfOk, IfErr, Err, ◌⊎◌, map, false, true, codes, unwrap_or, Some};
 ghost use Rattle.clap.specs.Words.{first_of, found_of, rows_of};
-ghost use Rattle.dg_line.specs.Values.{jobs_in, names_in, number_in, option_or, selected_by, selects_well, steps_in, words_of};
+ghost use Rattle.dg_line.specs.Values.{jobs_in, names_in, option_or, selected_by, selects_well, words_of};
 ghost use Rattle.dg_line.specs.Plan.{has_flag};
 ghost use Rattle.dg_boards.specs.Triplet.{is_triplet};
 
@@ -10,7 +10,7 @@ use crate::words::{scripts_in, settings_in};
 use clap::ArgMatches;
 use dg_boards::{Triplet, TripletFault};
 use dg_bytes::{Bytes, Seq};
-use dg_world::{FIRST_STEPS, Selection};
+use dg_world::Selection;
 use std::alloc::{AllocError, Global};
 
 /// The machine that built the tool, where none is named.
@@ -54,23 +54,6 @@ pub fn jobs_of(matches: &ArgMatches<'_>) -> u8
     }
 }
 
-/// The number that a text is, or 0 where it is none that a `u32` holds.
-fn number_in(text: &str) -> u32
-    ensures { result ≡ number_in text.now }
-{
-    text.parse::<u32>().unwrap_or(0)
-}
-
-/// The limit on steps.
-fn steps_of(matches: &ArgMatches<'_>) -> u32
-    ensures { result ≡ steps_in (first_of (codes "steps") (rows_of (found_of matches.now))) }
-{
-    match matches.get_str("steps") {
-        Some(text) => number_in(text),
-        None => FIRST_STEPS,
-    }
-}
-
 /// The words that are no options.
 pub fn words_of<'a>(alloc: Global, matches: &ArgMatches<'a>) -> Result<Vec<&'a str>, AllocError>
     ensures { IfOk result (λ words. map (λ w. w.now) words.items ≡ words_of (rows_of (found_of matches.now))) }
@@ -92,7 +75,7 @@ fn parts_of<'a>(alloc: Global, text: &'a str) -> Result<Vec<&'a [u8]>, AllocErro
 }
 
 /// The names in a value.
-pub fn names_in(alloc: Global, text: &str) -> Result<Seq<Bytes>, AllocError>
+fn names_in(alloc: Global, text: &str) -> Result<Seq<Bytes>, AllocError>
     ensures { IfOk result (λ names. names ≡ names_in text.now) }
 {
     let mut names = Seq::new(alloc);
@@ -139,7 +122,6 @@ pub fn selection_of(
         only: scripts_in(alloc, words)?,
         ignore: names_in(alloc, option_or(matches, "ignore", ""))?,
         variables: settings_in(alloc, words)?,
-        steps: steps_of(matches),
     };
     if selection.is_valid() {
         Ok(selection)

@@ -4,7 +4,6 @@ use Rattle.std.specs.Prelude.{Option, Some, None}
 use Rattle.dg_transcript.specs.declared.entry.Entry.{Entry}
 use Rattle.dg_transcript.specs.declared.cursor.Action.{Action}
 use Rattle.dg_transcript.specs.Limits.{IsTranscript}
-use Rattle.dg_transcript.specs.Transcript.{TranscriptView}
 use Rattle.dg_world.specs.declared.question.Question.{Question}
 use Rattle.dg_world.specs.declared.question.Question.TheVariants as question
 use Rattle.dg_world.specs.declared.question.Answer.{Answer}
@@ -14,28 +13,23 @@ use Rattle.dg_world.specs.declared.test_id.TestId.{TestId}
 use Rattle.dg_world.specs.Question.{fits}
 use Rattle.dg_language.specs.declared.ask.Ask.{Ask}
 use Rattle.dg_language.specs.Play.{Play, Ends, Asks, Source, Over, run, GivesEach, Leads}
-use Rattle.dg_language.specs.declared.kept.Kept.{Kept}
 use Rattle.dg_language.specs.Evaluation.{Ending}
 use Rattle.dg_language.specs.Judge.{judge}
 use Rattle.dg_results.specs.declared.verdict.Line.{Line}
 use Rattle.dg_records.specs.Truth.{RecordView}
 use Rattle.dg_eval.specs.Evaluating.{NeedsNext}
 use Rattle.dg_eval.specs.Truth.{JobView}
-use Rattle.dg_eval.specs.Advance.{HasEndedWith, Advances, Refuses}
+use Rattle.dg_eval.specs.Advance.{HasEndedWith, started, Advances, Refuses}
 use Rattle.dg_eval.specs.declared.job.Turn.TheVariants.{Need}
 use Rattle.dg_eval.specs.declared.job.JobFault.{JobFault}
 use Rattle.dg_eval.specs.declared.job.JobFault.TheVariants.{NotAsked, WrongKind, PatternLost, Memory, Failed}
-use Rattle.dg_gate.specs.declared.fault.AskFault.{AskFault}
-use Rattle.dg_gate.specs.declared.fault.AskFault.TheVariants as ask_fault
-use Rattle.dg_live.specs.declared.fault.LiveFault.{LiveFault}
-use Rattle.dg_live.specs.declared.fault.LiveFault.TheVariants.{Job, Asker, Memory as WantsMemory}
-use Rattle.dg_gate.specs.Asking.{is_about_entry, Unanswered}
-use Rattle.dg_living.specs.Living.{LivesAsked, LivesOn, entries_at, live_transcript, is_about_entry as is_of_entry}
+use Rattle.dg_live.specs.declared.fault.LiveFault.TheVariants.{Job}
+use Rattle.dg_living.specs.Living.{LivesAsked, LivesOn, entries_at}
 use Rattle.dg_living.specs.Replayed.{MayAnswer, LeadsLive, IsReplayed, AllStand, TellsOf, others, told_entry, transcript_of}
 use Rattle.dg_living.proofs.Agreeing.{sum-more}
 use Rattle.dg_living.proofs.Judging.{judging-lives}
 use Rattle.dg_living.proofs.Walking.{told-plain, lives-along, live-replayed}
-use Rattle.dg_live.specs.Walk.{GateStep, AskerStep, AskerRefusal, IsUnanswered, Acts, calls_of, AnswersTo, IsKnown, IsForAsker, Walks, IsLiveRun, Turns, CanFail}
+use Rattle.dg_live.specs.Walk.{GateStep, AskerStep, Acts, calls_of, AnswersTo, IsKnown, IsForAsker, Walks, IsLiveRun, Turns, CanFail}
 use Rattle.dg_live.proofs.Telling.{told-push}
 
 -- where reads lead to, they lead to live, if they lead anywhere live
@@ -57,13 +51,9 @@ may-answer q None a kind known = kind
 may-answer q (Some act) a kind known = known
 
 -- what lives on and asks: the asker not about an entry, the gate while there is room
-same-kind : (q : Question) → is_about_entry q ≡ is_of_entry q
-same-kind (question.Entry place) = refl
-same-kind q = refl
-
 for-asker : (t : TestId) (ss : List (List Entry)) (q : Question) (o : Option Action) (f : Answer → List (List Entry) → Type 0)
     → LivesAsked t ss q o f → IsForAsker o q
-for-asker t ss q None f lives = same-kind q ∙ lives.0
+for-asker t ss q None f lives = lives.0
 for-asker t ss q (Some act) f lives = tt
 
 has-room : (t : TestId) (ss : List (List Entry)) (q : Question) (o : Option Action) (act : Action) (f : Answer → List (List Entry) → Type 0)
@@ -81,23 +71,12 @@ one-call t ss q (Some act) a f lives may =
     ∙ sum-more (lives.0 - 1) may.0 ss
 
 -- a job that asks can only want memory, or refuse an answer of another kind
-pub refuses-can : {A : Type 0} (refuses : AskerRefusal A) (u : A) (j k l : JobView) (ask : Ask) (a : Answer) (f : JobFault) → j.failed ≡ false
-    → Advances j k (Need ask) → Refuses k l a f → CanFail refuses u (Job f)
-refuses-can refuses u j k l ask a NotAsked sound asked why = let stood = ap (λ x. x.asked) asked.2 in absurd cc
-refuses-can refuses u j k l ask a WrongKind sound asked why = tt
-refuses-can refuses u j k l ask a PatternLost sound asked why = tt
-refuses-can refuses u j k l ask a Memory sound asked why = tt
-refuses-can refuses u j k l ask a Failed sound asked why = let stays = ap (λ x. x.failed) asked.2 in absurd cc
-
--- an asker can refuse a question that is not about an entry
-pub asker_can : {A : Type 0} (refuses : AskerRefusal A) (s u : A) (q : Question) (f : AskFault) → is_about_entry q ≡ false → Unanswered (refuses s q u) f
-    → CanFail refuses u (Asker f)
-asker_can refuses s u q ask_fault.Refused plain why = (s, q, plain, why)
-asker_can refuses s u q ask_fault.Memory plain why = tt
-
--- want of memory
-pub memory_can : {A : Type 0} (refuses : AskerRefusal A) (u : A) (f : LiveFault) → f ≡ WantsMemory → CanFail refuses u f
-memory_can refuses u f is = subst (CanFail refuses u) (sym is) tt
+pub refuses-can : (j k l : JobView) (ask : Ask) (a : Answer) (f : JobFault) → j.failed ≡ false → Advances j k (Need ask) → Refuses k l a f → CanFail (Job f)
+refuses-can j k l ask a NotAsked sound asked why = let stood = ap (λ x. x.asked) asked.2 in absurd cc
+refuses-can j k l ask a WrongKind sound asked why = tt
+refuses-can j k l ask a PatternLost sound asked why = tt
+refuses-can j k l ask a Memory sound asked why = tt
+refuses-can j k l ask a Failed sound asked why = let stays = ap (λ x. x.failed) asked.2 in absurd cc
 
 module _ {G A : Type 0} (gates : GateStep G) (asks : AskerStep A) where
   walks-more : (play : Play Ending) (reads : List Read) (ask : Ask) (f : Answer → Play Ending) (a : Answer) (g h k : G) (s u w : A)
@@ -150,11 +129,6 @@ module _ {G A : Type 0} (gates : GateStep G) (asks : AskerStep A) where
         let lives = (next-lives j h u ask i n).1 in
         omega (arith, i.counted, room, has-room t (transcript_of j.reads) ask.question ask.action acts.0 _ acts.1 lives)
 
-    -- what is asked next without an action is for the asker
-    pub going-asks : (j : JobView) (h : G) (u : A) → Going j h u → (ask : Ask) → NeedsNext j.test j.reads ask → IsForAsker ask.action ask.question
-    going-asks j h u i ask n =
-        for-asker t (transcript_of j.reads) ask.question ask.action _ (next-lives j h u ask i n).1
-
     -- one answer more
     pub going-on : (old new : JobView) (h k : G) (u w : A) → Going old h u → Turns gates asks count old new h u k w None → Going new k w
     going-on old new h k u w i turn =
@@ -180,27 +154,27 @@ module _ {G A : Type 0} (gates : GateStep G) (asks : AskerStep A) where
           counted = subst (λ rs. count k ≤ count g + sum_by length (transcript_of rs)) (sym reads) counted;
         }
 
-    replayed : (j : JobView) (h : G) (u : A) (v : List Line) (k : Kept) (steps : ℕ) → Going j h u → (e : HasEndedWith j.test j.reads v k steps) → IsReplayed t j.reads e.ending
-    replayed j h u v k steps i e =
+    replayed : (j : JobView) (h : G) (u : A) (v : List Line) (steps : ℕ) → Going j h u → (e : HasEndedWith j.test j.reads v steps) → IsReplayed t j.reads e.ending
+    replayed j h u v steps i e =
         live-replayed t j.reads e.ending
         (leads-same (judge t) (Ends e.ending) i.rest j.reads i.leads (subst (λ x. Leads (judge x) j.reads (Ends e.ending)) i.test e.has_ended.leads))
 
     pub ends-kept : (old new : JobView) (h k : G) (u w : A) (r : RecordView) → Going old h u → Turns gates asks count old new h u k w (Some r)
-        → IsTranscript (live_transcript (transcript_of r.reads))
+        → IsTranscript (transcript_of r.reads)
     ends-kept old new h k u w r i turn =
-        subst (λ rs. IsTranscript (live_transcript (transcript_of rs))) (sym turn.2) (replayed old h u r.verdict r.kept new.steps i turn.0).transcript
+        subst (λ rs. IsTranscript (transcript_of rs)) (sym turn.2) (replayed old h u r.verdict new.steps i turn.0).transcript
 
     pub ends-live : (old new : JobView) (h k : G) (u w : A) (r : RecordView) → Going old h u → Turns gates asks count old new h u k w (Some r)
-        → IsLiveRun gates asks t g s k w r (live_transcript (transcript_of r.reads))
+        → IsLiveRun gates asks t g s k w r (transcript_of r.reads)
     ends-live old new h k u w r i turn =
-        let all = replayed old h u r.verdict r.kept new.steps i turn.0 in
+        let all = replayed old h u r.verdict new.steps i turn.0 in
         let same : old.reads ≡ r.reads = sym turn.2 in
         record {
           test = turn.1 ∙ i.test;
           walk = subst (λ x. Walks gates asks (judge t) r.reads g s x w) (sym turn.3)
               (subst (λ x. Walks gates asks (judge t) r.reads g s h x) (sym turn.4) (subst (λ rs. Walks gates asks (judge t) rs g s h u) same i.walk));
           transcript = refl;
-          kept = subst (λ rs. IsTranscript (live_transcript (transcript_of rs))) same all.transcript;
+          kept = subst (λ rs. IsTranscript (transcript_of rs)) same all.transcript;
           entries = subst (λ rs. AllStand t (transcript_of rs) rs) same all.entries;
           ending = turn.0.ending;
           verdict = turn.0.lines;
@@ -209,21 +183,20 @@ module _ {G A : Type 0} (gates : GateStep G) (asks : AskerStep A) where
         }
 
     -- the same run under other names
-    pub live-as : (h : G) (u : A) (r q : RecordView) (told : TranscriptView) → q ≡ r → told ≡ live_transcript (transcript_of r.reads)
-        → IsLiveRun gates asks t g s h u r (live_transcript (transcript_of r.reads)) → IsLiveRun gates asks t g s h u q told
-    live-as h u r q told same kept run_of =
-        subst (λ x. IsLiveRun gates asks t g s h u q x) (sym kept)
-        (subst (λ x. IsLiveRun gates asks t g s h u x (live_transcript (transcript_of r.reads))) (sym same) run_of)
+    pub live-as : (h : G) (u : A) (r q : RecordView) (ss : List (List Entry)) → q ≡ r → ss ≡ transcript_of r.reads
+        → IsLiveRun gates asks t g s h u r (transcript_of r.reads) → IsLiveRun gates asks t g s h u q ss
+    live-as h u r q ss same kept run_of =
+        subst (λ x. IsLiveRun gates asks t g s h u q x) (sym kept) (subst (λ x. IsLiveRun gates asks t g s h u x (transcript_of r.reads)) (sym same) run_of)
 
-    -- a job that has had no answer
-    pub going-first : (j : JobView) → j.test ≡ t → IsUnanswered j → Going j g s
-    going-first j is none =
+    -- a job that has just begun
+    pub going-first : (j : JobView) → j ≡ started t → Going j g s
+    going-first j is =
         record {
-          test = is;
-          live = none.1;
-          failed = none.2;
-          walk = subst (λ rs. Walks gates asks (judge t) rs g s g s) (sym none.0) (refl, refl);
+          test = ap (λ x. x.test) is;
+          live = ap (λ x. x.live) is;
+          failed = ap (λ x. x.failed) is;
+          walk = subst (λ rs. Walks gates asks (judge t) rs g s g s) (sym (ap (λ x. x.reads) is)) (refl, refl);
           rest = judge t;
-          leads = subst (λ rs. LeadsLive (judge t) rs (judge t)) (sym none.0) refl;
+          leads = subst (λ rs. LeadsLive (judge t) rs (judge t)) (sym (ap (λ x. x.reads) is)) refl;
           counted = omega arith;
         }

@@ -3,9 +3,6 @@ use Rattle.std.specs.Prelude.{◌≡◌, ◌≢◌, ℕ, ◌+◌, ◌≤◌, tru
 use Rattle.dg_transcript.specs.declared.entry.Entry.{Entry}
 use Rattle.dg_transcript.specs.declared.cursor.Action.{Action}
 use Rattle.dg_transcript.specs.Limits.{IsTranscript}
-use Rattle.dg_transcript.specs.Transcript.{TranscriptView}
-use Rattle.dg_gate.specs.declared.fault.AskFault.TheVariants as ask_fault
-use Rattle.dg_gate.specs.Asking.{is_about_entry}
 use Rattle.dg_gate.specs.declared.reply.Reply.{Reply}
 use Rattle.dg_gate.specs.Reply.{entry_of}
 use Rattle.dg_gate.specs.Made.{Made}
@@ -28,7 +25,7 @@ use Rattle.dg_eval.specs.Advance.{HasEndedWith}
 use Rattle.dg_eval.specs.declared.job.JobFault.TheVariants.{NotAsked, WrongKind, PatternLost, Memory as JobMemory, Failed}
 use Rattle.dg_live.specs.declared.fault.LiveFault.{LiveFault}
 use Rattle.dg_live.specs.declared.fault.LiveFault.TheVariants.{Job, Asker, Memory}
-use Rattle.dg_living.specs.Living.{IsOfBytes, live_transcript}
+use Rattle.dg_living.specs.Living.{IsOfBytes, is_about_entry}
 use Rattle.dg_living.specs.Replayed.{transcript_of, AllStand, others, TellsOf}
 
 -- what one call of a gate is: the gate before, the session, the action, the reply and the gate after
@@ -38,14 +35,6 @@ GateStep G = G → ℕ → Action → Reply → G → Type 0
 -- what one call of an asker is: the asker before, the question, the answer and the asker after
 abbrev pub AskerStep : Type 0 → Type 1
 AskerStep A = A → Question → Answer → A → Type 0
-
--- what one refused call of an asker is: the asker before, the question and the asker after
-abbrev pub AskerRefusal : Type 0 → Type 1
-AskerRefusal A = A → Question → A → Type 0
-
--- a job that goes on, and has had no answer yet
-abbrev pub IsUnanswered : JobView → Type 0
-IsUnanswered j = (j.reads ≡ []) × (j.live ≡ true) × (j.failed ≡ false)
 
 -- the session that a question about an entry is about
 abbrev pub session_of : Question → ℕ
@@ -85,21 +74,20 @@ Walks {G} {A} gates asks (Asks ask f) (r ∷ rs) g s h u =
     (ask.question ≡ r.question) × IsForAsker ask.action ask.question
     × ((g' : G) × (s' : A) × AnswersTo gates asks ask.question ask.action r.answer g s g' s' × Walks gates asks (f r.answer) rs g' s' h u)
 
--- A live run of a test. Its transcript is the one of version 2 with the entries that the record read; these are those of the gate's
--- calls, one for each question about an entry, in order, and each other answer is the asker's. In each source that has it as
--- the test's transcript and gives the record's other answers, the judging ends with the record's verdict and without a
--- departure.
+-- A live run of a test. Its transcript is that of the entries that the record read; these are those of the gate's calls, one for
+-- each question about an entry, in order, and each other answer is the asker's. In each source that has it as the test's
+-- transcript and gives the record's other answers, the judging ends with the record's verdict and without a departure.
 pub record IsLiveRun {G A : Type 0} (gates : GateStep G) (asks : AskerStep A) (t : TestId) (g : G) (s : A) (h : G) (u : A) (r : RecordView)
-    (told : TranscriptView) : Type 0 where
+    (ss : List (List Entry)) : Type 0 where
   pub test : r.test ≡ t
   pub walk : Walks gates asks (judge t) r.reads g s h u
-  pub transcript : told ≡ live_transcript (transcript_of r.reads)
-  pub kept : IsTranscript told
-  pub entries : AllStand t told.sessions r.reads
+  pub transcript : ss ≡ transcript_of r.reads
+  pub kept : IsTranscript ss
+  pub entries : AllStand t ss r.reads
   pub ending : Ending
   pub verdict : ending.verdict ≡ r.verdict
   pub stays : ending.close ≢ Departed
-  pub replay : (look : Source) → GivesEach look (others r.reads) → TellsOf look t told.sessions → run look (judge t) ≡ Over ending
+  pub replay : (look : Source) → GivesEach look (others r.reads) → TellsOf look t ss → run look (judge t) ≡ Over ending
 
 -- One turn: the next question is answered, or the judging has ended and nobody was called.
 abbrev pub Turns : {G A : Type 0} → GateStep G → AskerStep A → (G → ℕ) → JobView → JobView → G → A → G → A → Option RecordView → Type 0
@@ -108,16 +96,14 @@ Turns gates asks count old new g s h u None =
     × AnswersTo gates asks ask.question ask.action a g s h u × IsKnown ask.action a × (count h ≤ count g + calls_of ask.action)
     × (new ≡ record old { reads = old.reads ++ record { question = ask.question; answer = a } ∷ []; asked = None; steps = new.steps })
 Turns gates asks count old new g s h u (Some r) =
-    HasEndedWith old.test old.reads r.verdict r.kept new.steps × (r.test ≡ old.test) × (r.reads ≡ old.reads) × (h ≡ g) × (u ≡ s)
+    HasEndedWith old.test old.reads r.verdict new.steps × (r.test ≡ old.test) × (r.reads ≡ old.reads) × (h ≡ g) × (u ≡ s)
 
--- Why a run is refused: a job fails for want of memory, by a pattern that is answered as read and can't be built, or by an answer of
--- another kind; or memory is wanted elsewhere; or the asker refused a question, which is not about an entry, and was then left as it is.
-abbrev pub CanFail : {A : Type 0} → AskerRefusal A → A → LiveFault → Type 0
-CanFail refuses u (Job NotAsked) = ⊥
-CanFail refuses u (Job WrongKind) = Unit {0}
-CanFail refuses u (Job PatternLost) = Unit {0}
-CanFail refuses u (Job JobMemory) = Unit {0}
-CanFail refuses u (Job Failed) = ⊥
-CanFail {A} refuses u (Asker ask_fault.Refused) = (s : A) × (q : Question) × (is_about_entry q ≡ false) × refuses s q u
-CanFail refuses u (Asker ask_fault.Memory) = Unit {0}
-CanFail refuses u Memory = Unit {0}
+-- why a run is refused: a job fails for want of memory, by a pattern that is answered as read and can't be built, or by an answer of another kind
+abbrev pub CanFail : LiveFault → Type 0
+CanFail (Job NotAsked) = ⊥
+CanFail (Job WrongKind) = Unit {0}
+CanFail (Job PatternLost) = Unit {0}
+CanFail (Job JobMemory) = Unit {0}
+CanFail (Job Failed) = ⊥
+CanFail (Asker fault) = Unit {0}
+CanFail Memory = Unit {0}

@@ -35,10 +35,7 @@ pub(crate) fn entry_known(entry: &Entry)
 {
     match entry {
         Entry::Started(words) | Entry::NoStart(_, words) => words_known(words),
-        Entry::Sent(bytes)
-        | Entry::NoSend(_, bytes)
-        | Entry::Chunk(_, bytes)
-        | Entry::ErrChunk(_, bytes) => bytes_known(bytes),
+        Entry::Sent(bytes) | Entry::NoSend(_, bytes) | Entry::Chunk(_, bytes) => bytes_known(bytes),
         Entry::Exited(status) => {
             let _status = *status;
         }

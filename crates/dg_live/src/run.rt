@@ -4,10 +4,8 @@ ghost use Rattle.dg_transcript.specs.declared.limits.TheConstants.{MAX_ENTRIES};
 ghost use Rattle.dg_transcript.specs.Limits.{IsTranscript};
 ghost use Rattle.dg_language.specs.declared.ask.Ask.{Ask as Asked};
 ghost use Rattle.dg_eval.specs.Evaluating.{NeedsNext};
-ghost use Rattle.dg_living.specs.Living.{live_transcript};
 ghost use Rattle.dg_living.specs.Replayed.{transcript_of};
-ghost use Rattle.dg_live.specs.declared.fault.LiveFault.TheVariants as fault;
-ghost use Rattle.dg_live.specs.Walk.{IsUnanswered, session_of, Acts, AnswersTo, IsForAsker, IsKnown, calls_of, Turns, CanFail, IsLiveRun};
+ghost use Rattle.dg_live.specs.Walk.{session_of, Acts, AnswersTo, IsKnown, calls_of, Turns, CanFail, IsLiveRun};
 
 use crate::fault::LiveFault;
 use crate::known::entry_known;
@@ -34,7 +32,7 @@ fn session_of(question: &Question) -> u32
 /// The same entry, of which a copy costs no copy of its bytes.
 fn kept(alloc: Global, mut entry: Entry) -> Result<Entry, LiveFault>
     ensures same { IfOk result (λ e. e ≡ entry) }
-    ensures fault { IfErr result (λ f. f ≡ fault.Memory) }
+    ensures fault { IfErr result CanFail }
 {
     match entry.keep(alloc) {
         Ok(()) => Ok(entry),
@@ -44,14 +42,12 @@ fn kept(alloc: Global, mut entry: Entry) -> Result<Entry, LiveFault>
 
 /// The answer to what a job needs: where an action stands beside the question, the entry that one call of the gate makes,
 /// and else the asker's.
-#[tactic(auto, using(crate::proofs::Going::asker_can, crate::proofs::Going::memory_can))]
 fn answer_to<G: Gate, A: Asker>(
     alloc: Global,
     ask: &Ask,
     gate: &mut G,
     asker: &mut A,
 ) -> Result<Answer, LiveFault>
-    requires asks { IsForAsker ask.now.action ask.now.question }
     requires room { Acts ask.now → G.count gate.old < 2 ^ 64 - 1 }
     requires ready { G.is_ready gate.old }
     ensures ready { G.is_ready gate.new }
@@ -59,7 +55,7 @@ fn answer_to<G: Gate, A: Asker>(
         (λ a. AnswersTo G.step A.step ask.now.question ask.now.action a gate.old asker.old gate.new asker.new) }
     ensures known { IfOk result (λ a. IsKnown ask.now.action a) }
     ensures count { G.count gate.new ≤ G.count gate.old + calls_of ask.now.action }
-    ensures fault { IfErr result (CanFail A.refuses asker.new) }
+    ensures fault { IfErr result CanFail }
 {
     match &ask.action {
         Some(action) => match perform(gate, alloc, session_of(&ask.question), action) {
@@ -86,12 +82,11 @@ fn take_turn<G: Gate, A: Asker>(
 ) -> Result<Option<Record>, LiveFault>
     requires live { job.old.live ≡ true }
     requires failed { job.old.failed ≡ false }
-    requires asks { (q : Asked) → NeedsNext job.old.test job.old.reads q → IsForAsker q.action q.question }
     requires room { (q : Asked) → NeedsNext job.old.test job.old.reads q → Acts q → G.count gate.old < 2 ^ 64 - 1 }
     requires ready { G.is_ready gate.old }
     ensures ready { G.is_ready gate.new }
     ensures turn { IfOk result (λ r. Turns G.step A.step G.count job.old job.new gate.old asker.old gate.new asker.new r) }
-    ensures fault { IfErr result (CanFail A.refuses asker.new) }
+    ensures fault { IfErr result CanFail }
 {
     let ask = match job.advance(alloc) {
         Ok(Turn::Need(ask)) => ask,
@@ -107,9 +102,9 @@ fn take_turn<G: Gate, A: Asker>(
 
 /// A record with the transcript of what it read.
 fn with_transcript(alloc: Global, judged: Record) -> Result<(Record, Transcript), LiveFault>
-    requires { IsTranscript (live_transcript (transcript_of judged.reads)) }
-    ensures run { IfOk result (λ p. (p.0 ≡ judged) × (p.1 ≡ live_transcript (transcript_of judged.reads))) }
-    ensures fault { IfErr result (λ f. f ≡ fault.Memory) }
+    requires { IsTranscript (transcript_of judged.reads) }
+    ensures run { IfOk result (λ p. (p.0 ≡ judged) × (p.1 ≡ transcript_of judged.reads)) }
+    ensures fault { IfErr result CanFail }
 {
     match transcript_in(alloc, judged.reads()) {
         Ok(transcript) => Ok((judged, transcript)),
@@ -117,60 +112,30 @@ fn with_transcript(alloc: Global, judged: Record) -> Result<(Record, Transcript)
     }
 }
 
-/// Takes turns until there is a record. What the job has then read of texts stands in the place of these readings.
-fn run_job<G: Gate, A: Asker>(
-    alloc: Global,
-    mut job: Job,
-    readings: &mut Readings,
-    gate: &mut G,
-    asker: &mut A,
-) -> Result<(Record, Transcript), LiveFault>
-    requires new { IsUnanswered job }
-    requires room { G.count gate.old + MAX_ENTRIES < 2 ^ 64 }
-    requires ready { G.is_ready gate.old }
-    ensures ready { G.is_ready gate.new }
-    ensures run { IfOk result (λ p. IsLiveRun G.step A.step job.test gate.old asker.old gate.new asker.new p.0 p.1) }
-    ensures fault { IfErr result (CanFail A.refuses asker.new) }
-{
-    'turns: for _turn in 0..u64::MAX {
-        match take_turn(alloc, &mut job, gate, asker)? {
-            Some(judged) => {
-                job.hand_on(readings);
-                return with_transcript(alloc, judged);
-            }
-            None => {}
-        }
-    }
-    Err(LiveFault::Memory)
-}
-
-/// Judges a test over a gate, by a job that goes on and has had no answer yet: what its evaluation asks of children goes to the
-/// gate, one call for each entry that it needs, and every other question to the asker. A question that stands is asked again.
-/// Gives the record, and the transcript of the entries, of version 2, whose replay comes to the same end.
+/// Judges a test over a gate: what its evaluation asks of children goes to the gate, one call for each entry that it needs, and
+/// every other question to the asker. Gives the record, and the transcript of the entries, whose replay comes to the same end.
 ///
 /// # Errors
 /// `Job` where the job wants memory, or the asker's answer is of another kind than its question or of a pattern that can't be
 /// built after all; `Asker` where the asker does not answer; `Memory` where the gate wants memory, or the sharing of its entry
-/// or the transcript does. The job is let go.
+/// or the transcript does. Nothing is given back.
 pub fn run_live<G: Gate, A: Asker>(
     alloc: Global,
-    job: Job,
+    test: TestId,
     gate: &mut G,
     asker: &mut A,
 ) -> Result<(Record, Transcript), LiveFault>
-    requires new { IsUnanswered job }
     requires room { G.count gate.old + MAX_ENTRIES < 2 ^ 64 }
     requires ready { G.is_ready gate.old }
     ensures ready { G.is_ready gate.new }
-    ensures run { IfOk result (λ p. IsLiveRun G.step A.step job.test gate.old asker.old gate.new asker.new p.0 p.1) }
-    ensures fault { IfErr result (CanFail A.refuses asker.new) }
+    ensures run { IfOk result (λ p. IsLiveRun G.step A.step test gate.old asker.old gate.new asker.new p.0 p.1) }
+    ensures fault { IfErr result CanFail }
 {
     let mut readings = Readings::new();
-    run_job(alloc, job, &mut readings, gate, asker)
+    run_live_with(alloc, test, &mut readings, gate, asker)
 }
 
-/// The same for a new job of a test, with what other evaluations read of texts. What this one then has read stands in its place,
-/// unless it failed.
+/// The same, with what other evaluations read of texts. What this one then has read stands in its place, unless it failed.
 ///
 /// # Errors
 /// As `run_live`.
@@ -185,11 +150,21 @@ pub fn run_live_with<G: Gate, A: Asker>(
     requires ready { G.is_ready gate.old }
     ensures ready { G.is_ready gate.new }
     ensures run { IfOk result (λ p. IsLiveRun G.step A.step test gate.old asker.old gate.new asker.new p.0 p.1) }
-    ensures fault { IfErr result (CanFail A.refuses asker.new) }
+    ensures fault { IfErr result CanFail }
 {
     let read = mem::replace(readings, Readings::new());
-    match Job::start_with(alloc, test, read) {
-        Ok(job) => run_job(alloc, job, readings, gate, asker),
-        Err(_) => Err(LiveFault::Job(JobFault::Memory)),
+    let mut job = match Job::start_with(alloc, test, read) {
+        Ok(job) => job,
+        Err(_) => return Err(LiveFault::Job(JobFault::Memory)),
+    };
+    'turns: for _turn in 0..u64::MAX {
+        match take_turn(alloc, &mut job, gate, asker)? {
+            Some(judged) => {
+                job.hand_on(readings);
+                return with_transcript(alloc, judged);
+            }
+            None => {}
+        }
     }
+    Err(LiveFault::Memory)
 }

@@ -1,11 +1,11 @@
 //! The transcript of what was read.
 ghost use Rattle.std.specs.Prelude.{◌≡◌, ◌-◌, IfOk, OnOk};
 ghost use Rattle.dg_transcript.specs.Limits.{IsTranscript};
-ghost use Rattle.dg_living.specs.Living.{live_transcript, with_entry};
+ghost use Rattle.dg_living.specs.Living.{with_entry};
 ghost use Rattle.dg_living.specs.Replayed.{told_entry, transcript_of};
 
 use dg_bytes::{Seq, TryCopy};
-use dg_transcript::{Entry, Transcript, Version};
+use dg_transcript::{Entry, Transcript};
 use dg_world::{Answer, Question, Read};
 use std::alloc::{AllocError, Global};
 
@@ -52,12 +52,12 @@ pub(crate) fn sessions_in(alloc: Global, reads: &[Read]) -> Result<Seq<Seq<Entry
     Ok(Seq::from_vec(sessions))
 }
 
-/// The transcript of what was read, of version 2.
+/// The transcript of what was read.
 pub(crate) fn transcript_in(alloc: Global, reads: &[Read]) -> Result<Transcript, AllocError>
-    requires { IsTranscript (live_transcript (transcript_of reads.now)) }
-    ensures { IfOk result (λ t. t ≡ live_transcript (transcript_of reads.now)) }
+    requires { IsTranscript (transcript_of reads.now) }
+    ensures { IfOk result (λ t. t ≡ transcript_of reads.now) }
 {
-    match Transcript::from_sessions(Version::Two, sessions_in(alloc, reads)?) {
+    match Transcript::from_sessions(sessions_in(alloc, reads)?) {
         Ok(transcript) => Ok(transcript),
         Err(_) => unreachable!(),
     }

@@ -229,14 +229,8 @@ pub output-reads : (c : Cursor) (a : Action) (e : Entry) (o : ℕ × List ℕ) �
     × ((p : Phase) (q : Place) → Allowed a p q → Allowed (action.Read m) p q) × IsRead a
 output-reads c (action.Read limit) (entry.Chunk wait bytes) o is made fits =
     let still = step-reads (nat_lt c.place 65536) c limit wait in (still.0, still.1, omega (arith, still.2, fits), λ p. refl, λ p q may. may, tt)
-output-reads c (action.Read limit) (entry.ErrChunk wait bytes) o is made fits =
-    let still = step-reads (nat_lt c.place 65536) c limit wait in (still.0, still.1, omega (arith, still.2, fits), λ p. refl, λ p q may. may, tt)
 output-reads c (action.Spawn words) (entry.Chunk wait bytes) o is made fits = absurd made
-output-reads c (action.Spawn words) (entry.ErrChunk wait bytes) o is made fits = absurd made
 output-reads c (action.Send text) (entry.Chunk wait bytes) o is made fits = absurd made
-output-reads c (action.Send text) (entry.ErrChunk wait bytes) o is made fits = absurd made
 output-reads c action.Close (entry.Chunk wait bytes) o is made fits = absurd made
-output-reads c action.Close (entry.ErrChunk wait bytes) o is made fits = absurd made
 output-reads c action.Wait (entry.Chunk wait bytes) o is made fits = absurd made
-output-reads c action.Wait (entry.ErrChunk wait bytes) o is made fits = absurd made
 output-reads c a e o is made fits = absurd cc

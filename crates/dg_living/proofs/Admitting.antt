@@ -6,7 +6,6 @@ use Rattle.dg_transcript.specs.declared.entry.Entry.{Entry}
 use Rattle.dg_transcript.specs.declared.entry.Entry.TheVariants as entry
 use Rattle.dg_transcript.specs.declared.cursor.Action.{Action}
 use Rattle.dg_transcript.specs.declared.cursor.Action.TheVariants as action
-use Rattle.dg_transcript.specs.declared.version.Version.TheVariants.{Two}
 use Rattle.dg_transcript.specs.Order.{role_of, admits, after_role}
 use Rattle.dg_transcript.specs.Limits.{BytesFit, WordsFit, EntryFits}
 use Rattle.dg_sessions.specs.declared.phase.Phase.{Phase}
@@ -60,7 +59,6 @@ pub admitted : (a : Action) (e : Entry) (p : Phase) (q : Place) → Allowed a p 
 admitted (action.Send bytes) (entry.Sent given) p q here made = (at q running (role_of (entry.Sent given)) here.1 refl, stays_open p here.0)
 admitted (action.Send bytes) (entry.NoSend code given) p q here made = (at q running (role_of (entry.NoSend code given)) here.1 refl, stays_open p here.0)
 admitted (action.Read limit) (entry.Chunk wait bytes) p q here made = (at q running (role_of (entry.Chunk wait bytes)) here.1 refl, stays_open p here.0)
-admitted (action.Read limit) (entry.ErrChunk wait bytes) p q here made = (at q running (role_of (entry.ErrChunk wait bytes)) here.1 refl, stays_open p here.0)
 admitted (action.Read limit) (entry.End wait) p q here made = (at q running (role_of (entry.End wait)) here.1 refl, refl)
 admitted (action.Read limit) (entry.NoRead code) p q here made = (at q running (role_of (entry.NoRead code)) here.1 refl, refl)
 admitted (action.Read limit) (entry.Silence wait) p q here made = (at q running (role_of (entry.Silence wait)) here.1 refl, stays_open p here.0)
@@ -81,13 +79,12 @@ bytes-fit text given same fit bytes =
     (subst (λ bs. 0 < length bs) (sym same) fit.0, subst (λ bs. length bs ≤ 1048576) (sym same) fit.1, bytes)
 
 -- the entry keeps the limits, where the action does
-pub made-fits : (a : Action) (e : Entry) → ActionFits a → Made a e → IsOfBytes e → EntryFits Two e
+pub made-fits : (a : Action) (e : Entry) → ActionFits a → Made a e → IsOfBytes e → EntryFits e
 made-fits (action.Spawn words) (entry.Started given) fit made bytes = words-fit words given made fit bytes
 made-fits (action.Spawn words) (entry.NoStart code given) fit made bytes = words-fit words given made fit bytes
 made-fits (action.Send text) (entry.Sent given) fit made bytes = bytes-fit text given made fit bytes
 made-fits (action.Send text) (entry.NoSend code given) fit made bytes = bytes-fit text given made fit bytes
 made-fits (action.Read limit) (entry.Chunk wait text) fit made bytes = (omega (arith, made.0, fit), (omega (arith, made.1), made.2, bytes))
-made-fits (action.Read limit) (entry.ErrChunk wait text) fit made bytes = (refl, omega (arith, made.0, fit), (omega (arith, made.1), made.2, bytes))
 made-fits (action.Read limit) (entry.End wait) fit made bytes = omega (arith, made, fit)
 made-fits (action.Read limit) (entry.NoRead code) fit made bytes = tt
 made-fits (action.Read limit) (entry.Silence wait) fit made bytes = omega (arith, made, fit)

@@ -8,7 +8,6 @@ use Rattle.dg_transcript.specs.declared.entry.Entry.{Entry}
 use Rattle.dg_transcript.specs.declared.entry.Entry.TheVariants as entry
 use Rattle.dg_transcript.specs.declared.cursor.Action.{Action}
 use Rattle.dg_transcript.specs.declared.cursor.Action.TheVariants as action
-use Rattle.dg_transcript.specs.declared.version.Version.TheVariants.{Two}
 use Rattle.dg_transcript.specs.Lines.{place_of}
 use Rattle.dg_transcript.specs.Text.{sessions_lines}
 use Rattle.dg_transcript.specs.Order.{role_of, admits, after_role}
@@ -33,7 +32,7 @@ pub record Agrees (v : SessionView) (es : List Entry) : Type 0 where
   pub wait : v.cursor.wait ≡ None
   pub place : v.cursor.place ≡ length es
   pub phase : PhaseAt v.phase (standing es)
-  pub session : IsSession Two es
+  pub session : IsSession es
 
 abbrev pub AllAgree : List SessionView → List (List Entry) → Type 0
 AllAgree [] [] = Unit {0}
@@ -49,13 +48,13 @@ joined : (p : Place) (es : List Entry) (e : Entry) → in_order p es ≡ true �
     → in_order p (es ++ e ∷ []) ≡ true
 joined p es e ordered may = in_order-append p es (e ∷ []) ∙ rw (ordered, may) refl
 
-session-more : (es : List Entry) (e : Entry) → IsSession Two es → admits (standing es) (role_of e) ≡ true → EntryFits Two e → IsSession Two (es ++ e ∷ [])
+session-more : (es : List Entry) (e : Entry) → IsSession es → admits (standing es) (role_of e) ≡ true → EntryFits e → IsSession (es ++ e ∷ [])
 unfolding sessions_lines
 session-more [] e session may fits = absurd (omega (arith, session.0))
 session-more (x ∷ es) e session may fits = (
   omega arith,
   joined (place_of (sessions_lines 1 ([] ∷ []))) (x ∷ es) e session.1 may,
-  All-push (EntryFits Two) (x ∷ es) e session.2 fits,
+  All-push EntryFits (x ∷ es) e session.2 fits,
 )
 
 -- one more entry of a session
@@ -73,7 +72,7 @@ agrees-more v w es a e before allowed fit made bytes goes phase =
       session = session-more es e before.session may.0 (made-fits a e fit made bytes);
     }
 
-first-agrees : (w : SessionView) (e : Entry) → w.cursor.wait ≡ None → w.cursor.place ≡ 1 → PhaseAt w.phase (standing (e ∷ [])) → IsSession Two (e ∷ [])
+first-agrees : (w : SessionView) (e : Entry) → w.cursor.wait ≡ None → w.cursor.place ≡ 1 → PhaseAt w.phase (standing (e ∷ [])) → IsSession (e ∷ [])
     → Agrees w (e ∷ [])
 first-agrees w e wait at_one phase session = record { wait = wait; place = at_one; phase = phase; session = session }
 
@@ -94,7 +93,7 @@ agrees-first v w words e at_none fit made bytes goes phase unstarted =
     where_stands (entry.NoStart code given) made = tt
     where_stands e made = absurd made
 
-    session : (e : Entry) → Made (action.Spawn words) e → EntryFits Two e → IsSession Two (e ∷ [])
+    session : (e : Entry) → Made (action.Spawn words) e → EntryFits e → IsSession (e ∷ [])
     session (entry.Started given) made fits = (omega arith, refl, (fits, tt))
     session (entry.NoStart code given) made fits = (omega arith, refl, (fits, tt))
     session e made fits = absurd made
@@ -112,7 +111,7 @@ agree-length [] (es ∷ ss) all = absurd all
 agree-length (v ∷ vs) [] all = absurd all
 agree-length (v ∷ vs) (es ∷ ss) all = ap suc (agree-length vs ss all.1)
 
-pub agree-sessions : (vs : List SessionView) (ss : List (List Entry)) → AllAgree vs ss → AllByRecursion (IsSession Two) ss
+pub agree-sessions : (vs : List SessionView) (ss : List (List Entry)) → AllAgree vs ss → AllByRecursion IsSession ss
 agree-sessions [] [] all = tt
 agree-sessions [] (es ∷ ss) all = absurd all
 agree-sessions (v ∷ vs) [] all = absurd all

@@ -11,7 +11,7 @@ use Rattle.dg_sessions.specs.Views.{SessionView, session_at}
 use Rattle.dg_sessions.specs.Steps.{changed_at, changed, emptied, taken, limited}
 use Rattle.dg_language.specs.declared.procedure.Binding.{Binding}
 use Rattle.dg_language.specs.declared.procedure.Procedure.{Procedure}
-use Rattle.dg_language.specs.State.{State, with_board_made, with_step_limit, with_call, began, began_with, assigned, unassigned, linked, defined, entered, departed, in_action, out_of_action, with_sessions, marked, in_library, setting_of, with_setting, without_setting}
+use Rattle.dg_language.specs.State.{State, with_board_made, with_call, began, began_with, assigned, unassigned, linked, defined, entered, departed, in_action, out_of_action, with_sessions, marked, in_library, setting_of, with_setting, without_setting}
 use Rattle.dg_language.specs.Variables.{all_linked}
 use Rattle.dg_cmds.specs.Places.{glob_matches}
 use Rattle.dg_language.specs.declared.command.FlagCommand.{FlagCommand}
@@ -27,10 +27,6 @@ stays s = record { test = refl; known = refl; used = refl; agree = λ ss h. h }
 pub then_same : {s t u : State} → Same s t → Same t u → Same s u
 then_same a b =
     record { test = b.test ∙ a.test; known = b.known ∙ a.known; used = b.used ∙ a.used; agree = λ ss h. b.agree ss (a.agree ss h) }
-
-pub with_step_limit-same : (limit : ℕ) (s : State) → Same s (with_step_limit limit s)
-unfolding with_step_limit
-with_step_limit-same limit s = record { test = refl; known = refl; used = refl; agree = λ ss h. h }
 
 pub with_board_made-same : (s : State) → Same s (with_board_made s)
 unfolding with_board_made

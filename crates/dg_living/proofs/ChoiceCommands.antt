@@ -61,13 +61,13 @@ module _ (nested : Nested) (inside : LivesInside nested) where
 
   do_while-lives : (args : List (List ℕ)) (s : State) → Lives s (do_while nested args s)
   unfolding do_while
-  do_while-lives args s = on-lives (two args) (fail-lives _ s) (λ a. repeat-lives _ a.0 None a.1 s)
+  do_while-lives args s = on-lives (two args) (fail-lives _ s) (λ a. repeat-lives 100000 a.0 None a.1 s)
 
   do_for-lives : (args : List (List ℕ)) (s : State) → Lives s (do_for nested args s)
   unfolding do_for
   do_for-lives args s =
       on-lives (four args) (fail-lives _ s) (λ a.
-      if_done-lives (inside a.0 s) (λ v t. repeat-lives _ a.1 (Some a.2) a.3 t))
+      if_done-lives (inside a.0 s) (λ v t. repeat-lives 100000 a.1 (Some a.2) a.3 t))
 
   do_taken-lives : (body : Result (Option (List ℕ)) (List ℕ)) (s : State) → Lives s (do_taken nested body s)
   do_taken-lives (Err message) s = fail-lives message s

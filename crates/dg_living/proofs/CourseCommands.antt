@@ -62,7 +62,7 @@ module _ (nested : Nested) (inside : LivesInside nested) where
   with_values-lives : (names : List (List ℕ)) (body : List ℕ) (values : Result (List (List ℕ)) (List ℕ)) (s : State)
       → Lives s (with_values nested names body values s)
   with_values-lives names body (Err message) s = fail-lives message s
-  with_values-lives names body (Ok values) s = each-lives _ names body values s
+  with_values-lives names body (Ok values) s = each-lives 100000 names body values s
 
   with_names-lives : (names : Result (List (List ℕ)) (List ℕ)) (values body : List ℕ) (s : State)
       → Lives s (with_names nested names values body s)

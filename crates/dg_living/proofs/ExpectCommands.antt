@@ -104,7 +104,7 @@ module _ (nested : Nested) (inside : LivesInside nested) where
       on_words-lives (expect_words None None words) s (λ e _. on_session-lives is_open e.id s (λ n t fit.
       with_limit-lives e.timeout t (λ limit u le same.
       with_patterns-lives (regexes_in e.pairs) u (λ v still.
-      rounds-lives _ (record { session = n; pairs = e.pairs; limit = limit }) v le (subst (Fit is_open n) (sym (still ∙ same)) fit)))))
+      rounds-lives 100001 (record { session = n; pairs = e.pairs; limit = limit }) v le (subst (Fit is_open n) (sym (still ∙ same)) fit)))))
 
   expect_list-lives : (r : Result (List Word) WordFault) (s : State) → Lives s (expect_list nested r s)
   expect_list-lives (Err fault) s = fail-lives _ s

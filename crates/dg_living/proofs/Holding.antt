@@ -15,7 +15,7 @@ use Rattle.dg_world.specs.Question.{same_question}
 use Rattle.dg_language.specs.Play.{lookup}
 use Rattle.dg_language.specs.State.{State, learn}
 use Rattle.dg_language.proofs.Asking.{same_question-true}
-use Rattle.dg_living.specs.Living.{live_transcript, is_about_entry, entries_at, with_entry}
+use Rattle.dg_living.specs.Living.{is_about_entry, entries_at, with_entry}
 use Rattle.dg_living.proofs.Agreeing.{AllAgree, agree-sessions, at-more}
 
 -- a question about an entry is about one that there is
@@ -38,7 +38,7 @@ pub record Holding (t at : TestId) (known : List Read) (sessions : SessionsView)
 abbrev pub Holds : TestId → State → List (List Entry) → Type 0
 Holds t s ss = Holding t s.test s.known s.sessions ss
 
-pub transcript : (t : TestId) (s : State) (ss : List (List Entry)) → Holds t s ss → IsTranscript (live_transcript ss)
+pub transcript : (t : TestId) (s : State) (ss : List (List Entry)) → Holds t s ss → IsTranscript ss
 transcript t s ss h =
     record { sessions = h.few; entries = omega (arith, h.used, h.room); each = agree-sessions s.sessions.all ss h.agree }
 

@@ -2,19 +2,19 @@
 use Rattle.std.proofs.Common.{◌≢◌, ℕ, List, [], refl, arith}
 use Rattle.std.specs.Prelude.{Option, Some, None}
 use Rattle.dg_world.specs.Name.{is_name}
-use Rattle.dg_world.specs.declared.question.Question.TheVariants.{Steps, File, Tool}
+use Rattle.dg_world.specs.declared.question.Question.TheVariants.{File, Tool}
 use Rattle.dg_language.specs.declared.code.Code.{Code}
 use Rattle.dg_language.specs.declared.code.Code.TheVariants.{Done, Failed, Returned, Broken, Continued, ExpContinued}
 use Rattle.dg_language.specs.Play.{Play}
-use Rattle.dg_language.specs.State.{State, fresh, marked, with_board_made, with_step_limit}
+use Rattle.dg_language.specs.State.{State, fresh, marked, with_board_made}
 use Rattle.dg_language.specs.Evaluation.{Ending, Then, ended}
 use Rattle.dg_language.specs.Boards.{content_of}
-use Rattle.dg_language.specs.Judge.{opened, open_script, after_file, opened_first, first_file, tool_library, open_library, tool_of, open_tool, leave_board, board_file, open_board, step_limit, open_limit, finish, judge}
+use Rattle.dg_language.specs.Judge.{opened, open_script, after_file, opened_first, first_file, tool_library, open_library, tool_of, open_tool, leave_board, board_file, open_board, finish, judge}
 use Rattle.dg_world.specs.declared.test_id.TestId.{TestId}
 use Rattle.dg_language.specs.declared.close.Close.TheVariants.{Departed}
 use Rattle.dg_living.specs.Living.{LivesOn}
 use Rattle.dg_living.proofs.Holding.{Holds, transcript}
-use Rattle.dg_living.proofs.Changes.{marked-same, with_board_made-same, with_step_limit-same}
+use Rattle.dg_living.proofs.Changes.{marked-same, with_board_made-same}
 use Rattle.dg_living.proofs.Steps.{Lives, LivesAfter, completes, along, either, ask-lives, fail-lives, one_after_another, aborted-stays, not-finished}
 use Rattle.dg_living.proofs.Texts.{evaluate-lives}
 
@@ -60,11 +60,6 @@ open_board-lives : (s : State) → Lives s (open_board s)
 unfolding open_board
 open_board-lives s = first_file-lives leave_board leave_board-lives (board_file s.test.board) s
 
-open_limit-lives : (s : State) → Lives s (open_limit s)
-unfolding open_limit
-open_limit-lives s =
-    ask-lives Steps s refl (λ a s' _. along (with_step_limit-same (step_limit a) s') (open_board-lives (with_step_limit (step_limit a) s')))
-
 ended-stays : (s : State) → (ended s).close ≢ Departed
 unfolding ended
 ended-stays s = not-finished
@@ -85,4 +80,4 @@ fresh-holds t = record { test = refl; past = tt; agree = tt; used = refl; room =
 
 pub judging-lives : (t : TestId) → LivesOn t (judge t) []
 unfolding judge
-judging-lives t = (open_limit-lives (fresh t)).lives t [] finish (fresh-holds t) (finish-lives t)
+judging-lives t = (open_board-lives (fresh t)).lives t [] finish (fresh-holds t) (finish-lives t)

@@ -111,7 +111,7 @@ stepped-same s = record { test = refl; known = refl; used = refl; agree = λ ss 
 
 pub tick-lives : (s : State) {f : State → Then → Play Ending} → ((u : State) → Lives u (f u)) → Lives s (λ k. tick s (λ u. f u k))
 unfolding tick
-tick-lives s more = either (nat_lt s.steps s.limit) (along (stepped-same s) (more (stepped s))) (ends_out s)
+tick-lives s more = either (nat_lt s.steps 100000) (along (stepped-same s) (more (stepped s))) (ends_out s)
 
 -- a value of so many bytes is made, if that is no more than a value may have
 pub within-known : (n : ℕ) (s : State) {p : Then → Play Ending} → (nat_lt 1048576 n ≡ false → Lives s p) → Lives s (λ k. within n s (p k))

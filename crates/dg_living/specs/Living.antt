@@ -9,9 +9,7 @@ use Rattle.dg_transcript.specs.declared.entry.Entry.{Entry}
 use Rattle.dg_transcript.specs.declared.entry.Entry.TheVariants as entry
 use Rattle.dg_transcript.specs.declared.cursor.Action.{Action}
 use Rattle.dg_transcript.specs.declared.cursor.Action.TheVariants as action
-use Rattle.dg_transcript.specs.declared.version.Version.TheVariants.{Two}
 use Rattle.dg_transcript.specs.Limits.{IsTranscript}
-use Rattle.dg_transcript.specs.Transcript.{TranscriptView}
 use Rattle.dg_gate.specs.Made.{Made}
 use Rattle.dg_world.specs.declared.question.Question.{Question}
 use Rattle.dg_world.specs.declared.question.Question.TheVariants as question
@@ -31,7 +29,6 @@ IsOfBytes (entry.NoStart code words) = AllByRecursion IsBytes words
 IsOfBytes (entry.Sent bytes) = IsBytes bytes
 IsOfBytes (entry.NoSend code bytes) = IsBytes bytes
 IsOfBytes (entry.Chunk wait bytes) = IsBytes bytes
-IsOfBytes (entry.ErrChunk wait bytes) = IsBytes bytes
 IsOfBytes (entry.Exited status) = status ≤ 255
 IsOfBytes e = Unit {0}
 
@@ -55,10 +52,6 @@ with_entry i e [] = (e ∷ []) ∷ []
 with_entry zero e (es ∷ ss) = (es ++ e ∷ []) ∷ ss
 with_entry (suc i) e (es ∷ ss) = es ∷ with_entry i e ss
 
--- a live run's transcript is of version 2
-abbrev pub live_transcript : List (List Entry) → TranscriptView
-live_transcript ss = record { version = Two; sessions = ss }
-
 -- whether a question is about an entry
 abbrev pub is_about_entry : Question → Bool
 is_about_entry (question.Entry place) = true
@@ -79,5 +72,5 @@ LivesAsked t ss q (Some a) lives_on =
 -- What is left of the judging of a test lives on, where the sessions have these entries so far: it ends without a departure and
 -- with a transcript, and goes on so after each answer that a gate or an asker may give.
 abbrev pub LivesOn : TestId → Play Ending → List (List Entry) → Type 0
-LivesOn t (Ends e) ss = (e.close ≢ Departed) × IsTranscript (live_transcript ss)
+LivesOn t (Ends e) ss = (e.close ≢ Departed) × IsTranscript ss
 LivesOn t (Asks ask f) ss = LivesAsked t ss ask.question ask.action (λ a next. LivesOn t (f a) next)

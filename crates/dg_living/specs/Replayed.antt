@@ -18,7 +18,7 @@ use Rattle.dg_language.specs.declared.close.Close.TheVariants.{Departed}
 use Rattle.dg_language.specs.Play.{Play, Ends, Asks, Source, Over, run, GivesEach}
 use Rattle.dg_language.specs.Evaluation.{Ending}
 use Rattle.dg_language.specs.Judge.{judge}
-use Rattle.dg_living.specs.Living.{IsOfBytes, is_about_entry, live_transcript, with_entry}
+use Rattle.dg_living.specs.Living.{IsOfBytes, is_about_entry, with_entry}
 
 -- How a question may be answered live: where an action stands beside it, by an entry that a gate may make of that; else by any
 -- answer of its kind.
@@ -42,7 +42,7 @@ abbrev pub told_entries : List (List Entry) → List Read → List (List Entry)
 told_entries ss [] = ss
 told_entries ss (r ∷ rs) = told_entries (told_entry r.question r.answer ss) rs
 
--- the sessions of the transcript that reads make
+-- the transcript that reads make
 abbrev pub transcript_of : List Read → List (List Entry)
 transcript_of reads = told_entries [] reads
 
@@ -65,10 +65,10 @@ abbrev pub TellsOf : Source → TestId → List (List Entry) → Type 0
 TellsOf look t ss =
     (n place : ℕ) → look (question.Entry (record { test = t; session = n; place = place })) ≡ Some (entry_answer (entry_at ss n place))
 
--- The entries that were read form a transcript of version 2 and stand in it at their places. In each source that has it as the test's and
+-- The entries that were read form a transcript and stand in it at their places. In each source that has it as the test's and
 -- gives the other answers, the judging comes to this end, and that is no departure.
 pub record IsReplayed (t : TestId) (reads : List Read) (e : Ending) : Type 0 where
-  pub transcript : IsTranscript (live_transcript (transcript_of reads))
+  pub transcript : IsTranscript (transcript_of reads)
   pub entries : AllStand t (transcript_of reads) reads
   pub replay : (look : Source) → GivesEach look (others reads) → TellsOf look t (transcript_of reads) → run look (judge t) ≡ Over e
   pub stays : e.close ≢ Departed

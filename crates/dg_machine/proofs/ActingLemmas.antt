@@ -76,17 +76,14 @@ step_at-walks : (c : Cursor) (a : Action) (e : Entry) → Walks c a (step_at c a
 step_at-walks c (action.Spawn words) (entry.Started given) = answers_if-walks (same_words given words) c (action.Spawn words)
 step_at-walks c (action.Spawn words) (entry.NoStart code given) = answers_if-walks (same_words given words) c (action.Spawn words)
 step_at-walks c (action.Send bytes) (entry.Chunk wait given) = passes-walks c (action.Send bytes)
-step_at-walks c (action.Send bytes) (entry.ErrChunk wait given) = passes-walks c (action.Send bytes)
 step_at-walks c (action.Send bytes) (entry.Silence wait) = passes-walks c (action.Send bytes)
 step_at-walks c (action.Send bytes) (entry.Sent given) = answers_if-walks (same_bytes given bytes) c (action.Send bytes)
 step_at-walks c (action.Send bytes) (entry.NoSend code given) = answers_if-walks (same_bytes given bytes) c (action.Send bytes)
 step_at-walks c (action.Read limit) (entry.Chunk wait given) = arrives-walks (nat_le (unwrap_or c.wait wait) limit) c limit (unwrap_or c.wait wait)
-step_at-walks c (action.Read limit) (entry.ErrChunk wait given) = arrives-walks (nat_le (unwrap_or c.wait wait) limit) c limit (unwrap_or c.wait wait)
 step_at-walks c (action.Read limit) (entry.End wait) = arrives-walks (nat_le (unwrap_or c.wait wait) limit) c limit (unwrap_or c.wait wait)
 step_at-walks c (action.Read limit) (entry.Silence wait) = is_silent-walks (nat_lt (unwrap_or c.wait wait) limit) (unwrap_or c.wait wait == limit) c limit (unwrap_or c.wait wait)
 step_at-walks c (action.Read limit) (entry.NoRead code) = answers-walks c (action.Read limit)
 step_at-walks c action.Close (entry.Chunk wait given) = passes-walks c action.Close
-step_at-walks c action.Close (entry.ErrChunk wait given) = passes-walks c action.Close
 step_at-walks c action.Close (entry.Silence wait) = passes-walks c action.Close
 step_at-walks c action.Close entry.Closed = answers-walks c action.Close
 step_at-walks c action.Close (entry.NoClose code) = answers-walks c action.Close

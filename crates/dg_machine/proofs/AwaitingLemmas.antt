@@ -30,7 +30,6 @@ use Rattle.dg_machine.specs.declared.frame.Reach.TheVariants.{Reading}
 use Rattle.dg_machine.specs.declared.frame.Wait.{Wait}
 use Rattle.dg_machine.specs.declared.machine.Machine.{Machine}
 use Rattle.dg_machine.specs.Acting.{Acts, UsesOne, again, awaiting, limit_in, waiting_of}
-use Rattle.dg_asking.specs.Attempts.{steps_left}
 use Rattle.dg_machine.specs.Meaning.{all_back, weight, weight_of}
 use Rattle.dg_machine.specs.Performing.{Performs}
 
@@ -75,7 +74,7 @@ match-is n xs h s l =
 -- what is known, and what weighs, is as it was
 pub record Stays (old new : State) : Type 0 where
   pub known : new.known ≡ old.known
-  pub steps : steps_left new ≡ steps_left old
+  pub steps : new.steps ≡ old.steps
   pub used : new.sessions.used ≡ old.sessions.used
 
 stays-assigned : (n v : List ℕ) (old new : State) → Stays old new → Stays old (assigned n v new)
@@ -192,9 +191,9 @@ pub known-acts : (s t : State) → t ≡ with_sessions t.sessions s → t.known 
 unfolding with_sessions
 known-acts s t e = ap (λ (u : State). u.known) e
 
-steps-acts : (s t : State) → t ≡ with_sessions t.sessions s → steps_left t ≡ steps_left s
+steps-acts : (s t : State) → t ≡ with_sessions t.sessions s → t.steps ≡ s.steps
 unfolding with_sessions
-steps-acts s t e = ap steps_left e
+steps-acts s t e = ap (λ (u : State). u.steps) e
 
 weight-uses-one : (c : Control) (s t : State) (fs : List Frame) → UsesOne s t → weight c t fs + 2 ^ 64 ≤ weight c s fs
 unfolding weight

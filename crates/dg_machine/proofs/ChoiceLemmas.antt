@@ -29,7 +29,7 @@ module _ (nested : Nested) (left : List Clause) (otherwise : Option (List ℕ)) 
   choose-next c cs e = rw e refl
 
 module _ (nested : Nested) (test : List ℕ) (next : Option (List ℕ)) (body : List ℕ) (s : State) (k : Then) where
-  repeat-late : (left : ℕ) → s.limit ≤ s.steps → repeat nested left test next body s k ≡ Ends (out_of_steps s)
+  repeat-late : (left : ℕ) → 100000 ≤ s.steps → repeat nested left test next body s k ≡ Ends (out_of_steps s)
   unfolding repeat
   repeat-late zero l = refl
   repeat-late (suc r) l =
@@ -40,12 +40,12 @@ module _ (nested : Nested) (test : List ℕ) (next : Option (List ℕ)) (body : 
   repeat-zero = refl
 
   -- no test is left, or no step
-  pub repeat-cut : (left : ℕ) → (left ≡ 0) ⊎ (s.limit ≤ s.steps) → repeat nested left test next body s k ≡ Ends (out_of_steps s)
+  pub repeat-cut : (left : ℕ) → (left ≡ 0) ⊎ (100000 ≤ s.steps) → repeat nested left test next body s k ≡ Ends (out_of_steps s)
   repeat-cut left (inl e) = rw e repeat-zero
   repeat-cut left (inr l) = repeat-late left l
 
   -- a test begins
-  pub repeat-next : (left : ℕ) → left ≢ 0 → s.steps < s.limit
+  pub repeat-next : (left : ℕ) → left ≢ 0 → s.steps < 100000
       → repeat nested left test next body s k
       ≡ calculate nested test (stepped s) (decided (λ holds u. body_if holds nested body next (λ w. repeat nested (left - 1) test next body w k) u k) k)
   unfolding repeat condition

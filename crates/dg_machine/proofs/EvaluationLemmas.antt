@@ -14,14 +14,14 @@ use Rattle.dg_language.proofs.Once.{gives-learned, run-stands}
 use Rattle.dg_machine.specs.declared.machine.Machine.{Machine}
 use Rattle.dg_machine.specs.declared.frame.Closing.{Closing}
 use Rattle.dg_machine.specs.declared.frame.Frame.TheVariants.{Opening}
-use Rattle.dg_machine.specs.declared.frame.Opening.TheVariants.{Limit}
+use Rattle.dg_machine.specs.declared.frame.Opening.TheVariants.{Board}
 use Rattle.dg_machine.specs.declared.frame.Stop.TheVariants.{AtQuestion, AtEnd}
 use Rattle.dg_machine.specs.declared.frame.Control.TheVariants.{Go}
 use Rattle.dg_machine.specs.Meaning.{rest, go, all_back, told, ComesTo}
 use Rattle.dg_machine.specs.Evaluating.{IsOnce, IsLeft, IsAsking, NeedsNext, HasEnded}
 
 -- an evaluation begins as the judging of its test
-pub starts : (test : TestId) (m : Machine) → m.state ≡ fresh test → m.stack ≡ Opening Limit ∷ [] → m.control ≡ Go → IsLeft test m
+pub starts : (test : TestId) (m : Machine) → m.state ≡ fresh test → m.stack ≡ Opening Board ∷ [] → m.control ≡ Go → IsLeft test m
 unfolding rest go all_back judge fresh
 starts test m state stack control = rw (state, stack, control) (record { once = tt; leads = refl })
 

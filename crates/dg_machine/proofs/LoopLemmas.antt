@@ -41,7 +41,7 @@ each-suc nested r names body (v ∷ vs) s k h = refl
 
 -- no step is left
 each-late : (nested : Nested) (left : ℕ) (names : List (List ℕ)) (body : List ℕ) (values : List (List ℕ)) (s : State) (k : Then) → 0 < length values
-    → s.limit ≤ s.steps → each nested left names body values s k ≡ Ends (out_of_steps s)
+    → 100000 ≤ s.steps → each nested left names body values s k ≡ Ends (out_of_steps s)
 each-late nested zero names body values s k h l = each-zero nested names body values s k h
 each-late nested (suc r) names body values s k h l =
     each-suc nested r names body values s k h
@@ -49,13 +49,13 @@ each-late nested (suc r) names body values s k h l =
 
 -- no round is left, or no step
 pub each-cut : (nested : Nested) (left : ℕ) (names : List (List ℕ)) (body : List ℕ) (values : List (List ℕ)) (s : State) (k : Then) → 0 < length values
-    → (left ≡ 0) ⊎ (s.limit ≤ s.steps) → each nested left names body values s k ≡ Ends (out_of_steps s)
+    → (left ≡ 0) ⊎ (100000 ≤ s.steps) → each nested left names body values s k ≡ Ends (out_of_steps s)
 each-cut nested left names body values s k h (inl e) = rw e (each-zero nested names body values s k h)
 each-cut nested left names body values s k h (inr l) = each-late nested left names body values s k h l
 
 -- a round begins
 pub each-next : (nested : Nested) (left : ℕ) (names : List (List ℕ)) (body : List ℕ) (values : List (List ℕ)) (s : State) (k : Then) → 0 < length values
-    → left ≢ 0 → s.steps < s.limit
+    → left ≢ 0 → s.steps < 100000
     → give_each names values (stepped s) (λ vs t. nested body t (loop_after (λ u. each nested (left - 1) names body vs u k) k))
     ≡ each nested left names body values s k
 each-next nested zero names body values s k h n l = absurd (n refl)
@@ -121,7 +121,7 @@ unfolding do_foreach
 foreach-empty nested args s k n v body e h = rw e (ap (λ r. with_names nested r v body s k) h)
 
 -- and for a round of so many names
-pub weight-round : (s : State) (fs : List Frame) (n : ℕ) → s.steps < s.limit → n < 2 ^ 64 → weight Go (stepped s) fs + 9 + 4 * (n - 0) ≤ weight Go s fs + 5
+pub weight-round : (s : State) (fs : List Frame) (n : ℕ) → s.steps < 100000 → n < 2 ^ 64 → weight Go (stepped s) fs + 9 + 4 * (n - 0) ≤ weight Go s fs + 5
 unfolding weight stepped
 weight-round s fs n h g = omega arith
 

@@ -55,19 +55,19 @@ fail-short message s k h =
     ap (λ b. elim b as (λ _. Play Ending) [ true ↦ cut (codes "value too long") s | false ↦ k Failed message s ]) (nat_lt-false 1048576 (length message) h)
 
 -- whether a step is left
-pub step-left : (s : State) (b : Bool) → b ≡ nat_lt s.steps s.limit → b ≡ true → s.steps < s.limit
+pub step-left : (s : State) (b : Bool) → b ≡ nat_lt s.steps 100000 → b ≡ true → s.steps < 100000
 step-left s b e h = grind arith
 
-pub no-step : (s : State) (b : Bool) → b ≡ nat_lt s.steps s.limit → b ≡ false → s.limit ≤ s.steps
+pub no-step : (s : State) (b : Bool) → b ≡ nat_lt s.steps 100000 → b ≡ false → 100000 ≤ s.steps
 no-step s b e h = grind arith
 
-pub tick-step : (s : State) (f : State → Play Ending) → s.steps < s.limit → tick s f ≡ f (stepped s)
+pub tick-step : (s : State) (f : State → Play Ending) → s.steps < 100000 → tick s f ≡ f (stepped s)
 unfolding tick
-tick-step s f h = ap (λ b. elim b as (λ _. Play Ending) [ true ↦ f (stepped s) | false ↦ Ends (out_of_steps s) ]) (lt-ltb s.steps s.limit h)
+tick-step s f h = ap (λ b. elim b as (λ _. Play Ending) [ true ↦ f (stepped s) | false ↦ Ends (out_of_steps s) ]) (lt-ltb s.steps 100000 h)
 
-pub tick-none : (s : State) (f : State → Play Ending) → s.limit ≤ s.steps → tick s f ≡ Ends (out_of_steps s)
+pub tick-none : (s : State) (f : State → Play Ending) → 100000 ≤ s.steps → tick s f ≡ Ends (out_of_steps s)
 unfolding tick
-tick-none s f h = ap (λ b. elim b as (λ _. Play Ending) [ true ↦ f (stepped s) | false ↦ Ends (out_of_steps s) ]) (nat_lt-false s.steps s.limit h)
+tick-none s f h = ap (λ b. elim b as (λ _. Play Ending) [ true ↦ f (stepped s) | false ↦ Ends (out_of_steps s) ]) (nat_lt-false s.steps 100000 h)
 
 -- no command is left
 pub sequence-done : (d : ℕ) (cs : List Command) (v : List ℕ) (s : State) (k : Then) → cs ≡ [] → sequence (evaluate d) cs v s k ≡ k Done v s
@@ -95,7 +95,7 @@ unfolding sequence
 sequence-unreadable d fault cs more v s k e = rw e refl
 
 -- the next command begins
-pub sequence-next : (d : ℕ) (ws : List Word) (cs more : List Command) (v : List ℕ) (s : State) (fs : List Frame) → cs ≡ Words ws ∷ more → s.steps < s.limit
+pub sequence-next : (d : ℕ) (ws : List Word) (cs more : List Command) (v : List ℕ) (s : State) (fs : List Frame) → cs ≡ Words ws ∷ more → s.steps < 100000
     → sequence (evaluate d) cs v s (all_back fs) ≡ gather (evaluate d) (command (evaluate d)) [] [] [] (substitutions ws) (stepped s) (all_back (Sequence more d ∷ fs))
 unfolding sequence all_back back
 sequence-next d ws cs more v s fs e h =
@@ -104,14 +104,14 @@ sequence-next d ws cs more v s fs e h =
     ∙ sym (words-made (evaluate d) (command (evaluate d)) (if_done (λ v' s''. sequence (evaluate d) more v' s'' (all_back fs)) (all_back fs)) ws (stepped s)))
 
 -- no step is left for the next command
-pub sequence-cut : (d : ℕ) (ws : List Word) (cs more : List Command) (v : List ℕ) (s : State) (k : Then) → cs ≡ Words ws ∷ more → s.limit ≤ s.steps
+pub sequence-cut : (d : ℕ) (ws : List Word) (cs more : List Command) (v : List ℕ) (s : State) (k : Then) → cs ≡ Words ws ∷ more → 100000 ≤ s.steps
     → sequence (evaluate d) cs v s k ≡ Ends (out_of_steps s)
 unfolding sequence
 sequence-cut d ws cs more v s k e h =
     rw e (tick-none s (λ s'. words_made (evaluate d) (command (evaluate d)) ws s' (if_done (λ v' s''. sequence (evaluate d) more v' s'' k) k)) h)
 
 -- a step that is taken pays for a command, whose words are made in so many steps
-pub weight-stepped : (s : State) (more : List Command) (d n : ℕ) (fs : List Frame) → s.steps < s.limit → n < 2 ^ 64
+pub weight-stepped : (s : State) (more : List Command) (d n : ℕ) (fs : List Frame) → s.steps < 100000 → n < 2 ^ 64
     → weight Go (stepped s) (Sequence more d ∷ fs) + budget Run + 4 + 4 * n ≤ weight Go s fs + 3
 unfolding weight stack_weight stepped budget
 weight-stepped s more d n fs h g = omega arith
@@ -144,7 +144,7 @@ Goes-comes (Over v) play play' known w w' m h e l = (e ∙ h.0, h.1)
 Goes-comes Lost play play' known w w' m h e l = h
 
 -- a step that is taken pays for a test
-pub weight-tick : (s : State) (fs : List Frame) (n : ℕ) → s.steps < s.limit → n ≤ 2 ^ 249 → weight Go (stepped s) fs + n ≤ weight Go s fs + 5
+pub weight-tick : (s : State) (fs : List Frame) (n : ℕ) → s.steps < 100000 → n ≤ 2 ^ 249 → weight Go (stepped s) fs + n ≤ weight Go s fs + 5
 unfolding weight stepped
 weight-tick s fs n h g = omega arith
 

@@ -1,16 +1,16 @@
 -- The files that are opened for a test, one after another.
-use Rattle.std.proofs.Common.{◌≡◌, ℕ, true, false, ◌+◌, ◌<◌, ◌≤◌, List, ◌∷◌, ap, sym, ◌∙◌, refl, subst, arith, ◌-◌, ◌*◌, ◌^◌}
+use Rattle.std.proofs.Common.{◌≡◌, ℕ, true, false, ◌+◌, ◌<◌, ◌≤◌, List, ◌∷◌, ap, sym, ◌∙◌, refl, subst, arith}
 use Rattle.std.specs.Prelude.{Option, Some, None}
 use Rattle.dg_world.specs.Name.{is_name}
 use Rattle.dg_world.specs.declared.question.Question.{Question}
-use Rattle.dg_world.specs.declared.question.Question.TheVariants.{Steps, File, Tool as ToolOf}
+use Rattle.dg_world.specs.declared.question.Question.TheVariants.{File, Tool as ToolOf}
 use Rattle.dg_world.specs.declared.question.Answer.{Answer}
 use Rattle.dg_world.specs.declared.question.Read.{Read}
 use Rattle.dg_language.specs.Play.{Play, Asks, plain, lookup}
-use Rattle.dg_language.specs.State.{State, learn, marked, with_begun, with_board_made, with_step_limit}
+use Rattle.dg_language.specs.State.{State, learn, marked, with_begun}
 use Rattle.dg_language.specs.Evaluation.{Ending, Then, ask}
 use Rattle.dg_language.specs.Boards.{content_of}
-use Rattle.dg_language.specs.Judge.{board_file, first_file, leave_board, open_board, open_library, open_limit, open_script, open_tool, opened, opened_first, step_limit, tool_library, tool_of}
+use Rattle.dg_language.specs.Judge.{board_file, first_file, leave_board, open_board, open_library, open_script, open_tool, opened, opened_first, tool_library, tool_of}
 use Rattle.dg_language.proofs.Asking.{ask-known, ask-asks}
 use Rattle.dg_machine.specs.declared.frame.Control.{Control}
 use Rattle.dg_machine.specs.declared.frame.Frame.{Frame}
@@ -96,18 +96,6 @@ module _ (s : State) (k : Then) where
       ask-known ToolOf a s (λ b t. open_library (tool_library (tool_of b)) t k) e
       ∙ ap (λ n. first_file n open_script (marked n s) k) (sym g)
 
-  -- the limit on steps
-  pub limit-asks : lookup Steps s.known ≡ None → open_limit s k ≡ Asks (plain Steps) (λ a. open_limit (learn Steps a s) k)
-  unfolding open_limit
-  limit-asks e = ask-asks Steps s (λ a t. open_board (with_step_limit (step_limit a) t) k) e
-
-  pub limit-known : (a : Answer) (limit : ℕ) → lookup Steps s.known ≡ Some a → limit ≡ step_limit a
-      → open_limit s k ≡ open_board (with_step_limit limit s) k
-  unfolding open_limit
-  limit-known a limit e g =
-      ask-known Steps a s (λ b t. open_board (with_step_limit (step_limit b) t) k) e
-      ∙ ap (λ n. open_board (with_step_limit n s) k) (sym g)
-
   -- the board's file
   pub board-opens : (name : List ℕ) → name ≡ board_file s.test.board → open_board s k ≡ first_file name leave_board s k
   unfolding open_board
@@ -133,21 +121,3 @@ known-marked name s = refl
 pub weight-marked : (name : List ℕ) (c : Control) (s : State) (fs : List Frame) → weight c (marked name s) fs ≡ weight c s fs
 unfolding weight marked
 weight-marked name c s fs = refl
-
-pub known-limited : (limit : ℕ) (s : State) → (with_step_limit limit s).known ≡ s.known
-unfolding with_step_limit
-known-limited limit s = refl
-
--- a limit gives no more steps than were set aside for it
-pub weight-limited : (limit : ℕ) (c : Control) (s : State) (fs : List Frame) → limit < 2 ^ 32 → weight c (with_step_limit limit s) fs ≤ weight c s fs + (2 ^ 32 - 1) * 2 ^ 251
-unfolding weight with_step_limit
-weight-limited limit c s fs l = omega (arith, l)
-
-pub known-left : (s : State) → (with_board_made s).known ≡ s.known
-unfolding with_board_made
-known-left s = refl
-
--- what comes after the board's file has all steps of the limit
-pub weight-left : (c : Control) (s : State) (fs : List Frame) → s.limit < 2 ^ 32 → weight c (with_board_made s) fs ≤ weight c s fs + (2 ^ 32 - 1) * 2 ^ 251
-unfolding weight with_board_made
-weight-left c s fs l = omega (arith, l)

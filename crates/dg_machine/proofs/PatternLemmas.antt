@@ -40,7 +40,6 @@ read-answer (answer.Reading Syntax) e = cc
 read-answer (answer.Reading TooLarge) e = cc
 read-answer answer.Absent e = cc
 read-answer (answer.Content bytes) e = cc
-read-answer (answer.Steps limit) e = cc
 read-answer (answer.Tool name) e = cc
 read-answer (answer.Triplet triplet) e = cc
 read-answer answer.Unset e = cc

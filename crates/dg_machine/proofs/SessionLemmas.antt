@@ -32,7 +32,6 @@ use Rattle.dg_machine.specs.declared.frame.Pace.{Pace}
 use Rattle.dg_machine.specs.declared.frame.Pace.TheVariants.{Moved, Over}
 use Rattle.dg_machine.specs.declared.machine.Machine.{Machine}
 use Rattle.dg_machine.specs.Acting.{UsesOne, acting, naming, told_after, after_weight}
-use Rattle.dg_asking.specs.Attempts.{steps_left}
 use Rattle.dg_machine.specs.Meaning.{all_back, ends_with, go, rest, weight_of, weight, Comes, Goes, Readies, command_weight, RunsAs}
 use Rattle.dg_machine.specs.Performing.{Performs}
 use Rattle.dg_machine.proofs.AttemptLemmas.{weight-kept}
@@ -47,9 +46,9 @@ pub known-sessions : (s t : State) → t ≡ with_sessions t.sessions s → t.kn
 unfolding with_sessions
 known-sessions s t e = ap (λ (x : State). x.known) e
 
-steps-sessions : (s t : State) → t ≡ with_sessions t.sessions s → steps_left t ≡ steps_left s
+steps-sessions : (s t : State) → t ≡ with_sessions t.sessions s → t.steps ≡ s.steps
 unfolding with_sessions
-steps-sessions s t e = ap steps_left e
+steps-sessions s t e = ap (λ (x : State). x.steps) e
 
 -- an entry that is used up is as much less
 pub weight-uses : (s t : State) (c : Control) (fs : List Frame) → UsesOne s t → weight c t fs + 2 ^ 64 ≡ weight c s fs

@@ -222,7 +222,7 @@ settles-as None w v d code s e f h = e
 settles-as (Some x) w v d code s e f h = λ steps c. subst (λ u. Settles d steps s u s) (sym f ∙ sym e) (h steps c)
 
 -- the next command has run where it stands
-pub settles-next : (d : ℕ) (cs : List Command) (at : ℕ) (steps : List Substitution) (s t : State) (v w : List ℕ) → HasSteps cs at steps → s.steps < s.limit
+pub settles-next : (d : ℕ) (cs : List Command) (at : ℕ) (steps : List Substitution) (s t : State) (v w : List ℕ) → HasSteps cs at steps → s.steps < 100000
     → Settles d steps (stepped s) w t → GoesOnAs d (drop at cs) v s (drop (at + 1) cs) w t
 unfolding sequence
 settles-next d cs at steps s t v w h left settles = λ k.
@@ -294,13 +294,13 @@ unfolding all_back back
 body-back r fs e = ap (λ stage. repeating r stage (all_back fs)) e
 
 -- the only command of a list
-only-computes : (d : ℕ) (cs : List Command) (steps : List Substitution) (s : State) (v : List ℕ) → HasSteps cs 0 steps → length cs ≡ 1 → s.steps < s.limit
+only-computes : (d : ℕ) (cs : List Command) (steps : List Substitution) (s : State) (v : List ℕ) → HasSteps cs 0 steps → length cs ≡ 1 → s.steps < 100000
     → Settles d steps (stepped s) v (stepped s) → IsOnly d cs s v
 only-computes d cs steps s v h one left settles = λ k.
     let none : drop (0 + 1) cs ≡ [] = drop_all (0 + 1) cs (omega (arith, one)) in
     sym (settles-next d cs 0 steps s (stepped s) [] v h left settles k) ∙ sequence-done d (drop (0 + 1) cs) v (stepped s) k none
 
-pub yields : (d : ℕ) (code : Option (List Instruction)) (s : State) (v : List ℕ) → s.steps < s.limit
+pub yields : (d : ℕ) (code : Option (List Instruction)) (s : State) (v : List ℕ) → s.steps < 100000
     → ((steps : List Substitution) → HasCode steps code → Settles d steps (stepped s) v (stepped s)) → Yields d code s v
 yields d code s v left settles = λ ws h.
     only-computes d (Words ws ∷ []) (substitutions ws) s v (ws, (refl, refl)) refl left (settles (substitutions ws) h)
@@ -365,7 +365,7 @@ return-computes d s steps t v h g l none comes short = λ k.
     ∙ ap (λ o. known_command (evaluate d) o name (v ∷ []) (stepped s) k) (return-usable (stepped s).on_board)
     ∙ return-does d v (stepped s) k
 
-pub returns-next : (d : ℕ) (cs : List Command) (at : ℕ) (steps : List Substitution) (s t : State) (w : List ℕ) → HasSteps cs at steps → s.steps < s.limit
+pub returns-next : (d : ℕ) (cs : List Command) (at : ℕ) (steps : List Substitution) (s t : State) (w : List ℕ) → HasSteps cs at steps → s.steps < 100000
     → ((k : Then) → begins steps d (stepped s) k ≡ k Returned w t) → Returns d (drop at cs) s w t
 unfolding sequence
 returns-next d cs at steps s t w h left returns = λ v k.

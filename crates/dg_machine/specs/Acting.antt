@@ -4,7 +4,7 @@ use Rattle.dg_transcript.specs.declared.cursor.Action.{Action}
 use Rattle.dg_transcript.specs.declared.cursor.Action.TheVariants as action
 use Rattle.dg_transcript.specs.Output.{output_of}
 use Rattle.dg_sessions.specs.Views.{id_of}
-use Rattle.dg_language.specs.declared.state.TheConstants.{MOST_STEPS}
+use Rattle.dg_language.specs.declared.state.TheConstants.{STEPS}
 use Rattle.dg_sessions.specs.declared.sessions.TheConstants.{MAX_USED}
 use Rattle.dg_language.specs.declared.code.Code.TheVariants.{Done}
 use Rattle.dg_language.specs.Play.{Play}
@@ -71,7 +71,7 @@ reach_weight InAction = 10
 
 -- the first round of a wait
 abbrev pub first_round : Compiling → State → Then → Play Ending
-first_round c s k = rounds MOST_STEPS (evaluate c.depth) (record { session = c.session; pairs = c.pairs; limit = c.limit }) s k
+first_round c s k = rounds (STEPS + 1) (evaluate c.depth) (record { session = c.session; pairs = c.pairs; limit = c.limit }) s k
 
 -- the `-re` patterns of a wait are asked for, and then its first round begins
 abbrev pub compiling_on : Compiling → State → Then → Play Ending

@@ -13,22 +13,16 @@ use Rattle.dg_machine.specs.Meaning.{ComesTo}
 use Rattle.dg_machine.specs.declared.machine.Machine.{Machine}
 use Rattle.dg_machine.specs.declared.frame.Stop.{Stop}
 use Rattle.dg_machine.specs.declared.frame.Stop.TheVariants.{AtQuestion as StandsAt, AtEnd as StopsAt, Lost as StopsLost}
-use Rattle.dg_language.specs.Kept.{kept_of}
-use Rattle.dg_machine.specs.declared.evaluation.Ended.{Ended}
 use Rattle.dg_machine.specs.declared.evaluation.Arrival.{Arrival}
 use Rattle.dg_machine.specs.declared.evaluation.Arrival.TheVariants.{AtQuestion, AtEnd, Lost}
 use Rattle.dg_machine.specs.Lost.{HasReadPattern}
-
--- how an evaluation that has ended closed
-abbrev pub ending_of : Ended → Ending
-ending_of e = record { verdict = e.verdict; close = e.close; board_steps = e.board_steps; steps = e.steps; limit = e.limit }
 
 -- to the question that the judging needs next, which then stands; to its end, with just the answers so far as the reads; or to a
 -- pattern that can't be built, though one of the answers is that it is read
 abbrev pub Arrives : EvaluationView → Arrival → Type 0
 Arrives old (AtQuestion a) = NeedsNext old.test old.reads a.ask × (a.test ≡ old.test) × (a.reads ≡ old.reads)
 Arrives old (AtEnd e) =
-    HasEnded old.test old.reads (ending_of e) × (e.kept ≡ kept_of (ending_of e)) × (e.test ≡ old.test) × (e.reads ≡ old.reads)
+    HasEnded old.test old.reads (record { verdict = e.verdict; close = e.close; board_steps = e.board_steps; steps = e.steps }) × (e.test ≡ old.test) × (e.reads ≡ old.reads)
 Arrives old Lost = HasReadPattern old.reads
 
 -- the source has no answer to the question that stands, if one does

@@ -5,13 +5,13 @@ use Rattle.dg_world.specs.declared.question.Answer.{Answer}
 use Rattle.dg_world.specs.declared.question.Read.{Read}
 use Rattle.dg_language.specs.declared.code.Code.{Code}
 use Rattle.dg_language.specs.declared.code.Code.TheVariants.{Done, Failed, Returned, Broken, Continued, ExpContinued}
+use Rattle.dg_language.specs.declared.state.TheConstants.{STEPS}
 use Rattle.dg_sessions.specs.declared.sessions.TheConstants.{MAX_USED}
 use Rattle.dg_language.specs.Play.{Play, Ends, Asks, lookup}
 use Rattle.dg_language.specs.State.{State, learn, departed, with_begun}
 use Rattle.dg_language.specs.Evaluation.{Ending, Then, closed, if_done, loop_after, outside, outside_of_a_loop, outside_of_expect}
 use Rattle.dg_language.specs.Variables.{touch, given, unset_all}
 use Rattle.dg_scope.specs.Scopes.{value_of}
-use Rattle.dg_asking.specs.Attempts.{steps_left}
 use Rattle.dg_language.specs.Control.{caught, each, give_each}
 use Rattle.dg_language.specs.Language.{command, used, sequence, evaluate}
 use Rattle.dg_language.specs.Words.{longer}
@@ -174,7 +174,7 @@ control_weight (Ended c v) = 1
 
 -- it falls with each move
 unfoldable pub weight : Control → State → List Frame → ℕ
-weight c s fs = steps_left s * 2 ^ 251 + (MAX_USED - s.sessions.used) * 2 ^ 64 + stack_weight fs + control_weight c
+weight c s fs = (STEPS - s.steps) * 2 ^ 251 + (MAX_USED - s.sessions.used) * 2 ^ 64 + stack_weight fs + control_weight c
 
 abbrev pub weight_of : Machine → ℕ
 weight_of m = weight m.control m.state m.stack

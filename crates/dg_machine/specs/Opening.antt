@@ -1,31 +1,29 @@
--- What is opened for a test, one after another: the limit on steps, and files.
+-- The files that are opened for a test, one after another.
 use Rattle.std.specs.Prelude.{◌≡◌, ℕ, ◌+◌, ◌*◌, ◌^◌, List, Option, None}
 use Rattle.dg_world.specs.declared.question.Question.TheVariants.{File}
-use Rattle.dg_language.specs.declared.state.TheConstants.{MOST_STEPS}
+use Rattle.dg_language.specs.declared.state.TheConstants.{STEPS}
 use Rattle.dg_language.specs.Play.{Play, Asks, plain, lookup}
 use Rattle.dg_language.specs.State.{State, learn}
 use Rattle.dg_language.specs.Evaluation.{Ending, Then, ask}
 use Rattle.dg_language.specs.Boards.{content_of}
-use Rattle.dg_language.specs.Judge.{first_file, leave_board, open_board, open_limit, open_script, open_tool}
+use Rattle.dg_language.specs.Judge.{first_file, leave_board, open_board, open_script, open_tool}
 use Rattle.dg_machine.specs.declared.frame.Opening.{Opening}
-use Rattle.dg_machine.specs.declared.frame.Opening.TheVariants.{Limit, Board, AfterBoard, Tool, Library, Script}
+use Rattle.dg_machine.specs.declared.frame.Opening.TheVariants.{Board, AfterBoard, Tool, Library, Script}
 use Rattle.dg_machine.specs.declared.frame.FileText.{FileText}
 use Rattle.dg_machine.specs.declared.frame.FileText.TheVariants.{Unanswered, Known}
 
 -- what is opened, and all that comes after it
 abbrev pub open_next : Opening → State → Then → Play Ending
-open_next Limit s k = open_limit s k
 open_next Board s k = open_board s k
 open_next AfterBoard s k = leave_board s k
 open_next Tool s k = open_tool s k
 open_next (Library name) s k = first_file name open_script s k
 open_next Script s k = open_script s k
 
--- what is set aside for what is opened: the limit gives as many steps to the board's file as to what comes after it
+-- what is set aside for what is opened: the board's file leaves all steps to what comes after it
 abbrev pub opening_weight : Opening → ℕ
-opening_weight Limit = MOST_STEPS * 2 ^ 252 + 60
-opening_weight Board = MOST_STEPS * 2 ^ 251 + 40
-opening_weight AfterBoard = MOST_STEPS * 2 ^ 251 + 20
+opening_weight Board = STEPS * 2 ^ 251 + 40
+opening_weight AfterBoard = STEPS * 2 ^ 251 + 20
 opening_weight Tool = 15
 opening_weight (Library name) = 12
 opening_weight Script = 6

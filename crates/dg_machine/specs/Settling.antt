@@ -10,7 +10,6 @@ use Rattle.dg_language.specs.State.{State, assigned, stepped}
 use Rattle.dg_language.specs.Evaluation.{Then}
 use Rattle.dg_language.specs.Language.{evaluate, sequence}
 use Rattle.dg_language.specs.WordSteps.{substitutions}
-use Rattle.dg_asking.specs.Attempts.{steps_left}
 use Rattle.dg_compiled.specs.Script.{begins}
 use Rattle.dg_compiled.specs.Texts.{IsText}
 use Rattle.dg_compiled.specs.Ways.{HasCode, HasWord}
@@ -57,6 +56,6 @@ ComesBy depth text s v = (k : Then) → evaluate depth text s k ≡ k Done v (st
 abbrev pub Returns : ℕ → List Command → State → List ℕ → State → Type 0
 Returns depth cs s v t = (u : List ℕ) (k : Then) → sequence (evaluate depth) cs u s k ≡ k Returned v t
 
--- no answer came, no entry was used, and no more steps are left; some may have been taken
+-- no answer came and no entry was used; steps may have been taken
 abbrev pub AsksNothing : State → State → Type 0
-AsksNothing s t = (t.known ≡ s.known) × (t.sessions ≡ s.sessions) × (steps_left t ≤ steps_left s)
+AsksNothing s t = (t.known ≡ s.known) × (t.sessions ≡ s.sessions) × (s.steps ≤ t.steps)

@@ -12,7 +12,7 @@ use crate::machine::Machine;
 use dg_bytes::{Bytes, Seq, TryCopy};
 use dg_compiled::{Body, with_elements};
 use dg_forms::{elements_held, elements_in, three};
-use dg_language::{Code, ControlCommand, MOST_STEPS, Queue};
+use dg_language::{Code, ControlCommand, Queue, STEPS};
 use dg_scope::LONGEST_VALUE;
 use std::alloc::{AllocError, Global};
 
@@ -129,7 +129,7 @@ impl Machine {
             body: Body::new(alloc, &mut self.shelves.scripts, body)?,
             values,
             given: None,
-            left: MOST_STEPS,
+            left: STEPS,
             depth,
         };
         self.stack.push(Frame::Looping { rounds })?;

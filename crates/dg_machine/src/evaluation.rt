@@ -8,10 +8,9 @@ use crate::boxed::Boxed;
 use crate::frame::{Closing, Frame, Opening, Stop};
 use crate::machine::Machine;
 use crate::readings::Readings;
-use crate::scene::{Scene, scene_of};
 use dg_bytes::Seq;
 use dg_compiled::Stack;
-use dg_language::{Ask, Close, Kept, State};
+use dg_language::{Ask, Close, State};
 use dg_results::Verdict;
 use dg_world::{Answer, Read, TestId};
 use std::alloc::{AllocError, Global};
@@ -87,10 +86,6 @@ pub struct Ended {
     pub board_steps: u32,
     /// All steps that were taken.
     pub steps: u64,
-    /// The limit on steps that stood.
-    pub limit: u32,
-    /// With which limits on steps the verdict is the same.
-    pub kept: Kept,
     /// What was read of texts, for another evaluation.
     pub readings: Readings,
 }
@@ -117,7 +112,7 @@ impl Evaluation {
         let shelves = readings.for_next(alloc)?;
         let mut stack = Stack::new(alloc);
         stack.push(Frame::Opening {
-            what: Opening::Limit,
+            what: Opening::Board,
         })?;
         let state = State::new(alloc, test.copy(alloc)?);
         let machine = Machine::new(state, stack, shelves);
@@ -162,8 +157,6 @@ fn arrive(
             let (state, shelves) = machine.into_inner().into_parts();
             let board_steps = state.board_steps();
             let steps = state.steps();
-            let limit = state.limit();
-            let kept = state.kept(close);
             let reads = state.into_reads()?;
             Ok(Arrival::AtEnd(Ended {
                 test,
@@ -172,8 +165,6 @@ fn arrive(
                 close,
                 board_steps,
                 steps,
-                limit,
-                kept,
                 readings: Readings::of(shelves),
             }))
         }
@@ -197,11 +188,6 @@ impl Asking {
         ensures { result ≡ self.now.steps }
     {
         self.machine.get().state.steps()
-    }
-
-    /// What stands round the question, for whoever tells a person of it. No contract speaks of it.
-    pub fn scene(&self, alloc: Global) -> Result<Scene, AllocError> {
-        scene_of(alloc, self.machine.get(), self.ask.get())
     }
 
     /// Goes on with an answer of the question's kind.

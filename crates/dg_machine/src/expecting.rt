@@ -25,11 +25,14 @@ use dg_forms::{
     action_at, end_action, expect_words, expected_integer, limit_of, listed, not_open, regexes_in,
     timeout_action,
 };
-use dg_language::{Code, MOST_STEPS, Purpose};
+use dg_language::{Code, Purpose};
 use dg_lists::fault_text;
 use dg_sessions::id_of;
 use dg_transcript::Action;
 use std::alloc::{AllocError, Global};
+
+/// The most rounds of an `expect`: each `exp_continue` takes a step.
+const ROUNDS: u32 = 100_001;
 
 impl Machine {
     /// An action of `expect` begins; one that was left out does nothing.
@@ -216,7 +219,7 @@ impl Machine {
             session,
             pairs,
             limit,
-            left: MOST_STEPS,
+            left: ROUNDS,
             depth,
         };
         self.stack.push(Frame::Awaiting {

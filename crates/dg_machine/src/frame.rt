@@ -145,8 +145,6 @@ pub(crate) enum Came {
 /// What is opened for a test, in this order.
 #[derive(Drop)]
 pub(crate) enum Opening {
-    /// The limit on steps.
-    Limit,
     /// The board's file.
     Board,
     /// The board's file has been evaluated, or there is none.

@@ -1,7 +1,7 @@
-//! What is opened for a test: the limit on steps, the board's file, the tool's library, the script.
+//! The files that are opened for a test: the board's, the tool's library, the script.
 ghost use Rattle.std.specs.Prelude.{◌≡◌, ◌+◌, ◌<◌, IfOk};
 ghost use Rattle.dg_language.specs.Evaluation.{outside};
-ghost use Rattle.dg_language.specs.Judge.{after_file, first_file, leave_board, open_limit, open_script, open_tool};
+ghost use Rattle.dg_language.specs.Judge.{after_file, first_file, leave_board, open_script, open_tool};
 ghost use Rattle.dg_machine.specs.declared.frame.Control.{Control};
 ghost use Rattle.dg_machine.specs.Meaning.{all_back, weight_of, Comes, Goes, RunsAs};
 ghost use Rattle.dg_machine.specs.Opening.{open_next, opening_weight, Holds};
@@ -10,7 +10,7 @@ use crate::frame::{FileText, Frame, Opening, Pace, plain_ask};
 use crate::machine::Machine;
 use crate::step::outside;
 use dg_bytes::{Bytes, TryCopy};
-use dg_forms::{board_file, content_of, no_such_script, step_limit, tool_library, tool_of};
+use dg_forms::{board_file, content_of, no_such_script, tool_library, tool_of};
 use dg_language::Code;
 use dg_world::{Name, Question, is_name};
 use std::alloc::{AllocError, Global};
@@ -55,31 +55,12 @@ impl Machine {
         }
     }
 
-    /// The limit on steps is noted, and the board's file comes next.
-    fn open_limit(&mut self, alloc: Global) -> Result<Pace, AllocError>
-        requires { self.old.control ≡ Control.Go }
-        ensures { IfOk result (RunsAs open_limit (opening_weight Opening.Limit) self.old self.new) }
-    {
-        let Some(answer) = self.state.answer_to(&Question::Steps) else {
-            let ask = plain_ask(alloc, Question::Steps)?;
-            return Ok(Pace::Stands(ask));
-        };
-        let limit = step_limit(answer);
-        self.state.set_limit(limit);
-        self.stack.push(Frame::Opening {
-            what: Opening::Board,
-        })?;
-        Ok(Pace::Moved)
-    }
-
     /// The board's file has been evaluated, or there is none.
     #[tactic(auto, unfolding(dg_language::specs::Judge::leave_board, dg_language::specs::State::with_board_made, crate::specs::Meaning::rest, crate::specs::Meaning::go, crate::specs::Meaning::weight, crate::specs::Meaning::stack_weight))]
     fn leave_board(&mut self, alloc: Global) -> Result<Pace, AllocError>
         requires { self.old.control ≡ Control.Go }
         ensures { IfOk result (RunsAs leave_board (opening_weight Opening.AfterBoard) self.old self.new) }
     {
-        // The call shows the proof that the limit is a `u32`.
-        let _limit = self.state.limit();
         self.state.leave_board(alloc);
         self.stack.push(Frame::Opening {
             what: Opening::Tool,
@@ -128,7 +109,6 @@ impl Machine {
         ensures { IfOk result (RunsAs (open_next what.now) (opening_weight what.now) self.old self.new) }
     {
         match what {
-            Opening::Limit => self.open_limit(alloc),
             Opening::Board => {
                 let name = board_file(alloc, self.state.test().board().as_slice())?;
                 self.open_first(alloc, name, Opening::AfterBoard)

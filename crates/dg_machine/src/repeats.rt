@@ -17,7 +17,7 @@ use crate::machine::Machine;
 use dg_bytes::{Bytes, TryCopy};
 use dg_compiled::{Body, Calculation, Computed, Condition, Script, compute_on};
 use dg_forms::{four, truth_in, two};
-use dg_language::{Code, MOST_STEPS};
+use dg_language::{Code, STEPS};
 use std::alloc::{AllocError, Global};
 
 /// The truth of a number's text.
@@ -323,7 +323,7 @@ impl Machine {
             test: Condition::new(alloc, &mut self.shelves.formulas, test)?,
             next: None,
             body: Body::new(alloc, &mut self.shelves.scripts, body)?,
-            left: MOST_STEPS,
+            left: STEPS,
             depth,
         };
         let repetition = Boxed::new(alloc, repetition)?;
@@ -351,7 +351,7 @@ impl Machine {
             test: Condition::new(alloc, &mut self.shelves.formulas, test)?,
             next: Some(Body::new(alloc, &mut self.shelves.scripts, next)?),
             body: Body::new(alloc, &mut self.shelves.scripts, body)?,
-            left: MOST_STEPS,
+            left: STEPS,
             depth,
         };
         let repetition = Boxed::new(alloc, repetition)?;

@@ -1,4 +1,3 @@
 pub mod Pumping
 pub mod Prefixes
-pub mod Hearing
 pub mod Places

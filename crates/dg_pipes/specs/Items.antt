@@ -1,12 +1,10 @@
 -- The items of a ring, and the bytes of its chunks.
-use Rattle.std.specs.Prelude.{ℕ, ◌≡◌, ◌≤◌, Bool, true, false, List, [], ◌∷◌, ◌++◌, length}
+use Rattle.std.specs.Prelude.{ℕ, ◌≡◌, ◌≤◌, Bool, true, false, not, List, [], ◌∷◌, ◌++◌, length}
 use mathlib.Core.List.{IsPrefix}
 use Rattle.std.specs.declared.option.Option.{Option}
 use Rattle.std.specs.Io.KnownBytes.{Consumes, IsAtEnd}
 use Rattle.dg_pipes.specs.declared.item.Item.{Item}
 use Rattle.dg_pipes.specs.declared.item.Item.TheVariants.{Chunk, End, Fault}
-use Rattle.dg_pipes.specs.declared.item.State.{State}
-use Rattle.dg_pipes.specs.declared.item.State.TheVariants.{Open, Ended, Failed}
 use Rattle.dg_pipes.specs.declared.reader.TheConstants.{MOST}
 
 abbrev pub IsAllowed : Item → Type 0
@@ -26,25 +24,11 @@ is_chunk (Chunk v) = true
 is_chunk End = false
 is_chunk (Fault c) = false
 
--- how a stream stands behind an item
-abbrev pub state_after : Item → State
-state_after (Chunk bytes) = Open
-state_after End = Ended
-state_after (Fault c) = Failed
-
--- how a stream stands once these items were taken of it: the last of them says so
-abbrev pub state_of : List Item → State
-state_of [] = Open
-state_of (x ∷ []) = state_after x
-state_of (x ∷ y ∷ ys) = state_of (y ∷ ys)
-
-abbrev pub is_open : State → Bool
-is_open Open = true
-is_open s = false
-
-abbrev pub is_ended : State → Bool
-is_ended Ended = true
-is_ended s = false
+-- the last item is an end or a fault
+abbrev pub has_ended : List Item → Bool
+has_ended [] = false
+has_ended (x ∷ []) = not (is_chunk x)
+has_ended (x ∷ y ∷ ys) = has_ended (y ∷ ys)
 
 -- chunks alone
 abbrev pub AllChunks : List Item → Type 0

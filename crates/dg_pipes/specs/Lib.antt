@@ -1,5 +1,4 @@
 pub mod Items
-pub mod Reading
 pub mod Steps
 pub mod Faults
 pub mod Waits

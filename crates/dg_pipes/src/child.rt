@@ -40,7 +40,7 @@ fn add_words(command: &mut Command<Global>, words: &[Bytes]) -> Result<(), GateF
     Ok(())
 }
 
-// The command that runs a program with these arguments, with pipes for its input, its output and its error stream.
+// The command that runs a program with these arguments, with pipes for its input and output, and no error stream.
 fn command_for(
     alloc: Global,
     program: &Bytes,
@@ -52,7 +52,7 @@ fn command_for(
     };
     command.stdin(Stdio::piped());
     command.stdout(Stdio::piped());
-    command.stderr(Stdio::piped());
+    command.stderr(Stdio::null());
     match add_words(&mut command, arguments) {
         Ok(()) => Ok(command),
         Err(fault) => Err(fault),
@@ -67,7 +67,7 @@ fn command_of(alloc: Global, words: &[Bytes]) -> Result<Command<Global>, GateFau
     }
 }
 
-/// Starts a child by these words, with pipes for its input, its output and its error stream.
+/// Starts a child by these words, with pipes for its input and output; its error stream is let go.
 pub(crate) fn start<R: Processes<Started = SystemProcess>>(
     rt: &R,
     alloc: Global,

@@ -10,19 +10,19 @@ use dg_bytes::{Bytes, Seq};
 use dg_gate::{Ended, Gate, GateFault, Piece};
 use dg_transcript::ErrorCode;
 use std::alloc::Global;
-use std::process::{ChildStderr, ChildStdout, Processes, SystemProcess};
+use std::process::{ChildStdout, Processes, SystemProcess};
 use std::sync::Wait;
 use std::thread::Threads;
 use std::time::Clock;
 
-/// A gate whose children are processes of the system, with pipes for their input, their output and their error stream. One thread
-/// reads each of the two streams into a ring of 65,536 items. A read looks at the output's ring first; it gives the end once both
-/// streams have ended. `close` lets the child's input and both rings go; `stop` kills and reaps what is left.
+/// A gate whose children are processes of the system, with pipes for their input and output. Their
+/// error streams are let go. One thread reads each output into a ring of 2,048 items; `close` lets the
+/// child's input and its ring go; `stop` kills and reaps what is left.
 ///
 /// A session's number is one more than that of the session before it. A call that doesn't fit its
 /// session, and a word with a null or that isn't UTF-8, are failures with code 4.
 #[derive(Drop)]
-pub struct PipeGate<R, F: Fn(ChildStdout, ChildStderr) -> Result<Fresh, GateFault>> {
+pub struct PipeGate<R, F: Fn(ChildStdout) -> Result<Fresh, GateFault>> {
     rt: R,
     alloc: Global,
     opener: F,
@@ -30,9 +30,9 @@ pub struct PipeGate<R, F: Fn(ChildStdout, ChildStderr) -> Result<Fresh, GateFaul
     sessions: Sessions,
 }
 
-impl<R, F: Fn(ChildStdout, ChildStderr) -> Result<Fresh, GateFault>> PipeGate<R, F> {
-    /// A gate without sessions, which starts the reader threads of a child by `opener`, that is by `Fresh::open`. No call was
-    /// refused yet.
+impl<R, F: Fn(ChildStdout) -> Result<Fresh, GateFault>> PipeGate<R, F> {
+    /// A gate without sessions, which starts a reader thread by `opener`, that is by `Fresh::open`. No
+    /// call was refused yet.
     pub fn new(rt: R, alloc: Global, opener: F) -> PipeGate<R, F>
         ensures none_failed { result.failures ≡ 0 }
         ensures none_started { result.sessions.slots.items ≡ [] }
@@ -61,12 +61,12 @@ fn refused(failures: &mut u64, code: ErrorCode) -> GateFault
 impl<R, F> PipeGate<R, F>
 where
     R: Threads + Wait + Clock + Drop,
-    F: Fn(ChildStdout, ChildStderr) -> Result<Fresh, GateFault> + Drop,
+    F: Fn(ChildStdout) -> Result<Fresh, GateFault> + Drop,
 {
-    /// Kills and reaps what is left, and tells of both streams of each session that was not closed, in order, of its output first.
-    /// Where a ring gave all that its reader pushed, what was read is a prefix of it.
+    /// Kills and reaps what is left, and tells of each session that was not closed, in order. Where
+    /// its ring gave all that the reader pushed, what was read is a prefix of it.
     pub fn stop(self) -> Seq<Account>
-        ensures { Accounts 1 self.sessions.slots.items result }
+        ensures { Accounts self.sessions.slots.items result }
     {
         let PipeGate {
             rt,
@@ -82,15 +82,13 @@ where
 impl<R, F> Gate for PipeGate<R, F>
 where
     R: Processes<Started = SystemProcess> + Wait + Clock,
-    F: Fn(ChildStdout, ChildStderr) -> Result<Fresh, GateFault>,
+    F: Fn(ChildStdout) -> Result<Fresh, GateFault>,
 {
-    ghost use Rattle.dg_pipes.specs.Steps.{PipeStep, Stay};
+    ghost use Rattle.dg_pipes.specs.Steps.{PipeStep};
 
     ghost step = { λ before session call told after. PipeStep before.sessions.slots.items session call told after.sessions.slots.items };
 
     ghost is_ready = { λ g. F.IsAlwaysCallable g.opener };
-
-    ghost stays = { λ before after. Stay before.sessions.slots.items after.sessions.slots.items };
 
     ghost count = { λ g. g.failures };
 

@@ -1,47 +1,32 @@
 //! What may stand in a ring.
-ghost use Rattle.std.specs.Prelude.{◌≡◌};
-ghost use Rattle.dg_pipes.specs.Items.{state_after};
+ghost use Rattle.std.specs.Prelude.{◌≡◌, not};
+ghost use Rattle.dg_pipes.specs.Items.{is_chunk};
 
 use dg_bytes::Bytes;
 use dg_transcript::ErrorCode;
 use rtrb::Protocol;
 
-/// What a reader thread tells of its stream.
+/// What a reader thread tells.
 #[derive(Drop)]
 pub enum Item {
-    /// These bytes came: 1 to 1,000.
+    /// These bytes came: 1 to 4,096.
     Chunk(Bytes),
-    /// The stream ended.
+    /// The output ended.
     End,
-    /// The stream can't be read.
+    /// The output can't be read.
     Fault(ErrorCode),
 }
 
-/// How a stream stands, by the items that were taken of it.
-#[derive(Clone, Copy, Debug, PartialEq, Eq)]
-pub enum State {
-    /// More may come.
-    Open,
-    /// Its end was taken.
-    Ended,
-    /// Its fault was taken.
-    Failed,
-}
-
 impl Item {
-    /// How the stream stands behind the item.
-    pub(crate) fn state(&self) -> State
-        ensures { result ≡ state_after self.now }
+    /// Nothing comes behind it.
+    pub(crate) fn is_last(&self) -> bool
+        ensures { result ≡ not (is_chunk self.now) }
     {
-        match self {
-            Item::Chunk(_) => State::Open,
-            Item::End => State::Ended,
-            Item::Fault(_) => State::Failed,
-        }
+        !matches!(self, Item::Chunk(_))
     }
 }
 
-/// The rule of a ring: its chunks have 1 to 1,000 bytes.
+/// The rule of a ring: its chunks have 1 to 4,096 bytes.
 pub struct Rule;
 
 impl Protocol<Item> for Rule {

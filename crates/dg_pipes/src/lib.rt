@@ -1,5 +1,5 @@
-//! Child processes on pipes. One thread for each of a child's two streams, the output and the error stream, reads it into a ring,
-//! and the judging thread takes from both rings.
+//! Child processes on pipes. One thread for each child reads its output into a ring, from which the
+//! judging thread takes it.
 #![tactic(auto)]
 
 mod account;
@@ -7,26 +7,19 @@ mod bells;
 mod child;
 mod fault;
 mod gate;
-mod heard;
 mod item;
-mod pipe;
 mod reader;
-mod rest;
 mod session;
 mod sessions;
 mod slot;
-mod stream;
-mod taking;
+mod taker;
 
 pub use crate::account::Account;
 pub use crate::bells::Bells;
 pub use crate::gate::PipeGate;
-pub use crate::heard::Heard;
-pub use crate::item::{Item, Rule, State};
-pub use crate::pipe::{OfRing, Pipe};
+pub use crate::item::{Item, Rule};
 pub use crate::reader::pump;
-pub use crate::rest::Rest;
-pub use crate::session::{Fresh, Session};
+pub use crate::session::{Fresh, OfRing, Session};
 pub use crate::sessions::Sessions;
 pub use crate::slot::Slot;
-pub use crate::stream::Stream;
+pub use crate::taker::take;

@@ -1,4 +1,4 @@
-//! What a reader thread does.
+//! The reader thread.
 ghost use Rattle.std.specs.Prelude.{◌≡◌, ◌≤◌, ◌++◌, [], ◌∷◌, List, length, take, true, false, MatchBool};
 ghost use Rattle.rtrb.specs.Ring.{sent, SameProducer};
 ghost use Rattle.dg_pipes.specs.declared.item.Item.{Item};
@@ -6,7 +6,6 @@ ghost use Rattle.dg_pipes.specs.Items.{IsAllowed, PumpedSome, PumpedAll};
 
 use crate::bells::Bells;
 use crate::item::{Item, Rule};
-use crate::stream::Stream;
 use dg_bytes::Bytes;
 use dg_transcript::ErrorCode;
 use rtrb::{Producer, PushError};
@@ -28,13 +27,7 @@ const NAP: u64 = 50;
 const MOMENT: u64 = 1;
 
 // Waits until the item is pushed, and wakes the judging thread. False where the other end is gone.
-fn put(
-    rt: &impl Wait,
-    ring: &mut Producer<Item, Global, Rule>,
-    bells: &Bells,
-    stream: Stream,
-    item: Item,
-) -> bool
+fn put(rt: &impl Wait, ring: &mut Producer<Item, Global, Rule>, bells: &Bells, item: Item) -> bool
     requires { IsAllowed item }
     ensures ring { SameProducer ring.old ring.new }
     ensures sent { MatchBool result (sent ring.new ≡ sent ring.old ++ item ∷ []) (sent ring.new ≡ sent ring.old) }
@@ -49,17 +42,13 @@ fn put(
                 bells.came.unpark();
                 let half = ring.capacity() / 2;
                 if ring.cached_slots() < half && ring.slots() < half {
-                    bells
-                        .room(stream)
-                        .park_timeout(rt, Duration::from_millis(MOMENT));
+                    bells.room.park_timeout(rt, Duration::from_millis(MOMENT));
                 }
                 return true;
             }
             Err(PushError::Full(back)) => item = back,
         }
-        bells
-            .room(stream)
-            .park_timeout(rt, Duration::from_millis(NAP));
+        bells.room.park_timeout(rt, Duration::from_millis(NAP));
     }
     unreachable!()
 }
@@ -77,15 +66,15 @@ fn first(mut chunk: Vec<u8>, n: usize) -> Bytes
     Bytes::from_vec(chunk)
 }
 
-/// Reads a stream to its end, and pushes what it reads as chunks, then one end, or one fault. False where the ring's other end is
-/// gone. The memory of a chunk is taken before it is read, so that no byte is lost for want of it.
+/// Reads to the end, and pushes what it reads as chunks, then one end, or one fault. False where the
+/// ring's other end is gone. The memory of a chunk is taken before it is read, so that no byte is
+/// lost for want of it.
 pub fn pump<R: Read>(
     rt: &impl Wait,
     alloc: Global,
     reader: &mut R,
     ring: &mut Producer<Item, Global, Rule>,
     bells: &Bells,
-    stream: Stream,
 ) -> bool
     ensures ring { SameProducer ring.old ring.new }
     ensures some { result ≡ false → (items : List Item) × (sent ring.new ≡ sent ring.old ++ items) × PumpedSome
@@ -95,17 +84,17 @@ pub fn pump<R: Read>(
 {
     for _ in rt.forever() {
         let Ok(mut chunk) = Vec::from_elem(alloc, 0u8, MOST) else {
-            return put(rt, ring, bells, stream, Item::Fault(ErrorCode::Other));
+            return put(rt, ring, bells, Item::Fault(ErrorCode::Other));
         };
         match reader.read(chunk.as_mut_slice()) {
-            Ok(0) => return put(rt, ring, bells, stream, Item::End),
+            Ok(0) => return put(rt, ring, bells, Item::End),
             Ok(n) => {
                 let bytes = first(chunk, n);
-                if !put(rt, ring, bells, stream, Item::Chunk(bytes)) {
+                if !put(rt, ring, bells, Item::Chunk(bytes)) {
                     return false;
                 }
             }
-            Err(_) => return put(rt, ring, bells, stream, Item::Fault(ErrorCode::Other)),
+            Err(_) => return put(rt, ring, bells, Item::Fault(ErrorCode::Other)),
         }
     }
     unreachable!()

@@ -1,189 +1,189 @@
-//! The two streams of one child, and what the judging thread reads of them.
-ghost use Rattle.std.specs.Prelude.{◌≡◌, IfSome, IfOk, IfErr, true, not, ◌&&◌};
+//! One child's output: its reader thread and its ring.
+ghost use Rattle.std.specs.Prelude.{◌≡◌, ◌≤◌, ◌++◌, [], ◌∷◌, IfSome, IfNone, IfOk};
 ghost use mathlib.Core.List.{IsPrefix};
-ghost use Rattle.rtrb.specs.Ring.{received, all_sent};
-ghost use Rattle.dg_gate.specs.Reply.{fits};
-ghost use Rattle.dg_gate.specs.declared.reply.Reply.TheVariants as reply;
-ghost use Rattle.dg_transcript.specs.declared.cursor.Action.TheVariants as action;
-ghost use Rattle.dg_pipes.specs.Reading.{taken, nothing, have_ended, is_end, piece_of, Gives, Fails};
+ghost use Rattle.rtrb.specs.Ends.{SameRing};
+ghost use Rattle.rtrb.specs.Ring.{received, all_sent, IsFinishedOf};
+ghost use Rattle.dg_pipes.specs.Items.{IsAllowed, has_ended};
+ghost use Rattle.dg_pipes.specs.Waits.{IsTold};
 
 use crate::bells::Bells;
-use crate::heard::Heard;
 use crate::item::{Item, Rule};
-use crate::pipe::Pipe;
-use crate::rest::Rest;
-use crate::stream::Stream;
-use dg_gate::{GateFault, Piece};
+use crate::reader::pump;
+use crate::taker::{Rest, take};
+use dg_gate::GateFault;
 use dg_transcript::ErrorCode;
-use rtrb::Finished;
+use rtrb::{Consumer, Finished, Producer, RingBuffer};
 use std::alloc::Global;
 use std::io::Read;
+use std::snapshot::Snapshot;
 use std::sync::{Arc, Wait};
-use std::thread::Threads;
+use std::thread;
+use std::thread::{Promise, PromisedHandle, Threads};
 use std::time::Clock;
 
-/// How long a stop waits for the next item of what is left of the streams, in milliseconds.
+/// How many items a ring holds.
+const SLOTS: usize = 65_536;
+/// How long a stop waits for the next item of what is left of an output, in milliseconds.
 const PATIENCE: u32 = 250;
 /// How long it waits for all of it, in milliseconds.
 const LONGEST: u32 = 2000;
-/// The most items that a stop takes: more than two rings and two pipes hold.
-const MOST_LEFT: usize = 262_144;
+/// The most items that a stop takes: more than a ring and a pipe hold.
+const MOST_LEFT: usize = 131_072;
 
-/// The streams of a child whose session is open.
+/// The ring that the thread was given.
 #[derive(Drop)]
-pub struct Session {
-    pub out: Pipe,
-    pub err: Pipe,
-    pub(crate) bells: Arc<Bells>,
-    pub(crate) rest: Rest,
+pub struct OfRing(pub Snapshot<Consumer<Item, Global, Rule>>);
+
+impl Promise<Option<Finished<Item, Global, Rule>>> for OfRing {
+    ghost use Rattle.std.specs.Prelude.{IfSome};
+    ghost use Rattle.rtrb.specs.Ring.{IsFinishedOf};
+
+    ghost kept_by = { λ p r. IfSome r (λ f. IsFinishedOf f p.0.value) };
 }
 
-/// A session of which nothing was taken.
+/// A session whose reader runs, or has pushed its last item. It is done where that was taken.
+#[derive(Drop)]
+pub struct Session {
+    pub ring: Consumer<Item, Global, Rule>,
+    bells: Arc<Bells>,
+    rest: Rest,
+    reader: PromisedHandle<Option<Finished<Item, Global, Rule>>, OfRing>,
+    is_done: bool,
+    pub ghost same: { SameRing reader.promise.0.value.end ring.end },
+    pub ghost done: { is_done ≡ has_ended (received ring) },
+}
+
+/// A session of whose output nothing was taken.
 #[derive(Drop)]
 pub struct Fresh {
     pub(crate) session: Session,
-    pub ghost untouched: { taken session ≡ nothing },
+    pub ghost untouched: { received session.ring ≡ [] },
 }
 
 impl Fresh {
-    /// Starts the threads that read a child's output and its error stream.
-    pub fn open<R, O, E>(rt: R, alloc: Global, output: O, errors: E) -> Result<Fresh, GateFault>
-    where
-        R: Threads + Wait + Copy + Send + 'static,
-        O: Read + Drop + Send + 'static,
-        E: Read + Drop + Send + 'static,
-    {
-        let session = Session::open(rt, alloc, output, errors)?;
+    /// Starts the thread that reads the source.
+    pub fn open<R: Threads + Wait + Copy + Send + 'static, S: Read + Drop + Send + 'static>(
+        rt: R,
+        alloc: Global,
+        source: S,
+    ) -> Result<Fresh, GateFault> {
+        let session = Session::open(rt, alloc, source)?;
         Ok(Fresh { session })
     }
 }
 
+// What the thread does.
+fn run<S: Read + Drop>(
+    rt: &impl Wait,
+    alloc: Global,
+    mut source: S,
+    mut ring: Producer<Item, Global, Rule>,
+    bells: &Bells,
+) -> Option<Finished<Item, Global, Rule>>
+    ensures { IfSome result (λ f. SameRing ring.end f.end) }
+{
+    let _whole = pump(rt, alloc, &mut source, &mut ring, bells);
+    ring.finish()
+}
+
 impl Session {
-    /// Starts the threads that read a child's output and its error stream.
-    pub fn open<R, O, E>(rt: R, alloc: Global, output: O, errors: E) -> Result<Session, GateFault>
-    where
-        R: Threads + Wait + Copy + Send + 'static,
-        O: Read + Drop + Send + 'static,
-        E: Read + Drop + Send + 'static,
-        ensures { IfOk result (λ s. taken s ≡ nothing) }
+    /// Starts the thread that reads the source.
+    pub fn open<R: Threads + Wait + Copy + Send + 'static, S: Read + Drop + Send + 'static>(
+        rt: R,
+        alloc: Global,
+        source: S,
+    ) -> Result<Session, GateFault>
+        ensures { IfOk result (λ s. received s.ring ≡ []) }
     {
-        let Ok([bells, of_output, of_errors]) = Bells::shared(alloc) else {
+        let (bells, theirs) = Bells::shared(alloc)?;
+        let Ok((producer, ring)) = RingBuffer::with_protocol::<Global, Rule>(alloc, SLOTS) else {
             return Err(GateFault::Memory);
         };
-        let out = Pipe::open(rt, alloc, output, of_output, Stream::Out)?;
-        match Pipe::open(rt, alloc, errors, of_errors, Stream::Err) {
-            Ok(err) => Ok(Session {
-                out,
-                err,
+        let promise = OfRing(Snapshot::of(&ring));
+        match thread::spawn_with(
+            &rt,
+            promise,
+            move || run(&rt, alloc, source, producer, &theirs),
+        ) {
+            Ok(reader) => Ok(Session {
+                ring,
                 bells,
                 rest: Rest::default(),
+                reader,
+                is_done: false,
             }),
-            Err(fault) => {
-                out.let_go(bells.room(Stream::Out));
-                Err(fault)
-            }
+            Err(_) => Err(GateFault::Device(ErrorCode::Other)),
         }
     }
 
-    /// Both streams have ended.
-    fn have_ended(&self) -> bool
-        ensures { result ≡ have_ended (taken self.now) }
+    /// The next piece within a limit.
+    #[tactic(auto, using(crate::proofs::Prefixes::ended_by))]
+    pub fn read(&mut self, rt: &(impl Wait + Clock), limit: u32) -> (u32, Option<Item>)
+        ensures some { IfSome result.1 (λ x. (received self.new.ring ≡ received self.old.ring ++ x ∷ []) × IsAllowed x) }
+        ensures none { IfNone result.1 ((received self.new.ring ≡ received self.old.ring) × (result.0 ≡ limit)) }
+        ensures waited { result.0 ≤ limit }
+        ensures told { IsTold limit result.0 }
     {
-        self.out.has_ended() && self.err.has_ended()
-    }
-
-    /// Whether this is the end of one stream while the other one has not ended.
-    fn is_half(&self, found: &Option<Heard>) -> bool
-        ensures { result ≡ (is_end found.now && not (have_ended (taken self.now))) }
-    {
-        matches!(found, Some(Heard::Out(Item::End) | Heard::Err(Item::End))) && !self.have_ended()
-    }
-
-    /// The next piece within a limit in milliseconds. The end comes once both streams have ended.
-    pub fn read(&mut self, rt: &(impl Wait + Clock), limit: u32) -> Result<Piece, ErrorCode>
-        ensures fits { IfOk result (λ p. fits (action.Read limit) (reply.Piece p) ≡ true) }
-        ensures piece { IfOk result (λ p. Gives limit p (taken self.old) (taken self.new)) }
-        ensures fault { IfErr result (λ code. Fails code (taken self.old) (taken self.new)) }
-    {
-        if self.have_ended() {
-            return Ok(Piece::End(0));
+        let read = take(rt, &mut self.ring, &self.bells, &mut self.rest, limit);
+        if let Some(item) = &read.1 {
+            self.is_done = item.is_last();
         }
-        let (waited, found) = self.take(rt, limit);
-        if self.is_half(&found) {
-            let (more, found) = self.take(rt, limit - waited);
-            return piece_of(waited + more, found);
-        }
-        piece_of(waited, found)
+        read
     }
 
-    /// More may come by a stream.
-    fn is_open(&self) -> bool {
-        self.out.is_open() || self.err.is_open()
+    /// Lets the ring go: the reader thread ends with its next piece, or with the output.
+    pub fn let_go(self) {
+        let Session {
+            ring,
+            bells,
+            rest: _,
+            reader: _,
+            is_done: _,
+        } = self;
+        drop(ring);
+        bells.room.unpark();
     }
 
-    /// Takes what is left, for some time.
-    fn drain(&mut self, rt: &(impl Wait + Clock))
-        ensures out { IsPrefix (received self.old.out.ring) (received self.new.out.ring) }
-        ensures err { IsPrefix (received self.old.err.ring) (received self.new.err.ring) }
+    #[tactic(auto, using(crate::proofs::Prefixes::longer))]
+    // Takes what is left, for some time. True where the reader's last item was taken, now or before.
+    fn drain(&mut self, rt: &(impl Wait + Clock)) -> bool
+        ensures more { IsPrefix (received self.old.ring) (received self.new.ring) }
+        ensures done { result ≡ has_ended (received self.new.ring) }
     {
         let mut left = LONGEST;
         for _ in 0..MOST_LEFT {
-            if !self.is_open() {
-                return;
+            if self.is_done {
+                return true;
             }
-            let (waited, found) = self.take(rt, PATIENCE.min(left));
-            if found.is_none() {
-                return;
+            let (waited, item) = self.read(rt, PATIENCE.min(left));
+            if item.is_none() {
+                return self.is_done;
             }
             left = left.saturating_sub(waited);
         }
+        self.is_done
     }
 
-    /// Lets both rings go: each reader thread ends with its next piece, or with its stream.
-    pub fn let_go(self) {
-        let Session {
-            out,
-            err,
-            bells,
-            rest: _,
-        } = self;
-        out.let_go(bells.room(Stream::Out));
-        err.let_go(bells.room(Stream::Err));
-    }
-
-    /// Takes what is left, once the child has ended, and waits for the readers: what the output's reader pushed, and what that of
-    /// the error stream did. What was taken of a stream is a prefix of it, where its ring tells it. Where somebody else, as a
-    /// child's own child, keeps a stream open, its ring is let go after some time.
-    pub fn stop<R: Threads + Wait + Clock>(mut self, rt: &R) -> (Option<Told>, Option<Told>)
-        ensures out { IfSome result.0 (λ f. IsPrefix (received self.out.ring) (all_sent f)) }
-        ensures err { IfSome result.1 (λ f. IsPrefix (received self.err.ring) (all_sent f)) }
+    /// Takes what is left, once the child has ended, and waits for the reader. What was read is a
+    /// prefix of what it pushed, where the ring tells it. Where somebody else, as a child's own
+    /// child, keeps the output open, the ring is let go after some time.
+    #[tactic(auto, using(crate::proofs::Prefixes::longer))]
+    pub fn stop<R: Threads + Wait + Clock>(mut self, rt: &R) -> Option<Finished<Item, Global, Rule>>
+        ensures { IfSome result (λ f. IsPrefix (received self.ring) (all_sent f)) }
     {
-        self.drain(rt);
+        if !self.drain(rt) {
+            self.let_go();
+            return None;
+        }
         let Session {
-            out,
-            err,
-            bells,
+            mut ring,
+            bells: _,
             rest: _,
+            reader,
+            is_done: _,
         } = self;
-        (
-            out.stop(rt, bells.room(Stream::Out)),
-            err.stop(rt, bells.room(Stream::Err)),
-        )
-    }
-}
-
-/// All that a stream's reader pushed.
-type Told = Finished<Item, Global, Rule>;
-
-/// What a read tells of what it found after so many milliseconds.
-fn piece_of(waited: u32, found: Option<Heard>) -> Result<Piece, ErrorCode>
-    ensures { result ≡ piece_of waited found }
-{
-    match found {
-        Some(Heard::Out(Item::Chunk(bytes))) => Ok(Piece::Chunk(waited, bytes)),
-        Some(Heard::Err(Item::Chunk(bytes))) => Ok(Piece::ErrChunk(waited, bytes)),
-        Some(Heard::Out(Item::End) | Heard::Err(Item::End)) => Ok(Piece::End(waited)),
-        Some(Heard::Out(Item::Fault(code)) | Heard::Err(Item::Fault(code))) => Err(code),
-        None => Ok(Piece::Silence),
+        let mut finished = reader.join(rt)?;
+        ring.slots_after(&mut finished);
+        Some(finished)
     }
 }

@@ -1,10 +1,10 @@
 //! The sessions of a gate, by number.
-ghost use Rattle.std.specs.Prelude.{◌≡◌, ◌<◌, ◌≤◌, ◌+◌, ◌*◌, ◌^◌, [], ◌++◌, ◌∷◌, length, MatchOption, IfOk, IfErr, OnOk, None, true, vec_len, vec_capacity};
+ghost use Rattle.std.specs.Prelude.{◌≡◌, ◌<◌, ◌≤◌, ◌-◌, ◌+◌, [], ◌++◌, ◌∷◌, length, IfSome, IfOk, IfErr, OnOk, true, vec_len, vec_capacity};
 ghost use Rattle.dg_transcript.specs.declared.cursor.Action.TheVariants as action;
 ghost use Rattle.dg_gate.specs.declared.fault.GateFault.TheVariants as fault;
 ghost use Rattle.dg_gate.specs.declared.reply.Reply.TheVariants as reply;
 ghost use Rattle.dg_gate.specs.Reply.{fits};
-ghost use Rattle.dg_pipes.specs.Steps.{session_of, PipeStep, Stay, FailsBy, Accounts};
+ghost use Rattle.dg_pipes.specs.Steps.{PipeStep, FailsBy, Accounts};
 
 use crate::account::Account;
 use crate::session::Fresh;
@@ -13,18 +13,17 @@ use dg_bytes::{Bytes, Seq};
 use dg_gate::{Ended, GateFault, Piece};
 use dg_transcript::ErrorCode;
 use std::alloc::Global;
-use std::process::{ChildStderr, ChildStdout, Processes, SystemProcess};
+use std::process::{ChildStdout, Processes, SystemProcess};
 use std::sync::Wait;
 use std::thread::Threads;
 use std::time::Clock;
 
-/// The sessions from number 1 on, with room for two accounts of each.
+/// The sessions from 1 on, with room for an account of each.
 #[derive(Drop)]
 pub struct Sessions {
     pub slots: Vec<Slot>,
     accounts: Vec<Account>,
-    pub ghost few: { vec_len slots < 2 ^ 32 },
-    pub ghost room: { 2 * vec_len slots ≤ vec_capacity accounts },
+    pub ghost room: { vec_len slots ≤ vec_capacity accounts },
     pub ghost none_told: { accounts.items ≡ [] },
 }
 
@@ -41,8 +40,7 @@ impl Sessions {
 
     // The place of a session that there is.
     fn place(&self, session: u32) -> Option<usize>
-        ensures { MatchOption result (session_of self.now.slots.items session ≡ None)
-            (λ i. (session ≡ i + 1) × (i < length self.now.slots.items)) }
+        ensures { IfSome result (λ i. (i ≡ session - 1) × (i < length self.now.slots.items)) }
     {
         let place = session.checked_sub(1)? as usize;
         if place < self.slots.len() {
@@ -54,9 +52,8 @@ impl Sessions {
 
     // One session more, for which there is room.
     fn push(&mut self, slot: Slot)
-        requires few { vec_len self.old.slots + 1 < 2 ^ 32 }
-        requires room { (vec_len self.old.slots < vec_capacity self.old.slots) ×
-            (2 * vec_len self.old.slots + 2 ≤ vec_capacity self.old.accounts) }
+        requires { (vec_len self.old.slots < vec_capacity self.old.slots) ×
+            (vec_len self.old.slots < vec_capacity self.old.accounts) }
         ensures { self.new.slots.items ≡ self.old.slots.items ++ slot ∷ [] }
     {
         let Ok(()) = self.slots.push(slot) else {
@@ -67,7 +64,7 @@ impl Sessions {
     // Room for one session more.
     fn reserve(&mut self) -> Result<(), GateFault>
         ensures ok { OnOk result ((vec_len self.new.slots < vec_capacity self.new.slots) ×
-            (2 * vec_len self.new.slots + 2 ≤ vec_capacity self.new.accounts)) }
+            (vec_len self.new.slots < vec_capacity self.new.accounts)) }
         ensures slots { self.new.slots.items ≡ self.old.slots.items }
         ensures err { IfErr result (λ f. f ≡ fault.Memory) }
     {
@@ -76,7 +73,7 @@ impl Sessions {
             Ok(()) => {}
             Err(_) => return Err(GateFault::Memory),
         }
-        match self.accounts.reserve(2 * count + 2) {
+        match self.accounts.reserve(count + 1) {
             Ok(()) => Ok(()),
             Err(_) => Err(GateFault::Memory),
         }
@@ -93,25 +90,24 @@ impl Sessions {
     ) -> Result<(), GateFault>
     where
         R: Processes<Started = SystemProcess>,
-        F: Fn(ChildStdout, ChildStderr) -> Result<Fresh, GateFault>,
+        F: Fn(ChildStdout) -> Result<Fresh, GateFault>,
         requires { F.IsAlwaysCallable opener.now }
         ensures ok { OnOk result
             (PipeStep self.old.slots.items session (action.Spawn words.now) reply.Started self.new.slots.items) }
         ensures err { IfErr result
-            (FailsBy (λ r. PipeStep self.old.slots.items session (action.Spawn words.now) r self.new.slots.items)
-            (Stay self.old.slots.items self.new.slots.items)) }
+            (FailsBy (λ r. PipeStep self.old.slots.items session (action.Spawn words.now) r self.new.slots.items)) }
     {
         if session == 0 || session as usize - 1 != self.slots.len() {
             return Err(GateFault::Device(ErrorCode::Other));
         }
         self.reserve()?;
-        match Slot::start(rt, alloc, opener, words.as_slice()) {
+        match Slot::start(rt, alloc, opener, session, words.as_slice()) {
             Ok(slot) => {
                 self.push(slot);
                 Ok(())
             }
             Err(GateFault::Device(code)) => {
-                self.push(Slot::unused());
+                self.push(Slot::unused(session));
                 Err(GateFault::Device(code))
             }
             Err(GateFault::Memory) => Err(GateFault::Memory),
@@ -122,8 +118,7 @@ impl Sessions {
     pub(crate) fn send(&mut self, session: u32, bytes: &Bytes) -> Result<(), GateFault>
         ensures ok { OnOk result (PipeStep self.old.slots.items session (action.Send bytes.now) reply.Sent self.new.slots.items) }
         ensures err { IfErr result
-            (FailsBy (λ r. PipeStep self.old.slots.items session (action.Send bytes.now) r self.new.slots.items)
-            (Stay self.old.slots.items self.new.slots.items)) }
+            (FailsBy (λ r. PipeStep self.old.slots.items session (action.Send bytes.now) r self.new.slots.items)) }
     {
         let Some(place) = self.place(session) else {
             return Err(GateFault::Device(ErrorCode::Other));
@@ -132,7 +127,7 @@ impl Sessions {
         slot.send(bytes.as_slice())
     }
 
-    /// The next piece of a session's streams.
+    /// The next piece of a session's output.
     pub(crate) fn read(
         &mut self,
         rt: &(impl Wait + Clock),
@@ -181,19 +176,15 @@ impl Sessions {
 
     /// Stops each session, and tells of those that weren't closed, in order. No memory is taken.
     pub(crate) fn stop<R: Threads + Wait + Clock>(self, rt: &R) -> Seq<Account>
-        ensures { Accounts 1 self.slots.items result }
+        ensures { Accounts self.slots.items result }
     {
         let Sessions {
             mut slots,
             mut accounts,
         } = self;
         while let Some(slot) = slots.pop() {
-            let number = slots.len() as u32 + 1;
-            if let Some((out, err)) = slot.stop(rt, number) {
-                let Ok(()) = accounts.push(err) else {
-                    unreachable!()
-                };
-                let Ok(()) = accounts.push(out) else {
+            if let Some(account) = slot.stop(rt) {
+                let Ok(()) = accounts.push(account) else {
                     unreachable!()
                 };
             }

@@ -1,33 +1,19 @@
--- Records that are kept: of each test the newest four, and the tests in the order in which they first had one.
-use Rattle.std.specs.Prelude.{if◌then◌else◌, Bool, List, [], ◌∷◌, map, take}
-use Rattle.std.specs.List.{list_any}
+-- Records that are kept, one for each test, in the order in which the tests first had one.
+use Rattle.std.specs.Prelude.{◌≡◌, if◌then◌else◌, Option, List, [], ◌∷◌, find}
 use Rattle.dg_world.specs.Test.{same_test}
 use Rattle.dg_world.specs.declared.test_id.TestId.{TestId}
 use Rattle.dg_records.specs.Truth.{RecordView}
 
--- a test, and the records that are kept of it, the newest first
-pub record KeptRecords : Type 0 where
-  pub test : TestId
-  pub records : List RecordView
+-- the record of a test
+abbrev pub kept : List RecordView → TestId → Option RecordView
+kept shelf t = find (λ r. same_test t r.test) shelf
 
--- what a map keeps under tests
-abbrev pub shelf_in : List (TestId × List RecordView) → List KeptRecords
-shelf_in es = map (λ e. record { test = e.0; records = e.1 }) es
+-- the shelf with a record, in the place of the one that its test had, or last
+abbrev pub with_record : List RecordView → RecordView → List RecordView
+with_record [] r = r ∷ []
+with_record (x ∷ xs) r = if same_test r.test x.test then r ∷ xs else x ∷ with_record xs r
 
--- the kept records of a test, the newest first
-abbrev pub kept : List KeptRecords → TestId → List RecordView
-kept [] t = []
-kept (x ∷ xs) t = if same_test t x.test then x.records else kept xs t
-
--- whether a test has some
-abbrev pub has_records : List KeptRecords → TestId → Bool
-has_records shelf t = list_any (λ x. same_test t x.test) shelf
-
--- records with a newer one in front, of which four are kept: a fifth drops the oldest
-abbrev pub as_newest : {A : Type 0} → A → List A → List A
-as_newest newest others = take 4 (newest ∷ others)
-
--- the shelf with a record as its test's newest
-abbrev pub with_record : List KeptRecords → RecordView → List KeptRecords
-with_record [] r = record { test = r.test; records = r ∷ [] } ∷ []
-with_record (x ∷ xs) r = if same_test r.test x.test then record x { records = as_newest r x.records } ∷ xs else x ∷ with_record xs r
+-- a record was kept on the shelf `before`, which had `previous` of its test and is now `after`
+pub record Exchanges (before : List RecordView) (newest : RecordView) (previous : Option RecordView) (after : List RecordView) : Type 0 where
+  pub had : previous ≡ kept before newest.test
+  pub shelf : after ≡ with_record before newest

@@ -6,7 +6,7 @@ pub fn more_answers_keep_the_verdict()
     ensures { MoreAnswersKeepTheVerdict }
 {}
 
-/// A record whose reads agree with the answers that a world gives, has the verdict that judging its test in that world gives.
+/// A record whose reads have the answers that a world gives, has the verdict that judging its test in that world gives.
 pub fn agreeing_worlds_give_the_verdict()
     ensures { AgreeingWorldsGiveTheVerdict }
 {}

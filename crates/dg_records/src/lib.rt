@@ -7,5 +7,5 @@ mod record;
 mod shelf;
 
 pub use crate::law::{agreeing_worlds_give_the_verdict, more_answers_keep_the_verdict};
-pub use crate::record::{Record, keeps_now};
+pub use crate::record::Record;
 pub use crate::shelf::Shelf;

@@ -1,76 +1,20 @@
 //! Records that are kept.
-ghost use Rattle.std.specs.Prelude.{◌≡◌, ◌∷◌, [], true, false, OnOk, OnErr, IfErr, IfOk};
-ghost use Rattle.dg_records.specs.Shelf.{as_newest, has_records, kept, with_record};
+ghost use Rattle.std.specs.Prelude.{◌≡◌, List, [], OnOk, OnErr, IfOk, IfErr};
+ghost use Rattle.std.specs.Option.{option_copied};
+ghost use Rattle.dg_records.specs.Shelf.{kept, with_record, Exchanges};
+ghost use Rattle.dg_records.specs.Truth.{RecordView};
 
 use crate::record::Record;
 use dg_world::TestId;
 use indexmap::IndexMap;
 use std::alloc::Global;
 use std::marker::Model;
+use std::mem;
 
-/// How many records of a test are kept.
-const MOST: usize = 4;
-
-/// The kept records of one test. A contract sees the list of them, the newest first.
-struct Recent {
-    records: Vec<Record>,
-}
-
-impl Drop for Recent {
-    fn drop(self) {
-        let Recent { records: _ } = self;
-    }
-}
-
-impl Model for Recent {
-    ghost use Rattle.std.specs.Prelude.{List};
-    ghost use Rattle.dg_records.specs.Truth.{RecordView};
-
-    ghost Value = { List RecordView };
-
-    ghost view = { λ r. r.records.items };
-}
-
-impl Recent {
-    /// A record alone, or it comes back where there is no room for it.
-    fn one(alloc: Global, newest: Record) -> Result<Recent, Record>
-        ensures ok { IfOk result (λ r. r ≡ newest ∷ []) }
-        ensures back { IfErr result (λ r. r ≡ newest) }
-    {
-        let mut records = Vec::new(alloc);
-        match records.push(newest) {
-            Ok(()) => Ok(Recent { records }),
-            Err(refused) => Err(refused.value),
-        }
-    }
-
-    /// Puts a record before the others and drops a fifth, or gives it back and changes nothing where there is no room for it.
-    fn put(&mut self, newest: Record) -> Result<(), Record>
-        ensures ok { OnOk result (self.new ≡ as_newest newest self.old) }
-        ensures err { OnErr result (self.new ≡ self.old) }
-        ensures back { IfErr result (λ r. r ≡ newest) }
-    {
-        match self.records.insert(0, newest) {
-            Ok(()) => {
-                self.records.truncate(MOST);
-                Ok(())
-            }
-            Err(refused) => Err(refused.value),
-        }
-    }
-
-    /// The records.
-    fn as_slice(&self) -> &[Record]
-        ensures { result.now ≡ self.now }
-    {
-        self.records.as_slice()
-    }
-}
-
-/// The newest four records of each test. A contract sees each test with its records, the newest first, in the order in which
+/// One record for each test, the newest. A contract sees the list of them, in the order in which
 /// the tests first had one.
 pub struct Shelf {
-    records: IndexMap<TestId, Recent>,
+    records: IndexMap<TestId, Record>,
 }
 
 impl Drop for Shelf {
@@ -80,12 +24,16 @@ impl Drop for Shelf {
 }
 
 impl Model for Shelf {
-    ghost use Rattle.std.specs.Prelude.{List};
-    ghost use Rattle.dg_records.specs.Shelf.{KeptRecords, shelf_in};
+    ghost use Rattle.std.specs.Prelude.{List, IsTrue, map};
+    ghost use Rattle.std.specs.List.{list_all};
+    ghost use Rattle.dg_records.specs.Truth.{RecordView};
+    ghost use Rattle.dg_world.specs.Test.{same_test};
 
-    ghost Value = { List KeptRecords };
+    ghost Value = { List RecordView };
 
-    ghost view = { λ s. shelf_in s.records.entries };
+    ghost view = { λ s. map (λ e. e.1) s.records.entries };
+
+    ghost invariant = { λ s. IsTrue (list_all (λ e. same_test e.0 e.1.test) s.records.entries) };
 }
 
 impl Shelf {
@@ -98,59 +46,60 @@ impl Shelf {
         }
     }
 
-    /// Keeps a record as the newest of its test, of which a fifth one is dropped, or gives it back and changes nothing where
-    /// there is no room for it. A record that equals one which is kept takes a place of its own.
+    /// Keeps a record in the place of the one that its test had, or gives it back and changes
+    /// nothing where there is no room for it.
     pub fn keep(&mut self, alloc: Global, newest: Record) -> Result<(), Record>
         ensures ok { OnOk result (self.new ≡ with_record self.old newest) }
         ensures err { OnErr result (self.new ≡ self.old) }
         ensures back { IfErr result (λ r. r ≡ newest) }
     {
-        if self.records.contains_key(newest.test()) {
-            return self.keep_again(newest);
-        }
-        self.keep_first(alloc, newest)
-    }
-
-    /// Keeps a record beside those that its test has.
-    fn keep_again(&mut self, newest: Record) -> Result<(), Record>
-        requires { has_records self.old newest.test ≡ true }
-        ensures ok { OnOk result (self.new ≡ with_record self.old newest) }
-        ensures err { OnErr result (self.new ≡ self.old) }
-        ensures back { IfErr result (λ r. r ≡ newest) }
-    {
-        match self.records.get_mut(newest.test()) {
-            Some(recent) => return recent.put(newest),
-            None => unreachable!(),
+        match self.exchange(alloc, newest) {
+            Ok(_) => Ok(()),
+            Err(newest) => Err(newest),
         }
     }
 
-    /// Keeps the first record of a test.
-    fn keep_first(&mut self, alloc: Global, newest: Record) -> Result<(), Record>
-        requires { has_records self.old newest.test ≡ false }
-        ensures ok { OnOk result (self.new ≡ with_record self.old newest) }
+    /// Keeps a record as `keep` does, and gives the one that its test had.
+    pub fn exchange(&mut self, alloc: Global, newest: Record) -> Result<Option<Record>, Record>
+        ensures ok { IfOk result (λ previous. Exchanges self.old newest previous self.new) }
         ensures err { OnErr result (self.new ≡ self.old) }
         ensures back { IfErr result (λ r. r ≡ newest) }
     {
         let Ok(test) = newest.test().copy(alloc) else {
             return Err(newest);
         };
-        if self.records.reserve(1).is_err() {
-            return Err(newest);
-        }
-        let recent = Recent::one(alloc, newest)?;
-        match self.records.insert(test, recent) {
-            Ok(_) => Ok(()),
-            Err(_) => unreachable!(),
+        let refused = match self.records.insert(test, newest) {
+            Ok(previous) => return Ok(previous),
+            Err(refused) => refused,
+        };
+        let (_, back) = refused.value;
+        Err(back)
+    }
+
+    /// Undoes an exchange of a test's record: the shelf is again what it was before, and the newest record comes back. It
+    /// takes no memory.
+    pub fn put_back(&mut self, test: &TestId, previous: Option<Record>) -> Record
+        requires { (before : List RecordView) × (newest : RecordView) × (newest.test ≡ test.now) × Exchanges before newest
+            previous self.old }
+        ensures { (before : List RecordView) (newest : RecordView) → newest.test ≡ test.now → Exchanges before newest
+            previous self.old → (self.new ≡ before) × (result ≡ newest) }
+    {
+        match previous {
+            Some(previous) => match self.records.get_mut(test) {
+                Some(place) => mem::replace(place, previous),
+                None => unreachable!(),
+            },
+            None => match self.records.shift_remove(test) {
+                Some(newest) => newest,
+                None => unreachable!(),
+            },
         }
     }
 
-    /// The kept records of a test, the newest first: none where it has none.
-    pub fn get(&self, test: &TestId) -> &[Record]
-        ensures { result.now ≡ kept self.now test.now }
+    /// The record of a test.
+    pub fn get(&self, test: &TestId) -> Option<&Record>
+        ensures { option_copied result ≡ kept self.now test.now }
     {
-        match self.records.get(test) {
-            Some(recent) => recent.as_slice(),
-            None => &[],
-        }
+        self.records.get(test)
     }
 }

@@ -1,11 +1,7 @@
 -- What settling says of a report's answer.
-use Rattle.std.proofs.Common.{◌≡◌, ℕ, ◌+◌, ◌-◌, ◌≤◌, min, List, length, Some, inl, inr, refl, ap, ap₂, ◌∙◌, arith}
-use Rattle.dg_world.specs.declared.test_id.TestId.{TestId}
-use Rattle.dg_core.specs.Core.{CoreView, kept_of, settled, settled_up_to, evaluated, pending}
-use Rattle.dg_core.specs.Fault.{Tells}
+use Rattle.std.proofs.Common.{◌≡◌, ℕ, ◌+◌, ◌-◌, ◌≤◌, min, List, length, Some, inl, ap, ap₂, ◌∙◌, arith}
+use Rattle.dg_core.specs.Core.{CoreView, settled, settled_up_to, evaluated, pending}
 use Rattle.dg_core.specs.Grown.{IsGrown}
-use Rattle.dg_core.specs.Turning.{JudgesAll}
-use Rattle.dg_core.specs.declared.judging_core.CoreFault.TheVariants.{PatternLost}
 use Rattle.dg_core.specs.Scratch.{scratch}
 use Rattle.dg_session.specs.declared.answer.LineAnswer.TheVariants as answer
 use Rattle.dg_session.specs.Session.{AnswersReport}
@@ -20,20 +16,14 @@ rises core new before after b a s small = let e = counts core new s in omega ari
 
 -- the report is that of the settled world
 pub reported : (core new : CoreView) (before after status : ℕ) (report : List ℕ) → before ≡ core.evaluations → after ≡ new.evaluations → IsGrown core.world new.world
-    → new ≡ settled new.world new.compared core → JudgesAll (kept_of core) (pending core) (kept_of new) → scratch new.world ≡ Some (report, status)
-    → AnswersReport core new (answer.Sum status (after - before) report)
-reported core new before after status report b a g s j sum =
+    → new ≡ settled new.world new.compared core → scratch new.world ≡ Some (report, status) → AnswersReport core new (answer.Sum status (after - before) report)
+reported core new before after status report b a g s sum =
     let count : after - before ≡ evaluated core = ap₂ (λ x y. x - y) (a ∙ counts core new s) b in
     inl
     (record {
       grown = g;
       is_settled = s;
-      judges = j;
       sum = (report, status);
       from_scratch = sum;
       is_answered = ap (λ n. answer.Sum status n report) count;
     })
-
--- a pending test needs a pattern that can't be built
-pub lost : (core new : CoreView) (test : TestId) → IsGrown core.world new.world → Tells core new.world (PatternLost test) → AnswersReport core new (answer.Fault 1)
-lost core new test g t = inr (inr (refl, (new.world, g, test, t)))

@@ -14,12 +14,13 @@ use Rattle.dg_session.specs.Answer.{text_of}
 use Rattle.dg_session.specs.Request.{request_of}
 use Rattle.dg_session.specs.declared.answer.LineAnswer.TheVariants as answer
 use Rattle.dg_session.specs.declared.request.Request.TheVariants as request
-use Rattle.dg_session.specs.Session.{requests_of, edit_answer, Edits, Selects, Follows, IsShort, Writes, RunsShort, Answers, AnswersFront, AnswersLine, AnswersLineFront, AnswersOne}
+use Rattle.dg_session.specs.Session.{requests_of, edit_answer, Edits, Selects, Reports, Follows, Writes, RunsShort, Answers, AnswersFront, AnswersLine, AnswersLineFront, AnswersOne}
 use Rattle.dg_line.specs.Select.{selection_by}
 use Rattle.dg_world.specs.declared.edit.Edit.{Edit}
 use Rattle.dg_world.specs.declared.edit.Edit.TheVariants.{PutFile, RemoveFile, PutTranscript, DropTranscript, Select}
 use Rattle.dg_world.specs.declared.selection.Selection.{Selection}
-use Rattle.dg_core.specs.Core.{CoreView, edited_core}
+use Rattle.dg_core.specs.Core.{CoreView, edited_core, settled, settled_up_to, evaluated}
+use Rattle.dg_core.proofs.Completing.{completed}
 use Rattle.dg_session.proofs.WritingLemmas.{front_of, front_first, front_second}
 
 edits-some : (core : CoreView) (edit : Edit) → (next : CoreView) × (given : LineAnswer) × Edits core edit next given
@@ -29,23 +30,32 @@ selects-some : (core : CoreView) (selection : Option Selection) → (next : Core
 selects-some core None = (core, answer.Refused 6, (refl, refl))
 selects-some core (Some selection) = edits-some core (Select selection)
 
--- each request can be answered, but that memory may run out in a report
-follows-some : (core : CoreView) (next : Request) → ((new : CoreView) × (given : LineAnswer) × Follows core next new given) ⊎ (IsShort core next (answer.Fault 2))
-unfolding Follows
-follows-some core (request.Put name content) = inl (edits-some core (PutFile name content))
-follows-some core (request.Remove name) = inl (edits-some core (RemoveFile name))
-follows-some core (request.PutTranscript board script text) = inl (edits-some core (PutTranscript board script text))
-follows-some core (request.DropTranscript board script) = inl (edits-some core (DropTranscript board script))
-follows-some core (request.Select words) = inl (selects-some core (selection_by words))
-follows-some core request.Report = inr (inl refl)
-follows-some core request.Unknown = inl (core, answer.Unknown, (refl, refl))
+reports-some : (core : CoreView) → (next : CoreView) × (given : LineAnswer) × Reports core next given
+unfolding settled_up_to
+reports-some core =
+    let (world, sum, grown, from_scratch) = completed core.world in (
+      settled world core.compared core,
+      answer.Sum sum.1 (evaluated core) sum.0,
+      record { grown = grown; is_settled = refl; sum = sum; from_scratch = from_scratch; is_answered = refl },
+    )
 
-answers-some : (core : CoreView) (next : Request) → (new : CoreView) × (given : LineAnswer) × AnswersOne core new next given
-answers-some core next = step (follows-some core next)
-  where
-    step : (((new : CoreView) × (given : LineAnswer) × Follows core next new given) ⊎ (IsShort core next (answer.Fault 2))) → (new : CoreView) × (given : LineAnswer) × AnswersOne core new next given
-    step (inl (new, given, one)) = (new, given, inl one)
-    step (inr short) = (core, answer.Fault 2, inr short)
+-- each request can be answered
+follows-some : (core : CoreView) (next : Request) → (new : CoreView) × (given : LineAnswer) × Follows core next new given
+unfolding Follows
+follows-some core (request.Put name content) = edits-some core (PutFile name content)
+follows-some core (request.Remove name) = edits-some core (RemoveFile name)
+follows-some core (request.PutTranscript board script text) = edits-some core (PutTranscript board script text)
+follows-some core (request.DropTranscript board script) = edits-some core (DropTranscript board script)
+follows-some core (request.Select words) = selects-some core (selection_by words)
+follows-some core request.Report = reports-some core
+follows-some core request.Unknown = (core, answer.Unknown, (refl, refl))
+
+writes-some : (core : CoreView) (requests : List Request) → (text : List ℕ) × (last : CoreView) × Writes core requests text last
+writes-some core [] = ([], core, (refl, refl))
+writes-some core (next ∷ requests) =
+    let (new, given, one) = follows-some core next in
+    let (more, last, rest) = writes-some new requests in
+    (text_of given ++ more, last, (new, given, more, one, refl, rest))
 
 writes-append : (core mid last : CoreView) (first more : List Request) (text after : List ℕ) → Writes core first text mid → Writes mid more after last
     → Writes core (first ++ more) (text ++ after) last
@@ -63,43 +73,6 @@ writes-append core mid last (next ∷ first) more text after (new, given, others
 writes-one : (core new : CoreView) (next : Request) (given : LineAnswer) → Follows core next new given → Writes core (next ∷ []) (text_of given) new
 writes-one core new next given one = (new, given, [], one, sym (append-nil (text_of given)), (refl, refl))
 
--- one that does not come to its end, behind some that do
-runs-append : (core mid : CoreView) (first more : List Request) (text after : List ℕ) → Writes core first text mid → RunsShort mid more after → RunsShort core (first ++ more) (text ++ after)
-runs-append core mid first more text after wrote (before, at, others, done, last, short, tail, split, rest, is, all) = (
-  first ++ before,
-  at,
-  others,
-  text ++ done,
-  last,
-  short,
-  tail,
-  ap (λ rs. first ++ rs) split ∙ sym (append_assoc first before (at ∷ others)),
-  writes-append core mid last first before text done wrote rest,
-  is,
-  ap (λ t. text ++ t) (all ∙ append_assoc done (text_of short) tail) ∙ sym (append_assoc text done (text_of short ++ tail))
-      ∙ sym (append_assoc (text ++ done) (text_of short) tail),
-)
-
--- what requests may be answered
-abbrev MayWrite : CoreView → List Request → List ℕ → Type 0
-MayWrite core requests text = ((last : CoreView) × Writes core requests text last) ⊎ RunsShort core requests text
-
-writes-behind : (core mid : CoreView) (first more : List Request) (text after : List ℕ) → Writes core first text mid → MayWrite mid more after → MayWrite core (first ++ more) (text ++ after)
-writes-behind core mid first more text after wrote (inl (last, rest)) = inl (last, writes-append core mid last first more text after wrote rest)
-writes-behind core mid first more text after wrote (inr short) = inr (runs-append core mid first more text after wrote short)
-
-writes-some : (core : CoreView) (requests : List Request) → (text : List ℕ) × MayWrite core requests text
-writes-some core [] = ([], inl (core, (refl, refl)))
-writes-some core (next ∷ requests) = step (follows-some core next) (λ new. writes-some new requests)
-  where
-    step : (((new : CoreView) × (given : LineAnswer) × Follows core next new given) ⊎ (IsShort core next (answer.Fault 2)))
-        → ((new : CoreView) → (text : List ℕ) × MayWrite new requests text) → (text : List ℕ) × MayWrite core (next ∷ requests) text
-    step (inl (new, given, one)) rest =
-        let (more, all) = rest new in
-        (text_of given ++ more, writes-behind core new (next ∷ []) requests (text_of given) more (writes-one core new next given one) all)
-    step (inr short) rest =
-        (text_of (answer.Fault 2), inr ([], next, requests, [], core, answer.Fault 2, [], refl, (refl, refl), short, sym (append-nil (text_of (answer.Fault 2)))))
-
 -- the text so far is that of the requests so far, or one of them did not come to its end
 abbrev pub SoFar : CoreView → CoreView → List Request → List Request → List ℕ → Type 0
 SoFar first core all left text = ((before : List Request) × (all ≡ before ++ left) × Writes first before text core) ⊎ RunsShort first all text
@@ -116,16 +89,16 @@ so_far-one first core new all left next text given (inl (before, split, wrote)) 
 so_far-one first core new all left next text given (inr (before, at, others, done, last, short, more, split, wrote, is, all_of)) one =
     inr (before, at, others, done, last, short, more ++ text_of given, split, wrote, is, ap (λ t. t ++ text_of given) all_of ∙ append_assoc (done ++ text_of short) more (text_of given))
 
-so_far-all : (first core : CoreView) (all : List Request) (text : List ℕ) → SoFar first core all [] text → MayWrite first all text
+so_far-all : (first core : CoreView) (all : List Request) (text : List ℕ) → SoFar first core all [] text → ((last : CoreView) × Writes first all text last) ⊎ RunsShort first all text
 so_far-all first core all text (inl (before, split, wrote)) =
     inl (core, subst (λ rs. Writes first rs text core) (sym (split ∙ append-nil before)) wrote)
 so_far-all first core all text (inr short) = inr short
 
 -- there is a whole text that begins with what was written
-so_far-whole : (first core : CoreView) (all left : List Request) (text : List ℕ) → SoFar first core all left text → (more : List ℕ) × MayWrite first all (text ++ more)
+so_far-whole : (first core : CoreView) (all left : List Request) (text : List ℕ) → SoFar first core all left text → (more : List ℕ) × (((last : CoreView) × Writes first all (text ++ more) last) ⊎ RunsShort first all (text ++ more))
 so_far-whole first core all left text (inl (before, split, wrote)) =
-    let (more, rest) = writes-some core left in
-    (more, subst (λ rs. MayWrite first rs (text ++ more)) (sym split) (writes-behind first core before left text more wrote rest))
+    let (more, last, rest) = writes-some core left in
+    (more, inl (last, subst (λ rs. Writes first rs (text ++ more) last) (sym split) (writes-append first core last before left text more wrote rest)))
 so_far-whole first core all left text (inr short) = ([], inr (subst (RunsShort first all) (sym (append-nil text)) short))
 
 -- what was written so far, what the rest of the input will ask, and how many bytes may still come
@@ -260,8 +233,8 @@ front_and_part (Some xs) now out written wrote first core line limit left was p 
 -- nothing was written of the answer to a line
 pub nothing_of : (core : CoreView) (line : List ℕ) (out : Option (List ℕ)) → AnswersLineFront core line out out
 nothing_of core line out =
-    let (new, given, one) = answers-some core (request_of (trim_record 10 line)) in
-    (new, given, one, (0, Appends-nil out))
+    let (new, given, one) = follows-some core (request_of (trim_record 10 line)) in
+    (new, given, inl one, (0, Appends-nil out))
 
 -- nothing was written of any answer
 pub nothing_written : (input out : Option (List ℕ)) (first : CoreView) (limit : ℕ) → IfSome input (λ xs. AnswersFront first xs out out)

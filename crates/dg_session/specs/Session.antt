@@ -5,15 +5,11 @@ use Rattle.std.specs.Io.KnownBytes.{Appends}
 use Rattle.bstr.specs.Records.{records, trim_record}
 use Rattle.dg_world.specs.Refusal.{refusal_number}
 use Rattle.dg_line.specs.Select.{selection_by}
-use Rattle.dg_world.specs.World.{WorldView, takes_memory}
+use Rattle.dg_world.specs.World.{takes_memory}
 use Rattle.dg_world.specs.declared.selection.Selection.{Selection}
-use Rattle.dg_world.specs.declared.test_id.TestId.{TestId}
-use Rattle.dg_core.specs.Core.{CoreView, kept_of, pending, edited_core, settled, evaluated}
-use Rattle.dg_core.specs.Fault.{Tells}
+use Rattle.dg_core.specs.Core.{CoreView, edited_core, settled, evaluated}
 use Rattle.dg_core.specs.Grown.{IsGrown}
-use Rattle.dg_core.specs.Turning.{JudgesAll}
 use Rattle.dg_core.specs.Scratch.{scratch}
-use Rattle.dg_core.specs.declared.judging_core.CoreFault.TheVariants.{PatternLost}
 use Rattle.dg_session.specs.declared.answer.LineAnswer.{LineAnswer}
 use Rattle.dg_session.specs.declared.answer.LineAnswer.TheVariants as answer
 use Rattle.dg_session.specs.declared.request.Request.{Request}
@@ -60,13 +56,11 @@ abbrev pub Selects : CoreView → Option Selection → CoreView → LineAnswer �
 Selects old None new given = (new ≡ old) × (given ≡ answer.Refused 6)
 Selects old (Some selection) new given = Edits old (Select selection) new given
 
--- A report judges the tests that are pending, one after another. All that their judging reads is asked in turn, and nothing else,
--- so the book grows by the patterns that they are the first to read. The report is answered with that of the new world from
--- scratch, and with how far the count of evaluations rose.
+-- A report judges the tests that are pending, in a world that differs from the core's by a larger book at most. It is answered
+-- with the report of that world from scratch, and with how far the count of evaluations rose.
 pub record Reports (old new : CoreView) (given : LineAnswer) : Type 0 where
   pub grown : IsGrown old.world new.world
   pub is_settled : new ≡ settled new.world new.compared old
-  pub judges : JudgesAll (kept_of old) (pending old) (kept_of new)
   pub sum : List ℕ × ℕ
   pub from_scratch : scratch new.world ≡ Some sum
   pub is_answered : given ≡ answer.Sum sum.1 (evaluated old) sum.0
@@ -87,34 +81,29 @@ Writes core [] text last = (text ≡ []) × (last ≡ core)
 Writes core (request ∷ requests) text last =
     (next : CoreView) × (given : LineAnswer) × (more : List ℕ) × Follows core request next given × (text ≡ text_of given ++ more) × Writes next requests more last
 
--- a text of a session
+-- a text of a session: what the books of its reports hold beside the core's is open
 abbrev pub IsSessionText : CoreView → List ℕ → List ℕ → Type 0
 IsSessionText core input text = (last : CoreView) × Writes core (requests_of input) text last
 
--- memory ran out in an edit that takes some
-abbrev pub IsShortEdit : CoreView → Edit → LineAnswer → Type 0
-IsShortEdit core edit given = IsTrue (takes_memory core.world edit) × (given ≡ answer.Refused 8)
+-- what a request is answered where memory runs out, which it can't in a removal
+abbrev pub short_answer : Request → Option LineAnswer
+short_answer (request.Put name content) = Some (answer.Refused 8)
+short_answer (request.Remove name) = None
+short_answer (request.PutTranscript board script text) = Some (answer.Refused 8)
+short_answer (request.DropTranscript board script) = None
+short_answer (request.Select words) = Some (answer.Refused 8)
+short_answer request.Report = Some (answer.Fault 2)
+short_answer request.Unknown = None
 
--- the judging of a pending test, in the core's world with a larger book at most, reads a pattern that is answered as read
-abbrev pub ReadsPattern : CoreView → Type 0
-ReadsPattern core = (world : WorldView) × IsGrown core.world world × (test : TestId) × Tells core world (PatternLost test)
-
--- what a request is answered that does not come to its end: for want of memory, or where a report needs a pattern that was
--- answered as read and can't be built
-abbrev pub IsShort : CoreView → Request → LineAnswer → Type 0
-IsShort core (request.Put name content) given = IsShortEdit core (PutFile name content) given
-IsShort core (request.Remove name) given = IsShortEdit core (RemoveFile name) given
-IsShort core (request.PutTranscript board script text) given = IsShortEdit core (PutTranscript board script text) given
-IsShort core (request.DropTranscript board script) given = IsShortEdit core (DropTranscript board script) given
-IsShort core (request.Select words) given = given ≡ answer.Refused 8
-IsShort core request.Report given = (given ≡ answer.Fault 2) ⊎ ((given ≡ answer.Fault 1) × ReadsPattern core)
-IsShort core request.Unknown given = ⊥
+-- what a request is answered that does not come to its end: for want of memory, or where a report needs a pattern that was answered as read and can't be built
+abbrev pub IsShort : Request → LineAnswer → Type 0
+IsShort next given = (short_answer next ≡ Some given) ⊎ ((next ≡ request.Report) × (given ≡ answer.Fault 1))
 
 -- the answers to some first requests, then to the next one that it did not come to its end, and then any bytes
 abbrev pub RunsShort : CoreView → List Request → List ℕ → Type 0
 RunsShort core requests text =
     (first : List Request) × (next : Request) × (others : List Request) × (done : List ℕ) × (last : CoreView) × (short : LineAnswer) × (more : List ℕ)
-    × (requests ≡ first ++ next ∷ others) × Writes core first done last × IsShort last next short × (text ≡ done ++ text_of short ++ more)
+    × (requests ≡ first ++ next ∷ others) × Writes core first done last × IsShort next short × (text ≡ done ++ text_of short ++ more)
 
 -- what a session may write to its end: its text, or what it is where a line does not come to its end
 abbrev pub IsAnswered : CoreView → List ℕ → List ℕ → Type 0
@@ -134,15 +123,15 @@ AnswersFront core input old new = (text : List ℕ) × IsAnswered core input tex
 
 -- an edit was made or refused, or memory ran out where it takes some
 abbrev pub AnswersEdit : CoreView → CoreView → Edit → LineAnswer → Type 0
-AnswersEdit old new edit given = Edits old edit new given ⊎ IsShortEdit old edit given
+AnswersEdit old new edit given = Edits old edit new given ⊎ (IsTrue (takes_memory old.world edit) × (given ≡ answer.Refused 8))
 
 -- the report was given, or it did not come to its end
 abbrev pub AnswersReport : CoreView → CoreView → LineAnswer → Type 0
-AnswersReport old new given = Reports old new given ⊎ IsShort old request.Report given
+AnswersReport old new given = Reports old new given ⊎ IsShort request.Report given
 
 -- one request was answered: by the new core and its answer, or it did not come to its end
 abbrev pub AnswersOne : CoreView → CoreView → Request → LineAnswer → Type 0
-AnswersOne old new request given = Follows old request new given ⊎ IsShort old request given
+AnswersOne old new request given = Follows old request new given ⊎ IsShort request given
 
 -- a line was answered
 abbrev pub AnswersLine : CoreView → CoreView → List ℕ → Option (List ℕ) → Option (List ℕ) → Type 0

@@ -51,17 +51,14 @@ step_at-stays : (c : Cursor) (a : Action) (e : Entry) → Stays c a (step_at c a
 step_at-stays c (action.Spawn words) (entry.Started given) = answers_if-stays (same_words given words) c (action.Spawn words)
 step_at-stays c (action.Spawn words) (entry.NoStart code given) = answers_if-stays (same_words given words) c (action.Spawn words)
 step_at-stays c (action.Send bytes) (entry.Chunk wait given) = passes-stays c (action.Send bytes)
-step_at-stays c (action.Send bytes) (entry.ErrChunk wait given) = passes-stays c (action.Send bytes)
 step_at-stays c (action.Send bytes) (entry.Silence wait) = passes-stays c (action.Send bytes)
 step_at-stays c (action.Send bytes) (entry.Sent given) = answers_if-stays (same_bytes given bytes) c (action.Send bytes)
 step_at-stays c (action.Send bytes) (entry.NoSend code given) = answers_if-stays (same_bytes given bytes) c (action.Send bytes)
 step_at-stays c (action.Read limit) (entry.Chunk wait given) = arrives-stays (nat_le (unwrap_or c.wait wait) limit) c limit (unwrap_or c.wait wait)
-step_at-stays c (action.Read limit) (entry.ErrChunk wait given) = arrives-stays (nat_le (unwrap_or c.wait wait) limit) c limit (unwrap_or c.wait wait)
 step_at-stays c (action.Read limit) (entry.End wait) = arrives-stays (nat_le (unwrap_or c.wait wait) limit) c limit (unwrap_or c.wait wait)
 step_at-stays c (action.Read limit) (entry.Silence wait) = is_silent-stays (nat_lt (unwrap_or c.wait wait) limit) (unwrap_or c.wait wait == limit) c limit (unwrap_or c.wait wait)
 step_at-stays c (action.Read limit) (entry.NoRead code) = answers-stays c (action.Read limit)
 step_at-stays c action.Close (entry.Chunk wait given) = passes-stays c action.Close
-step_at-stays c action.Close (entry.ErrChunk wait given) = passes-stays c action.Close
 step_at-stays c action.Close (entry.Silence wait) = passes-stays c action.Close
 step_at-stays c action.Close entry.Closed = answers-stays c action.Close
 step_at-stays c action.Close (entry.NoClose code) = answers-stays c action.Close
@@ -128,17 +125,14 @@ step_at-goes : (c : Cursor) (a : Action) (e : Entry) → GoesOn c (step_at c a e
 step_at-goes c (action.Spawn words) (entry.Started given) = answers_if-goes (same_words given words) c (action.Spawn words)
 step_at-goes c (action.Spawn words) (entry.NoStart code given) = answers_if-goes (same_words given words) c (action.Spawn words)
 step_at-goes c (action.Send bytes) (entry.Chunk wait given) = λ h. refl
-step_at-goes c (action.Send bytes) (entry.ErrChunk wait given) = λ h. refl
 step_at-goes c (action.Send bytes) (entry.Silence wait) = λ h. refl
 step_at-goes c (action.Send bytes) (entry.Sent given) = answers_if-goes (same_bytes given bytes) c (action.Send bytes)
 step_at-goes c (action.Send bytes) (entry.NoSend code given) = answers_if-goes (same_bytes given bytes) c (action.Send bytes)
 step_at-goes c (action.Read limit) (entry.Chunk wait given) = arrives-goes (nat_le (unwrap_or c.wait wait) limit) c limit (unwrap_or c.wait wait)
-step_at-goes c (action.Read limit) (entry.ErrChunk wait given) = arrives-goes (nat_le (unwrap_or c.wait wait) limit) c limit (unwrap_or c.wait wait)
 step_at-goes c (action.Read limit) (entry.End wait) = arrives-goes (nat_le (unwrap_or c.wait wait) limit) c limit (unwrap_or c.wait wait)
 step_at-goes c (action.Read limit) (entry.Silence wait) = is_silent-goes (nat_lt (unwrap_or c.wait wait) limit) (unwrap_or c.wait wait == limit) c limit (unwrap_or c.wait wait)
 step_at-goes c (action.Read limit) (entry.NoRead code) = λ h. refl
 step_at-goes c action.Close (entry.Chunk wait given) = λ h. refl
-step_at-goes c action.Close (entry.ErrChunk wait given) = λ h. refl
 step_at-goes c action.Close (entry.Silence wait) = λ h. refl
 step_at-goes c action.Close entry.Closed = λ h. refl
 step_at-goes c action.Close (entry.NoClose code) = λ h. refl
@@ -189,17 +183,14 @@ step_at-rests : (c : Cursor) (a : Action) (e : Entry) → Rests c (step_at c a e
 step_at-rests c (action.Spawn words) (entry.Started given) = answers_if-rests (same_words given words) c (action.Spawn words)
 step_at-rests c (action.Spawn words) (entry.NoStart code given) = answers_if-rests (same_words given words) c (action.Spawn words)
 step_at-rests c (action.Send bytes) (entry.Chunk wait given) = tt
-step_at-rests c (action.Send bytes) (entry.ErrChunk wait given) = tt
 step_at-rests c (action.Send bytes) (entry.Silence wait) = tt
 step_at-rests c (action.Send bytes) (entry.Sent given) = answers_if-rests (same_bytes given bytes) c (action.Send bytes)
 step_at-rests c (action.Send bytes) (entry.NoSend code given) = answers_if-rests (same_bytes given bytes) c (action.Send bytes)
 step_at-rests c (action.Read limit) (entry.Chunk wait given) = arrives-rests (nat_le (unwrap_or c.wait wait) limit) c limit (unwrap_or c.wait wait)
-step_at-rests c (action.Read limit) (entry.ErrChunk wait given) = arrives-rests (nat_le (unwrap_or c.wait wait) limit) c limit (unwrap_or c.wait wait)
 step_at-rests c (action.Read limit) (entry.End wait) = arrives-rests (nat_le (unwrap_or c.wait wait) limit) c limit (unwrap_or c.wait wait)
 step_at-rests c (action.Read limit) (entry.Silence wait) = is_silent-rests (nat_lt (unwrap_or c.wait wait) limit) (unwrap_or c.wait wait == limit) c limit (unwrap_or c.wait wait)
 step_at-rests c (action.Read limit) (entry.NoRead code) = refl
 step_at-rests c action.Close (entry.Chunk wait given) = tt
-step_at-rests c action.Close (entry.ErrChunk wait given) = tt
 step_at-rests c action.Close (entry.Silence wait) = tt
 step_at-rests c action.Close entry.Closed = refl
 step_at-rests c action.Close (entry.NoClose code) = refl

@@ -51,8 +51,7 @@ impl Phase {
             Entry::End(_) | Entry::NoRead(_) => Phase::Ended,
             Entry::Closed | Entry::NoClose(_) => Phase::Closed,
             Entry::Exited(_) | Entry::Killed(_) | Entry::NoWait(_) => Phase::Waited,
-            Entry::Sent(_) | Entry::NoSend(..) => self,
-            Entry::Chunk(..) | Entry::ErrChunk(..) | Entry::Silence(_) => self,
+            Entry::Sent(_) | Entry::NoSend(..) | Entry::Chunk(..) | Entry::Silence(_) => self,
         }
     }
 }

@@ -5,11 +5,11 @@ use Rattle.std.specs.Result.{result_map_both}
 use Rattle.bstr.specs.Text.{lines_of}
 use Rattle.dg_transcript.specs.declared.cause.Cause.{Cause}
 use Rattle.dg_transcript.specs.declared.cause.Cause.TheVariants.{Truncated}
-use Rattle.dg_transcript.specs.Transcript.{TranscriptView}
+use Rattle.dg_transcript.specs.declared.entry.Entry.{Entry}
 use Rattle.dg_transcript.specs.declared.line.Line.{Line}
 use Rattle.dg_transcript.specs.Limits.{IsTranscript}
 use Rattle.dg_transcript.specs.Lines.{is_over, line_behind, place_of, Say, IsBad, IsFirstBad}
-use Rattle.dg_transcript.specs.Sessions.{transcript_in}
+use Rattle.dg_transcript.specs.Sessions.{sessions_in}
 use Rattle.dg_transcript.specs.Text.{text_of}
 use Rattle.dg_transcript.proofs.Texts.{text_found, text_unique, one_first_bad, no_first_bad}
 use Rattle.dg_transcript.specs.Decoded.{on_line, said_behind, decoded}
@@ -90,17 +90,17 @@ said_err before (t ∷ ts) n why h = step (line_behind before t) refl h (λ l. s
           bad = ap (λ ls. line_behind ls t) (append-nil before) ∙ e ∙ ap (λ c. Err c) same.1;
         }
 
-decoded_ok : (text : List ℕ) (t : TranscriptView) → decoded text ≡ Ok t → IsTranscript t × (text ≡ text_of t)
+decoded_ok : (text : List ℕ) (ss : List (List Entry)) → decoded text ≡ Ok ss → IsTranscript ss × (text ≡ text_of ss)
 unfolding decoded
-decoded_ok text t h = step (said_behind [] (lines_of text)) refl h
+decoded_ok text ss h = step (said_behind [] (lines_of text)) refl h
   where
-    step : (r : Told) → said_behind [] (lines_of text) ≡ r → result_map_both transcript_in (λ e. e) r ≡ Ok t → IsTranscript t × (text ≡ text_of t)
+    step : (r : Told) → said_behind [] (lines_of text) ≡ r → result_map_both sessions_in (λ e. e) r ≡ Ok ss → IsTranscript ss × (text ≡ text_of ss)
     step (Ok all) e g =
         let good = said_ok [] (lines_of text) all e in
-        let same : transcript_in all ≡ t = cc in
+        let same : sessions_in all ≡ ss = cc in
         let over = subst (λ ls. is_over (place_of ls) ≡ true) good.whole good.over in
         let found = text_found text good.said good.say over in
-        let these : transcript_in good.said ≡ t = sym (ap transcript_in good.whole) ∙ same in
+        let these : sessions_in good.said ≡ ss = sym (ap sessions_in good.whole) ∙ same in
         (subst IsTranscript these found.0, found.1 ∙ ap text_of these)
     step (Err e) f g = cc
 
@@ -108,7 +108,7 @@ decoded_err : (text : List ℕ) (n : ℕ) (why : Cause) → decoded text ≡ Err
 unfolding decoded
 decoded_err text n why h = step (said_behind [] (lines_of text)) refl h
   where
-    step : (r : Told) → said_behind [] (lines_of text) ≡ r → result_map_both transcript_in (λ e. e) r ≡ Err (n, why) → IsFirstBad text n why
+    step : (r : Told) → said_behind [] (lines_of text) ≡ r → result_map_both sessions_in (λ e. e) r ≡ Err (n, why) → IsFirstBad text n why
     step (Ok all) e g = cc
     step (Err p) e g =
         let fault : ℕ × Cause = (n, why) in
@@ -117,24 +117,24 @@ decoded_err text n why h = step (said_behind [] (lines_of text)) refl h
         (bad.said, bad.number ∙ omega arith, bad.say, bad.bad)
 
 -- what is spelled so is read
-pub decoded_of_text : (text : List ℕ) (t : TranscriptView) → IsTranscript t → text ≡ text_of t → decoded text ≡ Ok t
-decoded_of_text text t is same = step (decoded text) refl
+pub decoded_of_text : (text : List ℕ) (ss : List (List Entry)) → IsTranscript ss → text ≡ text_of ss → decoded text ≡ Ok ss
+decoded_of_text text ss is same = step (decoded text) refl
   where
-    step : (r : Result (TranscriptView) (ℕ × Cause)) → decoded text ≡ r → decoded text ≡ Ok t
-    step (Ok u) e = let found = decoded_ok text u e in e ∙ ap (λ (x : TranscriptView). Ok x) (text_unique u t found.0 is (sym found.1 ∙ same))
-    step (Err p) e = absurd (no_first_bad t p.0 p.1 is (subst (λ x. IsFirstBad x p.0 p.1) same (decoded_err text p.0 p.1 e)))
+    step : (r : Result (List (List Entry)) (ℕ × Cause)) → decoded text ≡ r → decoded text ≡ Ok ss
+    step (Ok ts) e = let found = decoded_ok text ts e in e ∙ ap (λ (x : List (List Entry)). Ok x) (text_unique ts ss found.0 is (sym found.1 ∙ same))
+    step (Err p) e = absurd (no_first_bad ss p.0 p.1 is (subst (λ t. IsFirstBad t p.0 p.1) same (decoded_err text p.0 p.1 e)))
 
 -- and a text with a first bad line is told by that
 pub decoded_of_bad : (text : List ℕ) (n : ℕ) (why : Cause) → IsFirstBad text n why → decoded text ≡ Err (n, why)
 decoded_of_bad text n why bad = step (decoded text) refl
   where
-    step : (r : Result (TranscriptView) (ℕ × Cause)) → decoded text ≡ r → decoded text ≡ Err (n, why)
-    step (Ok u) e = let found = decoded_ok text u e in absurd (no_first_bad u n why found.0 (subst (λ x. IsFirstBad x n why) found.1 bad))
+    step : (r : Result (List (List Entry)) (ℕ × Cause)) → decoded text ≡ r → decoded text ≡ Err (n, why)
+    step (Ok ts) e = let found = decoded_ok text ts e in absurd (no_first_bad ts n why found.0 (subst (λ t. IsFirstBad t n why) found.1 bad))
     step (Err p) e =
         let same = one_first_bad text p.0 n p.1 why (decoded_err text p.0 p.1 e) bad in
         e ∙ (λ i. Err (same.0 i, same.1 i))
 
-pub each_text : (text : List ℕ) → ((t : TranscriptView) → (decoded text ≡ Ok t) ↔ (IsTranscript t × (text ≡ text_of t)))
+pub each_text : (text : List ℕ) → ((ss : List (List Entry)) → (decoded text ≡ Ok ss) ↔ (IsTranscript ss × (text ≡ text_of ss)))
     × ((n : ℕ) (why : Cause) → (decoded text ≡ Err (n, why)) ↔ IsFirstBad text n why)
 each_text text =
-    (λ t. (decoded_ok text t, λ h. decoded_of_text text t h.0 h.1), λ n why. (decoded_err text n why, decoded_of_bad text n why))
+    (λ ss. (decoded_ok text ss, λ h. decoded_of_text text ss h.0 h.1), λ n why. (decoded_err text n why, decoded_of_bad text n why))

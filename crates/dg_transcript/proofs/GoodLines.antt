@@ -1,10 +1,9 @@
 -- What a good line is, and what the lines so far come to.
 use Rattle.std.proofs.Common.{◌≡◌, ℕ, zero, suc, ◌+◌, ◌≤◌, Bool, true, false, cond, List, [], ◌∷◌, ◌++◌, length, take, drop, Option, Some, None, Ok, Err, refl, sym, ap, subst, ◌∙◌, append_assoc, arith}
-use Rattle.std.specs.Prelude.{Result, ◌==◌, slice_get, count_by}
+use Rattle.std.specs.Prelude.{Result, ◌==◌, slice_get, codes, count_by}
 use Rattle.std.proofs.lemmas.Bool.{and_parts, leb-false}
 use Rattle.std.proofs.lemmas.List.{length-append, append-nil}
 use Rattle.std.proofs.lemmas.List.Sums.{sum_by-append}
-use Rattle.std.specs.Cmp.Lexicographic.{bytes_decides}
 use Rattle.bstr.specs.Text.{lines_of}
 use Rattle.dg_transcript.specs.declared.cause.Cause.{Cause}
 use Rattle.dg_transcript.specs.declared.cause.Cause.TheVariants as cause
@@ -14,32 +13,26 @@ use Rattle.dg_transcript.specs.declared.line.Role.{Role}
 use Rattle.dg_transcript.specs.declared.line.Role.TheVariants as role
 use Rattle.dg_transcript.specs.declared.line.Place.{Place}
 use Rattle.dg_transcript.specs.declared.line.Place.TheVariants as place
-use Rattle.dg_transcript.specs.declared.version.Version.{Version}
-use Rattle.dg_transcript.specs.declared.version.Version.TheVariants.{One, Two}
-use Rattle.dg_transcript.specs.Transcript.{header}
 use Rattle.dg_transcript.specs.Order.{role_of, admits, opens_session, after_role, after_line}
 use Rattle.dg_bytes.specs.Chain.{◌>>=◌}
 use Rattle.dg_transcript.specs.Fields.{Fails, read_line}
 use Rattle.dg_bytes.specs.Same.{same_bytes}
-use Rattle.dg_transcript.specs.Lines.{is_session, is_said, is_over, after_version, version_from, place_from, place_of, may_come, is_past, placed, ends_line, body, header_in, whole_line_at, line_at, line_behind, Say, IsBad, IsFault, Takes}
+use Rattle.dg_transcript.specs.Lines.{is_session, is_said, is_over, place_from, place_of, may_come, is_past, placed, ends_line, body, whole_line_at, line_at, line_behind, Say, IsBad, IsFault, Takes}
 use Rattle.dg_transcript.specs.Kept.{Keeps, next_of, other_lines}
 
-same_is : (xs ys : List ℕ) → same_bytes xs ys ≡ true → xs ≡ ys
-same_is xs ys h = (bytes_decides xs ys).0 h
-
 -- the line says l, which may come there
-pub record MayCome (v : Version) (p : Place) (sessions entries : ℕ) (text : List ℕ) (l : Line) : Type 0 where
-  pub read : read_line v (body text) ≡ Ok l
+pub record MayCome (p : Place) (sessions entries : ℕ) (text : List ℕ) (l : Line) : Type 0 where
+  pub read : read_line (body text) ≡ Ok l
   pub comes : may_come p sessions l ≡ true
   pub within : is_past sessions entries l ≡ false
 
-abbrev pub IsGoodAt : Version → Place → ℕ → ℕ → List ℕ → Line → Type 0
-IsGoodAt v place.Top s e text l = (w : Version) × (same_bytes text (header w) ≡ true) × (l ≡ line.Header w)
-IsGoodAt v place.Over s e text l = ⊥
-IsGoodAt v place.Between s e text l = MayCome v place.Between s e text l
-IsGoodAt v place.Opened s e text l = MayCome v place.Opened s e text l
-IsGoodAt v place.Running s e text l = MayCome v place.Running s e text l
-IsGoodAt v place.Ended s e text l = MayCome v place.Ended s e text l
+abbrev pub IsGoodAt : Place → ℕ → ℕ → List ℕ → Line → Type 0
+IsGoodAt place.Top s e text l = (same_bytes text (codes "dejagnu-transcript 1\n") ≡ true) × (l ≡ line.Header)
+IsGoodAt place.Over s e text l = ⊥
+IsGoodAt place.Between s e text l = MayCome place.Between s e text l
+IsGoodAt place.Opened s e text l = MayCome place.Opened s e text l
+IsGoodAt place.Running s e text l = MayCome place.Running s e text l
+IsGoodAt place.Ended s e text l = MayCome place.Ended s e text l
 
 pub guard_ok : {A : Type 0} (b : Bool) (r : Result A Cause) (c : Cause) (y : A) → cond b r (Err c) ≡ Ok y → (b ≡ true) × (r ≡ Ok y)
 guard_ok true r c y e = (refl, e)
@@ -63,69 +56,47 @@ placed_ok p s e m l h =
     let same : m ≡ l = ok_is m l b.1 in
     (same, subst (λ (x : Line). may_come p s x ≡ true) same a.0, subst (λ (x : Line). is_past s e x ≡ false) same b.0)
 
-read_ok : (v : Version) (p : Place) (s e : ℕ) (text : List ℕ) (l : Line) → (read_line v (body text) >>= placed p s e) ≡ Ok l → MayCome v p s e text l
-read_ok v p s e text l h =
-    let a = bind_ok (read_line v (body text)) (placed p s e) l h in
+read_ok : (p : Place) (s e : ℕ) (text : List ℕ) (l : Line) → (read_line (body text) >>= placed p s e) ≡ Ok l → MayCome p s e text l
+read_ok p s e text l h =
+    let a = bind_ok (read_line (body text)) (placed p s e) l h in
     let b = placed_ok p s e a.0 l a.2 in
     record { read = a.1 ∙ ap (λ (x : Line). Ok x) b.0; comes = b.1; within = b.2 }
 
-two_ok : (b : Bool) (text : List ℕ) (l : Line) → same_bytes text (header Two) ≡ b → cond b (Ok (line.Header Two)) (Err cause.Header) ≡ Ok l
-    → (w : Version) × (same_bytes text (header w) ≡ true) × (l ≡ line.Header w)
-two_ok true text l is h = (Two, is, sym (ok_is (line.Header Two) l h))
-two_ok false text l is h = absurd cc
-
-one_ok : (b : Bool) (text : List ℕ) (l : Line) → same_bytes text (header One) ≡ b
-    → cond b (Ok (line.Header One)) (cond (same_bytes text (header Two)) (Ok (line.Header Two)) (Err cause.Header)) ≡ Ok l
-    → (w : Version) × (same_bytes text (header w) ≡ true) × (l ≡ line.Header w)
-one_ok true text l is h = (One, is, sym (ok_is (line.Header One) l h))
-one_ok false text l is h = two_ok (same_bytes text (header Two)) text l refl h
-
-header_ok : (text : List ℕ) (l : Line) → header_in text ≡ Ok l → (w : Version) × (same_bytes text (header w) ≡ true) × (l ≡ line.Header w)
-header_ok text l h = one_ok (same_bytes text (header One)) text l refl h
-
-whole_ok : (v : Version) (p : Place) (s e : ℕ) (text : List ℕ) (l : Line) → whole_line_at v p s e text ≡ Ok l → IsGoodAt v p s e text l
+whole_ok : (p : Place) (s e : ℕ) (text : List ℕ) (l : Line) → whole_line_at p s e text ≡ Ok l → IsGoodAt p s e text l
 unfolding whole_line_at
-whole_ok v place.Top s e text l h = header_ok text l h
-whole_ok v place.Over s e text l h = absurd cc
-whole_ok v place.Between s e text l h = read_ok v place.Between s e text l h
-whole_ok v place.Opened s e text l h = read_ok v place.Opened s e text l h
-whole_ok v place.Running s e text l h = read_ok v place.Running s e text l h
-whole_ok v place.Ended s e text l h = read_ok v place.Ended s e text l h
+whole_ok place.Top s e text l h =
+    let a = guard_ok (same_bytes text (codes "dejagnu-transcript 1\n")) (Ok line.Header) cause.Header l h in
+    (a.0, sym (ok_is line.Header l a.1))
+whole_ok place.Over s e text l h = absurd cc
+whole_ok place.Between s e text l h = read_ok place.Between s e text l h
+whole_ok place.Opened s e text l h = read_ok place.Opened s e text l h
+whole_ok place.Running s e text l h = read_ok place.Running s e text l h
+whole_ok place.Ended s e text l h = read_ok place.Ended s e text l h
 
-pub line_ok : (v : Version) (p : Place) (s e : ℕ) (text : List ℕ) (l : Line) → line_at v p s e text ≡ Ok l → (ends_line text ≡ true) × IsGoodAt v p s e text l
+pub line_ok : (p : Place) (s e : ℕ) (text : List ℕ) (l : Line) → line_at p s e text ≡ Ok l → (ends_line text ≡ true) × IsGoodAt p s e text l
 unfolding line_at
-line_ok v p s e text l h =
-    let a = guard_ok (ends_line text) (whole_line_at v p s e text) cause.Truncated l h in
-    (a.0, whole_ok v p s e text l a.1)
+line_ok p s e text l h =
+    let a = guard_ok (ends_line text) (whole_line_at p s e text) cause.Truncated l h in
+    (a.0, whole_ok p s e text l a.1)
 
 -- a good line is read
-come_read : (v : Version) (p : Place) (s e : ℕ) (text : List ℕ) (l : Line) → MayCome v p s e text l → (read_line v (body text) >>= placed p s e) ≡ Ok l
-come_read v p s e text l h = rw (h.read, h.comes, h.within) refl
+come_read : (p : Place) (s e : ℕ) (text : List ℕ) (l : Line) → MayCome p s e text l → (read_line (body text) >>= placed p s e) ≡ Ok l
+come_read p s e text l h = rw (h.read, h.comes, h.within) refl
 
-header_good : (w : Version) (text : List ℕ) (l : Line) → same_bytes text (header w) ≡ true → l ≡ line.Header w → header_in text ≡ Ok l
-header_good One text l is h = rw is (ap (λ (x : Line). Ok x) (sym h))
-header_good Two text l is h =
-    let other : same_bytes text (header One) ≡ false = subst (λ (t : List ℕ). same_bytes t (header One) ≡ false) (sym (same_is text (header Two) is)) refl in
-    rw (other, is) (ap (λ (x : Line). Ok x) (sym h))
-
-whole_good : (v : Version) (p : Place) (s e : ℕ) (text : List ℕ) (l : Line) → IsGoodAt v p s e text l → whole_line_at v p s e text ≡ Ok l
+whole_good : (p : Place) (s e : ℕ) (text : List ℕ) (l : Line) → IsGoodAt p s e text l → whole_line_at p s e text ≡ Ok l
 unfolding whole_line_at
-whole_good v place.Top s e text l h = header_good h.0 text l h.1 h.2
-whole_good v place.Over s e text l h = absurd h
-whole_good v place.Between s e text l h = come_read v place.Between s e text l h
-whole_good v place.Opened s e text l h = come_read v place.Opened s e text l h
-whole_good v place.Running s e text l h = come_read v place.Running s e text l h
-whole_good v place.Ended s e text l h = come_read v place.Ended s e text l h
+whole_good place.Top s e text l h = rw h.0 (ap (λ (x : Line). Ok x) (sym h.1))
+whole_good place.Over s e text l h = absurd h
+whole_good place.Between s e text l h = come_read place.Between s e text l h
+whole_good place.Opened s e text l h = come_read place.Opened s e text l h
+whole_good place.Running s e text l h = come_read place.Running s e text l h
+whole_good place.Ended s e text l h = come_read place.Ended s e text l h
 
-pub line_good : (v : Version) (p : Place) (s e : ℕ) (text : List ℕ) (l : Line) → ends_line text ≡ true → IsGoodAt v p s e text l → line_at v p s e text ≡ Ok l
+pub line_good : (p : Place) (s e : ℕ) (text : List ℕ) (l : Line) → ends_line text ≡ true → IsGoodAt p s e text l → line_at p s e text ≡ Ok l
 unfolding line_at
-line_good v p s e text l ends h = rw ends (whole_good v p s e text l h)
+line_good p s e text l ends h = rw ends (whole_good p s e text l h)
 
 -- ---- counts
-
-pub version_from-push : (v : Version) (ls : List Line) (l : Line) → version_from v (ls ++ l ∷ []) ≡ after_version (version_from v ls) l
-version_from-push v [] l = refl
-version_from-push v (x ∷ ls) l = version_from-push (after_version v x) ls l
 
 pub count-push : (test : Line → Bool) (ls : List Line) (l : Line) → count_by test (ls ++ l ∷ []) ≡ count_by test ls + cond (test l) 1 0
 count-push test ls l = omega (arith, sum_by-append (λ (x : Line). cond (test x) 1 0) ls (l ∷ []))
@@ -163,7 +134,7 @@ opens_counts place.Over h = absurd cc
 -- the counts behind a line that may come
 step_come : (p : Place) (s e : ℕ) (l : Line) → s ≤ 64 → e ≤ 65536 → may_come p s l ≡ true → is_past s e l ≡ false
     → ((next_of l s e).1 ≤ 64) × ((next_of l s e).2 ≤ 65536) × (other_lines (next_of l s e).0 + (next_of l s e).1 + (next_of l s e).2 ≡ other_lines p + s + e + 1)
-step_come p s e (line.Header w) fs fe come past = absurd cc
+step_come p s e line.Header fs fe come past = absurd cc
 step_come p s e (line.Session n) fs fe come past =
     let few = leb-false 64 s past in
     let one = opens_counts p (and_parts (opens_session p) (n == s + 1) come).0 in
@@ -177,38 +148,37 @@ step_come p s e line.Done fs fe come past = let one = opens_counts p come in (fs
 abbrev Counts : Place → ℕ → ℕ → Line → Type 0
 Counts p s e l = ((next_of l s e).1 ≤ 64) × ((next_of l s e).2 ≤ 65536) × (other_lines (next_of l s e).0 + (next_of l s e).1 + (next_of l s e).2 ≡ other_lines p + s + e + 1)
 
-step_good : (v : Version) (p : Place) (s e : ℕ) (text : List ℕ) (l : Line) → s ≤ 64 → e ≤ 65536 → IsGoodAt v p s e text l → Counts p s e l
-step_good v place.Top s e text l fs fe h = subst (Counts place.Top s e) (sym h.2) (fs, fe, omega arith)
-step_good v place.Over s e text l fs fe h = absurd h
-step_good v place.Between s e text l fs fe h = step_come place.Between s e l fs fe h.comes h.within
-step_good v place.Opened s e text l fs fe h = step_come place.Opened s e l fs fe h.comes h.within
-step_good v place.Running s e text l fs fe h = step_come place.Running s e l fs fe h.comes h.within
-step_good v place.Ended s e text l fs fe h = step_come place.Ended s e l fs fe h.comes h.within
+step_good : (p : Place) (s e : ℕ) (text : List ℕ) (l : Line) → s ≤ 64 → e ≤ 65536 → IsGoodAt p s e text l → Counts p s e l
+step_good place.Top s e text l fs fe h = subst (Counts place.Top s e) (sym h.1) (fs, fe, omega arith)
+step_good place.Over s e text l fs fe h = absurd h
+step_good place.Between s e text l fs fe h = step_come place.Between s e l fs fe h.comes h.within
+step_good place.Opened s e text l fs fe h = step_come place.Opened s e l fs fe h.comes h.within
+step_good place.Running s e text l fs fe h = step_come place.Running s e l fs fe h.comes h.within
+step_good place.Ended s e text l fs fe h = step_come place.Ended s e l fs fe h.comes h.within
 
 next_place : (l : Line) (s e : ℕ) → after_line l ≡ (next_of l s e).0
-next_place (line.Header w) s e = refl
+next_place line.Header s e = refl
 next_place (line.Session n) s e = refl
 next_place (line.Said x) s e = refl
 next_place line.Done s e = refl
 
 next_begun : (l : Line) (s e : ℕ) → s + cond (is_session l) 1 0 ≡ (next_of l s e).1
-next_begun (line.Header w) s e = omega arith
+next_begun line.Header s e = omega arith
 next_begun (line.Session n) s e = refl
 next_begun (line.Said x) s e = omega arith
 next_begun line.Done s e = omega arith
 
 next_said : (l : Line) (s e : ℕ) → e + cond (is_said l) 1 0 ≡ (next_of l s e).2
-next_said (line.Header w) s e = omega arith
+next_said line.Header s e = omega arith
 next_said (line.Session n) s e = omega arith
 next_said (line.Said x) s e = refl
 next_said line.Done s e = omega arith
 
-pub keeps_more : (ls new : List Line) (v : Version) (p : Place) (s e : ℕ) (next : Place × ℕ × ℕ) (text : List ℕ) (l : Line) → Keeps ls v p s e → line_at v p s e text ≡ Ok l → new ≡ ls ++ l ∷ [] → next ≡ next_of l s e
-    → Keeps new (after_version v l) next.0 next.1 next.2
-keeps_more ls new v p s e next text l k read added goes =
-    let counts = step_good v p s e text l k.few_begun k.few_said (line_ok v p s e text l read).1 in
-    let made : Keeps (ls ++ l ∷ []) (after_version v l) (next_of l s e).0 (next_of l s e).1 (next_of l s e).2 = record {
-      told = version_from-push One ls l ∙ ap (λ (w : Version). after_version w l) k.told;
+pub keeps_more : (ls new : List Line) (p : Place) (s e : ℕ) (next : Place × ℕ × ℕ) (text : List ℕ) (l : Line) → Keeps ls p s e → line_at p s e text ≡ Ok l → new ≡ ls ++ l ∷ [] → next ≡ next_of l s e
+    → Keeps new next.0 next.1 next.2
+keeps_more ls new p s e next text l k read added goes =
+    let counts = step_good p s e text l k.few_begun k.few_said (line_ok p s e text l read).1 in
+    let made : Keeps (ls ++ l ∷ []) (next_of l s e).0 (next_of l s e).1 (next_of l s e).2 = record {
       here = place_from-push place.Top ls l ∙ next_place l s e;
       begun = count-push is_session ls l ∙ ap (λ n. n + cond (is_session l) 1 0) k.begun ∙ next_begun l s e;
       said = count-push is_said ls l ∙ ap (λ n. n + cond (is_said l) 1 0) k.said ∙ next_said l s e;

@@ -52,18 +52,15 @@ module _ (add : List ℕ → List ℕ → List ℕ) where
   steps_replay c (action.Spawn words) buffer (entry.Started given ∷ es) room = first c (action.Spawn words) (entry.Started given) es buffer (omega arith) ∙ answer (same_words given words) c (action.Spawn words) (entry.Started given) es buffer
   steps_replay c (action.Spawn words) buffer (entry.NoStart code given ∷ es) room = first c (action.Spawn words) (entry.NoStart code given) es buffer (omega arith) ∙ answer (same_words given words) c (action.Spawn words) (entry.NoStart code given) es buffer
   steps_replay c (action.Send bytes) buffer (entry.Chunk wait given ∷ es) room = first c (action.Send bytes) (entry.Chunk wait given) es buffer (omega arith) ∙ steps_replay (gone_on c) (action.Send bytes) (add buffer given) es (omega arith)
-  steps_replay c (action.Send bytes) buffer (entry.ErrChunk wait given ∷ es) room = first c (action.Send bytes) (entry.ErrChunk wait given) es buffer (omega arith) ∙ steps_replay (gone_on c) (action.Send bytes) (add buffer given) es (omega arith)
   steps_replay c (action.Send bytes) buffer (entry.Silence wait ∷ es) room = first c (action.Send bytes) (entry.Silence wait) es buffer (omega arith) ∙ steps_replay (gone_on c) (action.Send bytes) buffer es (omega arith)
   steps_replay c (action.Send bytes) buffer (entry.Sent given ∷ es) room = first c (action.Send bytes) (entry.Sent given) es buffer (omega arith) ∙ answer (same_bytes given bytes) c (action.Send bytes) (entry.Sent given) es buffer
   steps_replay c (action.Send bytes) buffer (entry.NoSend code given ∷ es) room = first c (action.Send bytes) (entry.NoSend code given) es buffer (omega arith) ∙ answer (same_bytes given bytes) c (action.Send bytes) (entry.NoSend code given) es buffer
   steps_replay c (action.Read limit) buffer (entry.Chunk whole given ∷ es) room = first c (action.Read limit) (entry.Chunk whole given) es buffer (omega arith) ∙ arrive (nat_le (unwrap_or c.wait whole) limit) c limit (unwrap_or c.wait whole) (entry.Chunk whole given) es buffer
-  steps_replay c (action.Read limit) buffer (entry.ErrChunk whole given ∷ es) room = first c (action.Read limit) (entry.ErrChunk whole given) es buffer (omega arith) ∙ arrive (nat_le (unwrap_or c.wait whole) limit) c limit (unwrap_or c.wait whole) (entry.ErrChunk whole given) es buffer
   steps_replay c (action.Read limit) buffer (entry.End whole ∷ es) room = first c (action.Read limit) (entry.End whole) es buffer (omega arith) ∙ arrive (nat_le (unwrap_or c.wait whole) limit) c limit (unwrap_or c.wait whole) (entry.End whole) es buffer
   steps_replay c (action.Read limit) buffer (entry.Silence whole ∷ es) room =
       first c (action.Read limit) (entry.Silence whole) es buffer (omega arith)
       ∙ silent_step (nat_lt (unwrap_or c.wait whole) limit) c limit (unwrap_or c.wait whole) whole es buffer (steps_replay (gone_on c) (action.Read (limit - unwrap_or c.wait whole)) buffer es (omega arith))
   steps_replay c action.Close buffer (entry.Chunk wait given ∷ es) room = first c action.Close (entry.Chunk wait given) es buffer (omega arith) ∙ steps_replay (gone_on c) action.Close [] es (omega arith)
-  steps_replay c action.Close buffer (entry.ErrChunk wait given ∷ es) room = first c action.Close (entry.ErrChunk wait given) es buffer (omega arith) ∙ steps_replay (gone_on c) action.Close [] es (omega arith)
   steps_replay c action.Close buffer (entry.Silence wait ∷ es) room = first c action.Close (entry.Silence wait) es buffer (omega arith) ∙ steps_replay (gone_on c) action.Close [] es (omega arith)
   steps_replay c action.Wait buffer (entry.Exited status ∷ es) room = first c action.Wait (entry.Exited status) es buffer (omega arith)
   steps_replay c a buffer (e ∷ es) room = first c a e es buffer (omega arith)

@@ -1,12 +1,9 @@
 -- Lines, written one field after the other.
-use Rattle.std.proofs.Common.{◌≡◌, ℕ, suc, ◌+◌, ◌<◌, ◌≤◌, List, [], ◌∷◌, ◌++◌, length, map, flat_map, take, get_or, refl, sym, ap, ◌∙◌, append_assoc, arith}
+use Rattle.std.proofs.Common.{◌≡◌, ℕ, suc, ◌+◌, ◌<◌, ◌≤◌, List, [], ◌∷◌, ◌++◌, length, map, flat_map, take, get_or, sym, ap, ◌∙◌, append_assoc, arith}
 use Rattle.std.specs.Prelude.{Result, Ok, Err, OnOk, codes, decimal}
 use Rattle.std.specs.List.{join_with_byte}
 use Rattle.std.proofs.lemmas.List.{append-nil}
 use Rattle.dg_transcript.specs.Text.{word_field, entry_fields, line_text, sessions_lines, text_of}
-use Rattle.dg_transcript.specs.declared.version.Version.{Version}
-use Rattle.dg_transcript.specs.declared.version.Version.TheVariants.{One, Two}
-use Rattle.dg_transcript.specs.Transcript.{header}
 use Rattle.dg_transcript.specs.declared.entry.Entry.{Entry}
 use Rattle.dg_transcript.specs.declared.line.Line.TheVariants as line
 use Rattle.std.proofs.lemmas.List.{take_more, take_all, length-take}
@@ -76,21 +73,15 @@ text_more so_far new front ss i k d lt number before more =
     ∙ append_assoc front (flat_map line_text (sessions_lines 1 (take i ss))) _
     ∙ ap (λ t. front ++ t) (sym (ap (flat_map line_text) lines ∙ flat_map-append line_text (sessions_lines 1 (take i ss)) (line.Session k ∷ map line.Said s)))
 
-header_line : (v : Version) → header v ≡ line_text (line.Header v)
-unfolding line_text
-header_line One = refl
-header_line Two = refl
-
 -- the whole text, once the last line is written
-pub text_whole : (so_far new : List ℕ) (v : Version) (ss : List (List Entry)) (i : ℕ) → length ss ≤ i
-    → so_far ≡ header v ++ flat_map line_text (sessions_lines 1 (take i ss)) → new ≡ so_far ++ codes "done\n" → new ≡ text_of (record { version = v; sessions = ss })
+pub text_whole : (so_far new : List ℕ) (ss : List (List Entry)) (i : ℕ) → length ss ≤ i
+    → so_far ≡ codes "dejagnu-transcript 1\n" ++ flat_map line_text (sessions_lines 1 (take i ss)) → new ≡ so_far ++ codes "done\n" → new ≡ text_of ss
 unfolding line_text text_of
-text_whole so_far new v ss i le before last =
+text_whole so_far new ss i le before last =
     let all : flat_map line_text (sessions_lines 1 (take i ss)) ≡ flat_map line_text (sessions_lines 1 ss) = ap (λ t. flat_map line_text (sessions_lines 1 t)) (take_all i ss le) in
-    last ∙ ap (λ t. t ++ codes "done\n") (before ∙ ap (λ t. header v ++ t) all)
-    ∙ append_assoc (header v) (flat_map line_text (sessions_lines 1 ss)) (codes "done\n")
-    ∙ ap (λ t. header v ++ t) (sym (flat_map-append line_text (sessions_lines 1 ss) (line.Done ∷ [])))
-    ∙ ap (λ t. t ++ flat_map line_text (sessions_lines 1 ss ++ line.Done ∷ [])) (header_line v)
+    last ∙ ap (λ t. t ++ codes "done\n") (before ∙ ap (λ t. codes "dejagnu-transcript 1\n" ++ t) all)
+    ∙ append_assoc (codes "dejagnu-transcript 1\n") (flat_map line_text (sessions_lines 1 ss)) (codes "done\n")
+    ∙ ap (λ t. codes "dejagnu-transcript 1\n" ++ t) (sym (flat_map-append line_text (sessions_lines 1 ss) (line.Done ∷ [])))
 
 -- the same with a field between the first and the words
 pub behind_code : {E : Type 0} (r : Result (Unit {0}) E) (out mid new k f : List ℕ) (words : List (List ℕ)) → mid ≡ out ++ (k ++ (32 ∷ f))

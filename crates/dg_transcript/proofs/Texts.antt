@@ -1,6 +1,6 @@
 -- A text of good lines is that of a transcript, and each transcript's text has good lines.
 use Rattle.std.proofs.Common.{◌≡◌, ℕ, suc, ◌+◌, ◌-◌, ◌<◌, ◌≤◌, true, false, cond, List, [], ◌∷◌, ◌++◌, length, map, flat_map, take, Option, Some, None, Ok, Err, refl, sym, ap, subst, ◌∙◌, append_assoc, arith}
-use Rattle.std.specs.Prelude.{Result, ◌==◌, nat_lt, slice_index, slice_get, count_by}
+use Rattle.std.specs.Prelude.{Result, ◌==◌, nat_lt, codes, slice_index, slice_get, count_by}
 use Rattle.std.specs.List.{AllByRecursion, join_with_byte, concat}
 use Rattle.std.proofs.lemmas.Bool.{and_parts, eqb-true, eq-eqb, leb-false, ltb-true, lt-ltb}
 use Rattle.std.proofs.lemmas.List.{length-append, append-nil, take_at}
@@ -8,23 +8,21 @@ use Rattle.bstr.specs.Text.{lines_of}
 use Rattle.bstr.proofs.lemmas.RestLemmas.{concat-lines_of}
 use Rattle.dg_transcript.specs.declared.cause.Cause.{Cause}
 use Rattle.dg_transcript.specs.declared.cause.Cause.TheVariants as cause
+use Rattle.dg_transcript.specs.declared.entry.Entry.{Entry}
 use Rattle.dg_transcript.specs.declared.line.Line.{Line}
 use Rattle.dg_transcript.specs.declared.line.Line.TheVariants as line
 use Rattle.dg_transcript.specs.declared.line.Place.{Place}
 use Rattle.dg_transcript.specs.declared.line.Place.TheVariants as place
-use Rattle.dg_transcript.specs.declared.version.Version.{Version}
-use Rattle.dg_transcript.specs.declared.version.Version.TheVariants.{One, Two}
-use Rattle.dg_transcript.specs.Transcript.{TranscriptView, header}
 use Rattle.dg_transcript.specs.Order.{opens_session, after_line}
 use Rattle.dg_transcript.specs.Limits.{IsTranscript}
 use Rattle.dg_bytes.specs.Same.{same_bytes}
 use Rattle.dg_transcript.specs.Fields.{read_line}
 use Rattle.dg_transcript.specs.Text.{line_fields, line_text, sessions_lines, transcript_lines, text_of}
-use Rattle.dg_transcript.specs.Sessions.{transcript_in}
-use Rattle.dg_transcript.specs.Lines.{is_session, is_said, is_over, after_version, version_of, place_of, may_come, ends_line, body, line_at, line_behind, Say, IsBad, IsFirstBad, IsFault}
-use Rattle.dg_transcript.proofs.GoodLines.{MayCome, IsGoodAt, line_ok, line_good, count-push, version_from-push, place_from-push}
+use Rattle.dg_transcript.specs.Sessions.{sessions_in}
+use Rattle.dg_transcript.specs.Lines.{is_session, is_said, is_over, place_of, may_come, ends_line, body, line_at, line_behind, Say, IsBad, IsFirstBad, IsFault}
+use Rattle.dg_transcript.proofs.GoodLines.{MayCome, IsGoodAt, line_ok, line_good, count-push, place_from-push}
 use Rattle.dg_transcript.proofs.FieldsRead.{same_is}
-use Rattle.dg_transcript.proofs.Ordered.{Fitting, Comes, Run, more_begun, more_said, whole, run_transcript, transcript_back}
+use Rattle.dg_transcript.proofs.Ordered.{Fitting, Comes, Run, more_begun, more_said, whole, run_transcript, sessions_back}
 use Rattle.dg_transcript.proofs.Plain.{has_no_feed, joined_no_feed, cut_lines}
 use Rattle.dg_transcript.proofs.Spelled.{IsSmall, IsLower, line_takes, line_again, line_plain}
 
@@ -35,14 +33,6 @@ front l = join_with_byte 32 (line_fields l)
 text-front : (l : Line) → line_text l ≡ front l ++ 10 ∷ []
 unfolding line_text
 text-front l = refl
-
-header_text : (w : Version) → front (line.Header w) ++ 10 ∷ [] ≡ header w
-header_text One = refl
-header_text Two = refl
-
-header_same : (w : Version) → same_bytes (front (line.Header w) ++ 10 ∷ []) (header w) ≡ true
-header_same One = refl
-header_same Two = refl
 
 -- ---- one line
 
@@ -75,133 +65,128 @@ ended t h =
     body_and_last t (ltb-true 0 (length t) parts.0) (eqb-true _ 10 parts.1)
 
 small_of : (p : Place) (s : ℕ) (l : Line) → s ≤ 64 → may_come p s l ≡ true → IsSmall l
-small_of p s (line.Header w) few come = tt
+small_of p s line.Header few come = tt
 small_of p s (line.Session n) few come = let number = eqb-true n (s + 1) (and_parts (opens_session p) (n == s + 1) come).1 in omega (arith, number)
 small_of p s (line.Said e) few come = tt
 small_of p s line.Done few come = tt
 
-lower_of : (v : Version) (p : Place) (s e : ℕ) (l : Line) → s ≤ 64 → Fitting v p s e l → IsLower v l
-lower_of v p s e (line.Header w) few h = let bad = h.comes in absurd cc
-lower_of v p s e (line.Session n) few h = let number = eqb-true n (s + 1) (and_parts (opens_session p) (n == s + 1) h.comes).1 in omega (arith, number)
-lower_of v p s e (line.Said x) few h = h.fits
-lower_of v p s e line.Done few h = tt
+lower_of : (p : Place) (s e : ℕ) (l : Line) → s ≤ 64 → Fitting p s e l → IsLower l
+lower_of p s e line.Header few h = let bad = h.comes in absurd cc
+lower_of p s e (line.Session n) few h = let number = eqb-true n (s + 1) (and_parts (opens_session p) (n == s + 1) h.comes).1 in omega (arith, number)
+lower_of p s e (line.Said x) few h = h.fits
+lower_of p s e line.Done few h = tt
 
-come_takes : (v : Version) (p : Place) (s e : ℕ) (t : List ℕ) (l : Line) → s ≤ 64 → ends_line t ≡ true → MayCome v p s e t l → (t ≡ line_text l) × Fitting v p s e l
-come_takes v p s e t l few ends h =
-    let r = line_takes v (body t) l h.read (small_of p s l few h.comes) in
+come_takes : (p : Place) (s e : ℕ) (t : List ℕ) (l : Line) → s ≤ 64 → ends_line t ≡ true → MayCome p s e t l → (t ≡ line_text l) × Fitting p s e l
+come_takes p s e t l few ends h =
+    let r = line_takes (body t) l h.read (small_of p s l few h.comes) in
     (ended t ends ∙ ap (λ (xs : List ℕ). xs ++ 10 ∷ []) r.0 ∙ sym (text-front l), record { comes = h.comes; within = h.within; fits = r.1 })
 
-good_takes : (v : Version) (p : Place) (s e : ℕ) (t : List ℕ) (l : Line) → s ≤ 64 → ends_line t ≡ true → IsGoodAt v p s e t l → (t ≡ line_text l) × Comes v p s e l
-good_takes v place.Top s e t l few ends h = (same_is t (header h.0) h.1 ∙ sym (ap line_text h.2 ∙ text-front (line.Header h.0) ∙ header_text h.0), (h.0, h.2))
-good_takes v place.Over s e t l few ends h = absurd h
-good_takes v place.Between s e t l few ends h = come_takes v place.Between s e t l few ends h
-good_takes v place.Opened s e t l few ends h = come_takes v place.Opened s e t l few ends h
-good_takes v place.Running s e t l few ends h = come_takes v place.Running s e t l few ends h
-good_takes v place.Ended s e t l few ends h = come_takes v place.Ended s e t l few ends h
+good_takes : (p : Place) (s e : ℕ) (t : List ℕ) (l : Line) → s ≤ 64 → ends_line t ≡ true → IsGoodAt p s e t l → (t ≡ line_text l) × Comes p s e l
+good_takes place.Top s e t l few ends h = (same_is t (codes "dejagnu-transcript 1\n") h.0 ∙ sym (ap line_text h.1 ∙ text-front line.Header), h.1)
+good_takes place.Over s e t l few ends h = absurd h
+good_takes place.Between s e t l few ends h = come_takes place.Between s e t l few ends h
+good_takes place.Opened s e t l few ends h = come_takes place.Opened s e t l few ends h
+good_takes place.Running s e t l few ends h = come_takes place.Running s e t l few ends h
+good_takes place.Ended s e t l few ends h = come_takes place.Ended s e t l few ends h
 
-fitting_good : (v : Version) (p : Place) (s e : ℕ) (l : Line) → s ≤ 64 → Fitting v p s e l → MayCome v p s e (front l ++ 10 ∷ []) l
-fitting_good v p s e l few h = record {
-  read = ap (read_line v) (body_again (front l)) ∙ line_again v l (lower_of v p s e l few h);
+fitting_good : (p : Place) (s e : ℕ) (l : Line) → s ≤ 64 → Fitting p s e l → MayCome p s e (front l ++ 10 ∷ []) l
+fitting_good p s e l few h = record {
+  read = ap read_line (body_again (front l)) ∙ line_again l (lower_of p s e l few h);
   comes = h.comes;
   within = h.within;
 }
 
-come_good : (v : Version) (p : Place) (s e : ℕ) (l : Line) → s ≤ 64 → Comes v p s e l → IsGoodAt v p s e (front l ++ 10 ∷ []) l
-come_good v place.Top s e l few h = (h.0, subst (λ (x : Line). same_bytes (front x ++ 10 ∷ []) (header h.0) ≡ true) (sym h.1) (header_same h.0), h.1)
-come_good v place.Over s e l few h = absurd h
-come_good v place.Between s e l few h = fitting_good v place.Between s e l few h
-come_good v place.Opened s e l few h = fitting_good v place.Opened s e l few h
-come_good v place.Running s e l few h = fitting_good v place.Running s e l few h
-come_good v place.Ended s e l few h = fitting_good v place.Ended s e l few h
+come_good : (p : Place) (s e : ℕ) (l : Line) → s ≤ 64 → Comes p s e l → IsGoodAt p s e (front l ++ 10 ∷ []) l
+come_good place.Top s e l few h = (subst (λ (x : Line). same_bytes (front x ++ 10 ∷ []) (codes "dejagnu-transcript 1\n") ≡ true) (sym h) refl, h)
+come_good place.Over s e l few h = absurd h
+come_good place.Between s e l few h = fitting_good place.Between s e l few h
+come_good place.Opened s e l few h = fitting_good place.Opened s e l few h
+come_good place.Running s e l few h = fitting_good place.Running s e l few h
+come_good place.Ended s e l few h = fitting_good place.Ended s e l few h
 
-comes_good : (v : Version) (p : Place) (s e : ℕ) (l : Line) → s ≤ 64 → Comes v p s e l → line_at v p s e (line_text l) ≡ Ok l
-comes_good v p s e l few h = ap (line_at v p s e) (text-front l) ∙ line_good v p s e (front l ++ 10 ∷ []) l (ends_again (front l)) (come_good v p s e l few h)
+comes_good : (p : Place) (s e : ℕ) (l : Line) → s ≤ 64 → Comes p s e l → line_at p s e (line_text l) ≡ Ok l
+comes_good p s e l few h = ap (line_at p s e) (text-front l) ∙ line_good p s e (front l ++ 10 ∷ []) l (ends_again (front l)) (come_good p s e l few h)
 
-header_no_feed : (w : Version) → has_no_feed (front (line.Header w)) ≡ true
-header_no_feed One = refl
-header_no_feed Two = refl
+fitting_no_feed : (p : Place) (s e : ℕ) (l : Line) → s ≤ 64 → Fitting p s e l → has_no_feed (front l) ≡ true
+fitting_no_feed p s e l few h = joined_no_feed (line_fields l) (line_plain l h.fits (small_of p s l few h.comes))
 
-fitting_no_feed : (v : Version) (p : Place) (s e : ℕ) (l : Line) → s ≤ 64 → Fitting v p s e l → has_no_feed (front l) ≡ true
-fitting_no_feed v p s e l few h = joined_no_feed (line_fields l) (line_plain v l h.fits (small_of p s l few h.comes))
+comes_no_feed : (p : Place) (s e : ℕ) (l : Line) → s ≤ 64 → Comes p s e l → has_no_feed (front l) ≡ true
+comes_no_feed place.Top s e l few h = subst (λ (x : Line). has_no_feed (front x) ≡ true) (sym h) refl
+comes_no_feed place.Over s e l few h = absurd h
+comes_no_feed place.Between s e l few h = fitting_no_feed place.Between s e l few h
+comes_no_feed place.Opened s e l few h = fitting_no_feed place.Opened s e l few h
+comes_no_feed place.Running s e l few h = fitting_no_feed place.Running s e l few h
+comes_no_feed place.Ended s e l few h = fitting_no_feed place.Ended s e l few h
 
-comes_no_feed : (v : Version) (p : Place) (s e : ℕ) (l : Line) → s ≤ 64 → Comes v p s e l → has_no_feed (front l) ≡ true
-comes_no_feed v place.Top s e l few h = subst (λ (x : Line). has_no_feed (front x) ≡ true) (sym h.1) (header_no_feed h.0)
-comes_no_feed v place.Over s e l few h = absurd h
-comes_no_feed v place.Between s e l few h = fitting_no_feed v place.Between s e l few h
-comes_no_feed v place.Opened s e l few h = fitting_no_feed v place.Opened s e l few h
-comes_no_feed v place.Running s e l few h = fitting_no_feed v place.Running s e l few h
-comes_no_feed v place.Ended s e l few h = fitting_no_feed v place.Ended s e l few h
+begun_by : (p : Place) (s e : ℕ) (l : Line) → s ≤ 64 → Fitting p s e l → more_begun s l ≤ 64
+begun_by p s e line.Header few h = omega arith
+begun_by p s e (line.Session n) few h = let under = leb-false 64 s h.within in omega arith
+begun_by p s e (line.Said x) few h = omega arith
+begun_by p s e line.Done few h = omega arith
 
-begun_by : (v : Version) (p : Place) (s e : ℕ) (l : Line) → s ≤ 64 → Fitting v p s e l → more_begun s l ≤ 64
-begun_by v p s e (line.Header w) few h = omega arith
-begun_by v p s e (line.Session n) few h = let under = leb-false 64 s h.within in omega arith
-begun_by v p s e (line.Said x) few h = omega arith
-begun_by v p s e line.Done few h = omega arith
-
-begun_few : (v : Version) (p : Place) (s e : ℕ) (l : Line) → s ≤ 64 → Comes v p s e l → more_begun s l ≤ 64
-begun_few v place.Top s e l few h = subst (λ (x : Line). more_begun s x ≤ 64) (sym h.1) (omega arith)
-begun_few v place.Over s e l few h = absurd h
-begun_few v place.Between s e l few h = begun_by v place.Between s e l few h
-begun_few v place.Opened s e l few h = begun_by v place.Opened s e l few h
-begun_few v place.Running s e l few h = begun_by v place.Running s e l few h
-begun_few v place.Ended s e l few h = begun_by v place.Ended s e l few h
+begun_few : (p : Place) (s e : ℕ) (l : Line) → s ≤ 64 → Comes p s e l → more_begun s l ≤ 64
+begun_few place.Top s e l few h = subst (λ (x : Line). more_begun s x ≤ 64) (sym h) (omega arith)
+begun_few place.Over s e l few h = absurd h
+begun_few place.Between s e l few h = begun_by place.Between s e l few h
+begun_few place.Opened s e l few h = begun_by place.Opened s e l few h
+begun_few place.Running s e l few h = begun_by place.Running s e l few h
+begun_few place.Ended s e l few h = begun_by place.Ended s e l few h
 
 -- ---- all lines
 
 -- what is kept of the lines so far
-abbrev Behind : List Line → Version → Place → ℕ → ℕ → Type 0
-Behind before v p s e = (version_of before ≡ v) × (place_of before ≡ p) × (count_by is_session before ≡ s) × (count_by is_said before ≡ e)
+abbrev Behind : List Line → Place → ℕ → ℕ → Type 0
+Behind before p s e = (place_of before ≡ p) × (count_by is_session before ≡ s) × (count_by is_said before ≡ e)
 
-behind_more : (before : List Line) (v : Version) (p : Place) (s e : ℕ) (l : Line) → Behind before v p s e → Behind (before ++ l ∷ []) (after_version v l) (after_line l) (more_begun s l) (more_said e l)
-behind_more before v p s e l h = (
-  version_from-push One before l ∙ ap (λ (w : Version). after_version w l) h.0,
+behind_more : (before : List Line) (p : Place) (s e : ℕ) (l : Line) → Behind before p s e → Behind (before ++ l ∷ []) (after_line l) (more_begun s l) (more_said e l)
+behind_more before p s e l h = (
   place_from-push place.Top before l,
-  count-push is_session before l ∙ ap (λ (k : ℕ). k + cond (is_session l) 1 0) h.2,
-  count-push is_said before l ∙ ap (λ (k : ℕ). k + cond (is_said l) 1 0) h.3,
+  count-push is_session before l ∙ ap (λ (k : ℕ). k + cond (is_session l) 1 0) h.1,
+  count-push is_said before l ∙ ap (λ (k : ℕ). k + cond (is_said l) 1 0) h.2,
 )
 
-say_takes : (before : List Line) (v : Version) (p : Place) (s e : ℕ) (texts : List (List ℕ)) (ls : List Line) → Behind before v p s e → s ≤ 64 → Say before texts ls → (concat texts ≡ flat_map line_text ls) × Run v p s e ls
-say_takes before v p s e [] [] behind few say = (refl, tt)
-say_takes before v p s e [] (l ∷ ls) behind few say = absurd say
-say_takes before v p s e (t ∷ texts) [] behind few say = absurd say
-say_takes before v p s e (t ∷ texts) (l ∷ ls) behind few say =
-    let read = rw (behind.0, behind.1, behind.2, behind.3) at say.0 in
-    let ok = line_ok v p s e t l read in
-    let good = good_takes v p s e t l few ok.0 ok.1 in
-    let rest = say_takes (before ++ l ∷ []) (after_version v l) (after_line l) (more_begun s l) (more_said e l) texts ls (behind_more before v p s e l behind) (begun_few v p s e l few good.1) say.1 in
+say_takes : (before : List Line) (p : Place) (s e : ℕ) (texts : List (List ℕ)) (ls : List Line) → Behind before p s e → s ≤ 64 → Say before texts ls → (concat texts ≡ flat_map line_text ls) × Run p s e ls
+say_takes before p s e [] [] behind few say = (refl, tt)
+say_takes before p s e [] (l ∷ ls) behind few say = absurd say
+say_takes before p s e (t ∷ texts) [] behind few say = absurd say
+say_takes before p s e (t ∷ texts) (l ∷ ls) behind few say =
+    let read = rw (behind.0, behind.1, behind.2) at say.0 in
+    let ok = line_ok p s e t l read in
+    let good = good_takes p s e t l few ok.0 ok.1 in
+    let rest = say_takes (before ++ l ∷ []) (after_line l) (more_begun s l) (more_said e l) texts ls (behind_more before p s e l behind) (begun_few p s e l few good.1) say.1 in
     (ap (λ (x : List ℕ). x ++ concat texts) good.0 ∙ ap (λ (x : List ℕ). line_text l ++ x) rest.0, (good.1, rest.1))
 
-run_says : (before : List Line) (v : Version) (p : Place) (s e : ℕ) (ls : List Line) → Behind before v p s e → s ≤ 64 → Run v p s e ls → Say before (map line_text ls) ls
-run_says before v p s e [] behind few run = tt
-run_says before v p s e (l ∷ ls) behind few run =
-    let read = comes_good v p s e l few run.0 in (
-      rw (behind.0, behind.1, behind.2, behind.3) read,
-      run_says (before ++ l ∷ []) (after_version v l) (after_line l) (more_begun s l) (more_said e l) ls (behind_more before v p s e l behind) (begun_few v p s e l few run.0) run.1,
+run_says : (before : List Line) (p : Place) (s e : ℕ) (ls : List Line) → Behind before p s e → s ≤ 64 → Run p s e ls → Say before (map line_text ls) ls
+run_says before p s e [] behind few run = tt
+run_says before p s e (l ∷ ls) behind few run =
+    let read = comes_good p s e l few run.0 in (
+      rw (behind.0, behind.1, behind.2) read,
+      run_says (before ++ l ∷ []) (after_line l) (more_begun s l) (more_said e l) ls (behind_more before p s e l behind) (begun_few p s e l few run.0) run.1,
     )
 
-run_no_feed : (v : Version) (p : Place) (s e : ℕ) (ls : List Line) → s ≤ 64 → Run v p s e ls → AllByRecursion (λ l. has_no_feed (front l) ≡ true) ls
-run_no_feed v p s e [] few run = tt
-run_no_feed v p s e (l ∷ ls) few run =
-    (comes_no_feed v p s e l few run.0, run_no_feed (after_version v l) (after_line l) (more_begun s l) (more_said e l) ls (begun_few v p s e l few run.0) run.1)
+run_no_feed : (p : Place) (s e : ℕ) (ls : List Line) → s ≤ 64 → Run p s e ls → AllByRecursion (λ l. has_no_feed (front l) ≡ true) ls
+run_no_feed p s e [] few run = tt
+run_no_feed p s e (l ∷ ls) few run =
+    (comes_no_feed p s e l few run.0, run_no_feed (after_line l) (more_begun s l) (more_said e l) ls (begun_few p s e l few run.0) run.1)
 
-nothing_behind : Behind [] One place.Top 0 0
-nothing_behind = (refl, refl, refl, refl)
+nothing_behind : Behind [] place.Top 0 0
+nothing_behind = (refl, refl, refl)
 
 -- ---- the laws
 
-pub text_found : (text : List ℕ) (ls : List Line) → Say [] (lines_of text) ls → is_over (place_of ls) ≡ true → IsTranscript (transcript_in ls) × (text ≡ text_of (transcript_in ls))
+pub text_found : (text : List ℕ) (ls : List Line) → Say [] (lines_of text) ls → is_over (place_of ls) ≡ true → IsTranscript (sessions_in ls) × (text ≡ text_of (sessions_in ls))
 unfolding text_of
 text_found text ls say over =
-    let t = say_takes [] One place.Top 0 0 (lines_of text) ls nothing_behind (omega arith) say in
+    let t = say_takes [] place.Top 0 0 (lines_of text) ls nothing_behind (omega arith) say in
     let w = whole ls t.1 over in
     (w.0, sym (concat-lines_of text) ∙ t.0 ∙ ap (flat_map line_text) w.1)
 
-text_says : (text : List ℕ) (t : TranscriptView) → IsTranscript t → text ≡ text_of t → Say [] (lines_of text) (transcript_lines t)
+text_says : (text : List ℕ) (ss : List (List Entry)) → IsTranscript ss → text ≡ text_of ss → Say [] (lines_of text) (transcript_lines ss)
 unfolding text_of
-text_says text t is e =
-    let run = run_transcript t is in
-    let cut : lines_of text ≡ map line_text (transcript_lines t) = ap lines_of e ∙ cut_lines line_text front text-front (transcript_lines t) (run_no_feed One place.Top 0 0 (transcript_lines t) (omega arith) run) in
-    rw cut (run_says [] One place.Top 0 0 (transcript_lines t) nothing_behind (omega arith) run)
+text_says text ss is e =
+    let run = run_transcript ss is in
+    let cut : lines_of text ≡ map line_text (transcript_lines ss) = ap lines_of e ∙ cut_lines line_text front text-front (transcript_lines ss) (run_no_feed place.Top 0 0 (transcript_lines ss) (omega arith) run) in
+    rw cut (run_says [] place.Top 0 0 (transcript_lines ss) nothing_behind (omega arith) run)
 
 said_once : (r : Result Line Cause) (l m : Line) → r ≡ Ok l → r ≡ Ok m → m ≡ l
 said_once (Ok x) l m a b = cc
@@ -221,8 +206,8 @@ same_said before (t ∷ texts) (l ∷ ls) (m ∷ ms) a b =
     let same : m ≡ l = said_once (line_behind before t) l m a.0 b.0 in
     ap (λ (x : Line). x ∷ ls) (sym same) ∙ ap (λ (xs : List Line). m ∷ xs) (same_said (before ++ l ∷ []) texts ls ms a.1 (subst (λ (x : Line). Say (before ++ x ∷ []) texts ms) same b.1))
 
-pub text_only : (text : List ℕ) (t : TranscriptView) (ls : List Line) → IsTranscript t → text ≡ text_of t → Say [] (lines_of text) ls → transcript_in ls ≡ t
-text_only text t ls is e say = ap transcript_in (same_said [] (lines_of text) ls (transcript_lines t) say (text_says text t is e)) ∙ transcript_back t
+pub text_only : (text : List ℕ) (ss : List (List Entry)) (ls : List Line) → IsTranscript ss → text ≡ text_of ss → Say [] (lines_of text) ls → sessions_in ls ≡ ss
+text_only text ss ls is e say = ap sessions_in (same_said [] (lines_of text) ls (transcript_lines ss) say (text_says text ss is e)) ∙ sessions_back 1 ss
 
 -- good lines to the end have no bad one among them
 no_clash : (before : List Line) (texts : List (List ℕ)) (ls said : List Line) (why : Cause) → Say before texts ls → is_over (place_of (before ++ ls)) ≡ true → Say before (take (length said) texts) said
@@ -242,24 +227,24 @@ no_clash before (t ∷ texts) (l ∷ ls) (m ∷ said) why all over some bad =
     (subst (λ (x : Line). IsBad ((before ++ x ∷ []) ++ said) (slice_get texts (length said)) why) same
     (subst (λ (xs : List Line). IsBad xs (slice_get texts (length said)) why) (sym (append_assoc before (m ∷ []) said)) bad))
 
-over_at_end : (t : TranscriptView) → is_over (place_of (transcript_lines t)) ≡ true
-over_at_end t = ap is_over (place_from-push place.Between (sessions_lines 1 t.sessions) line.Done)
+over_at_end : (ss : List (List Entry)) → is_over (place_of (transcript_lines ss)) ≡ true
+over_at_end ss = ap is_over (place_from-push place.Between (sessions_lines 1 ss) line.Done)
 
-first_bad_none : (text : List ℕ) (t : TranscriptView) (n : ℕ) (why : Cause) → IsTranscript t → text ≡ text_of t → IsFirstBad text n why → ⊥
-first_bad_none text t n why is e bad = no_clash [] (lines_of text) (transcript_lines t) bad.0 why (text_says text t is e) (over_at_end t) bad.2 bad.3
+first_bad_none : (text : List ℕ) (ss : List (List Entry)) (n : ℕ) (why : Cause) → IsTranscript ss → text ≡ text_of ss → IsFirstBad text n why → ⊥
+first_bad_none text ss n why is e bad = no_clash [] (lines_of text) (transcript_lines ss) bad.0 why (text_says text ss is e) (over_at_end ss) bad.2 bad.3
 
 -- the text of a transcript has no fault but want of memory
-pub text_no_fault : (text : List ℕ) (t : TranscriptView) (n : ℕ) (why : Cause) → IsTranscript t → text ≡ text_of t → IsFault text n why → why ≡ cause.Memory
-text_no_fault text t n cause.Memory is e fault = refl
-text_no_fault text t n cause.Header is e fault = absurd (first_bad_none text t n cause.Header is e fault)
-text_no_fault text t n cause.Kind is e fault = absurd (first_bad_none text t n cause.Kind is e fault)
-text_no_fault text t n cause.Field is e fault = absurd (first_bad_none text t n cause.Field is e fault)
-text_no_fault text t n cause.SessionOrder is e fault = absurd (first_bad_none text t n cause.SessionOrder is e fault)
-text_no_fault text t n cause.TooMany is e fault = absurd (first_bad_none text t n cause.TooMany is e fault)
-text_no_fault text t n cause.Truncated is e fault = absurd (first_bad_none text t n cause.Truncated is e fault)
+pub text_no_fault : (text : List ℕ) (ss : List (List Entry)) (n : ℕ) (why : Cause) → IsTranscript ss → text ≡ text_of ss → IsFault text n why → why ≡ cause.Memory
+text_no_fault text ss n cause.Memory is e fault = refl
+text_no_fault text ss n cause.Header is e fault = absurd (first_bad_none text ss n cause.Header is e fault)
+text_no_fault text ss n cause.Kind is e fault = absurd (first_bad_none text ss n cause.Kind is e fault)
+text_no_fault text ss n cause.Field is e fault = absurd (first_bad_none text ss n cause.Field is e fault)
+text_no_fault text ss n cause.SessionOrder is e fault = absurd (first_bad_none text ss n cause.SessionOrder is e fault)
+text_no_fault text ss n cause.TooMany is e fault = absurd (first_bad_none text ss n cause.TooMany is e fault)
+text_no_fault text ss n cause.Truncated is e fault = absurd (first_bad_none text ss n cause.Truncated is e fault)
 
-pub text_unique : (t u : TranscriptView) → IsTranscript t → IsTranscript u → text_of t ≡ text_of u → t ≡ u
-text_unique t u a b e = sym (transcript_back t) ∙ text_only (text_of t) u (transcript_lines t) b e (text_says (text_of t) t a refl)
+pub text_unique : (ss ts : List (List Entry)) → IsTranscript ss → IsTranscript ts → text_of ss ≡ text_of ts → ss ≡ ts
+text_unique ss ts a b e = sym (sessions_back 1 ss) ∙ text_only (text_of ss) ts (transcript_lines ss) b e (text_says (text_of ss) ss a refl)
 
 -- ---- a text has one first bad line
 
@@ -295,5 +280,5 @@ one_first_bad text n m why other a b =
     let same = one_bad [] (lines_of text) a.0 b.0 why other a.2 a.3 b.2 b.3 in
     (a.1 ∙ ap suc same.0 ∙ sym b.1, same.1)
 
-pub no_first_bad : (t : TranscriptView) (n : ℕ) (why : Cause) → IsTranscript t → IsFirstBad (text_of t) n why → ⊥
-no_first_bad t n why is bad = first_bad_none (text_of t) t n why is refl bad
+pub no_first_bad : (ss : List (List Entry)) (n : ℕ) (why : Cause) → IsTranscript ss → IsFirstBad (text_of ss) n why → ⊥
+no_first_bad ss n why is bad = first_bad_none (text_of ss) ss n why is refl bad

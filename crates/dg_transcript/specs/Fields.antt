@@ -1,5 +1,5 @@
 -- What a line says, read on its own.
-use Rattle.std.specs.Prelude.{ℕ, ◌≡◌, ◌==◌, nat_lt, nat_le, min, Bool, true, false, not, ◌&&◌, ◌||◌, if◌then◌else◌, List, [], ◌∷◌, length, slice_index, codes, find, drop, Option, None, Result, Ok, Err, ok_or}
+use Rattle.std.specs.Prelude.{ℕ, ◌≡◌, ◌==◌, nat_lt, nat_le, min, Bool, not, ◌&&◌, ◌||◌, if◌then◌else◌, List, [], ◌∷◌, length, slice_index, codes, find, drop, Option, None, Result, Ok, Err, ok_or}
 use Rattle.std.specs.List.{slice_split, list_all}
 use Rattle.std.specs.Result.{result_ok}
 use Rattle.std.specs.Char.{is_ascii_digit}
@@ -15,8 +15,6 @@ use Rattle.dg_transcript.specs.declared.line.Line.{Line}
 use Rattle.dg_transcript.specs.declared.line.Line.TheVariants as line
 use Rattle.dg_transcript.specs.declared.line.Kind.{Kind}
 use Rattle.dg_transcript.specs.declared.line.Kind.TheVariants as kind
-use Rattle.dg_transcript.specs.declared.version.Version.{Version}
-use Rattle.dg_transcript.specs.declared.version.Version.TheVariants.{One}
 use Rattle.dg_bytes.specs.Chain.{◌>>=◌}
 use Rattle.dg_bytes.specs.Same.{same_bytes}
 use Rattle.dg_transcript.specs.declared.limits.TheConstants.{MAX_CHUNK, MAX_SENT, MAX_WAIT, MAX_WORDS}
@@ -104,7 +102,6 @@ keyword kind.NoStart = codes "nostart"
 keyword kind.Sent = codes "sent"
 keyword kind.NoSend = codes "nosend"
 keyword kind.Chunk = codes "chunk"
-keyword kind.ErrChunk = codes "errchunk"
 keyword kind.End = codes "end"
 keyword kind.NoRead = codes "noread"
 keyword kind.Silence = codes "silence"
@@ -116,16 +113,11 @@ keyword kind.NoWait = codes "nowait"
 keyword kind.Done = codes "done"
 
 abbrev pub kinds : List Kind
-kinds = kind.Session ∷ kind.Started ∷ kind.NoStart ∷ kind.Sent ∷ kind.NoSend ∷ kind.Chunk ∷ kind.ErrChunk ∷ kind.End ∷ kind.NoRead ∷ kind.Silence ∷ kind.Closed ∷ kind.NoClose ∷ kind.Exited ∷ kind.Killed ∷ kind.NoWait ∷ kind.Done ∷ []
+kinds = kind.Session ∷ kind.Started ∷ kind.NoStart ∷ kind.Sent ∷ kind.NoSend ∷ kind.Chunk ∷ kind.End ∷ kind.NoRead ∷ kind.Silence ∷ kind.Closed ∷ kind.NoClose ∷ kind.Exited ∷ kind.Killed ∷ kind.NoWait ∷ kind.Done ∷ []
 
--- whether a version has lines of a kind: all but those of the error stream, which version 1 lacks
-abbrev pub is_in : Kind → Version → Bool
-is_in kind.ErrChunk One = false
-is_in k v = true
-
--- the kind that a word names in a version
-unfoldable pub kind_of : Version → List ℕ → Option Kind
-kind_of v word = find (λ k. same_bytes (keyword k) word && is_in k v) kinds
+-- the kind that a word names
+unfoldable pub kind_of : List ℕ → Option Kind
+kind_of word = find (λ k. same_bytes (keyword k) word) kinds
 
 -- ---- lines
 
@@ -140,7 +132,6 @@ line_by kind.NoStart fs = first_field fs >>= λ f. code_of f.0 >>= λ code. word
 line_by kind.Sent fs = only_field fs >>= λ f. bytes_of MAX_SENT f >>= λ bytes. said (entry.Sent bytes)
 line_by kind.NoSend fs = first_field fs >>= λ f. code_of f.0 >>= λ code. only_field f.1 >>= λ g. bytes_of MAX_SENT g >>= λ bytes. said (entry.NoSend code bytes)
 line_by kind.Chunk fs = first_field fs >>= λ f. wait_of f.0 >>= λ wait. only_field f.1 >>= λ g. bytes_of MAX_CHUNK g >>= λ bytes. said (entry.Chunk wait bytes)
-line_by kind.ErrChunk fs = first_field fs >>= λ f. wait_of f.0 >>= λ wait. only_field f.1 >>= λ g. bytes_of MAX_CHUNK g >>= λ bytes. said (entry.ErrChunk wait bytes)
 line_by kind.End fs = only_field fs >>= λ f. wait_of f >>= λ wait. said (entry.End wait)
 line_by kind.NoRead fs = only_field fs >>= λ f. code_of f >>= λ code. said (entry.NoRead code)
 line_by kind.Silence fs = only_field fs >>= λ f. wait_of f >>= λ wait. said (entry.Silence wait)
@@ -152,14 +143,14 @@ line_by kind.NoWait fs = only_field fs >>= λ f. code_of f >>= λ code. said (en
 line_by kind.Done fs = no_field fs >>= λ _. Ok line.Done
 
 -- the kind that the first of a line's fields names, if it names one
-abbrev pub kind_from : Version → List (List ℕ) → Option Kind
-kind_from v [] = None
-kind_from v (word ∷ fields) = kind_of v word
+abbrev pub kind_from : List (List ℕ) → Option Kind
+kind_from [] = None
+kind_from (word ∷ fields) = kind_of word
 
 -- a line from its fields: the first names the kind
-unfoldable pub line_from : Version → List (List ℕ) → Result Line Cause
-line_from v fields = ok_or (kind_from v fields) cause.Kind >>= λ k. line_by k (drop 1 fields)
+unfoldable pub line_from : List (List ℕ) → Result Line Cause
+line_from fields = ok_or (kind_from fields) cause.Kind >>= λ k. line_by k (drop 1 fields)
 
--- what a line says in a version, without its newline
-abbrev pub read_line : Version → List ℕ → Result Line Cause
-read_line v text = line_from v (slice_split is_space text)
+-- what a line says, without its newline
+abbrev pub read_line : List ℕ → Result Line Cause
+read_line text = line_from (slice_split is_space text)

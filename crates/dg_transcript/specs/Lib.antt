@@ -8,7 +8,6 @@ pub mod Sessions
 pub mod Decoded
 pub mod Step
 pub mod Text
-pub mod Transcript
 -- of which only the crate's own functions and proofs speak
 pub mod Kept
 pub mod Small

@@ -1,5 +1,5 @@
 -- Which lines may come after which, and the first bad line of a text.
-use Rattle.std.specs.Prelude.{◌≡◌, ℕ, suc, ◌+◌, ◌-◌, ◌==◌, nat_lt, nat_le, Bool, true, false, ◌&&◌, if◌then◌else◌, List, [], ◌∷◌, ◌++◌, length, take, slice_index, slice_get, count_by, Option, Some, None, Result, Ok, Err}
+use Rattle.std.specs.Prelude.{◌≡◌, ℕ, suc, ◌+◌, ◌-◌, ◌==◌, nat_lt, nat_le, Bool, true, false, ◌&&◌, if◌then◌else◌, List, [], ◌∷◌, ◌++◌, length, take, slice_index, slice_get, count_by, codes, Option, Some, None, Result, Ok, Err}
 use Rattle.std.specs.List.{slice_split}
 use Rattle.bstr.specs.Text.{lines_of}
 use Rattle.dg_transcript.specs.declared.cause.Cause.{Cause}
@@ -9,10 +9,7 @@ use Rattle.dg_transcript.specs.declared.line.Line.{Line}
 use Rattle.dg_transcript.specs.declared.line.Line.TheVariants as line
 use Rattle.dg_transcript.specs.declared.line.Place.{Place}
 use Rattle.dg_transcript.specs.declared.line.Place.TheVariants as place
-use Rattle.dg_transcript.specs.declared.version.Version.{Version}
-use Rattle.dg_transcript.specs.declared.version.Version.TheVariants.{One, Two}
 use Rattle.dg_transcript.specs.Order.{role_of, admits, opens_session, after_line}
-use Rattle.dg_transcript.specs.Transcript.{header}
 use Rattle.dg_bytes.specs.Chain.{◌>>=◌}
 use Rattle.dg_transcript.specs.Fields.{is_space, kind_from, read_line}
 use Rattle.dg_bytes.specs.Same.{same_bytes}
@@ -26,19 +23,6 @@ abbrev pub is_said : Line → Bool
 is_said (line.Said e) = true
 is_said l = false
 
--- the version after a line: a header tells it
-abbrev pub after_version : Version → Line → Version
-after_version v (line.Header version) = version
-after_version v l = v
-
-abbrev pub version_from : Version → List Line → Version
-version_from v [] = v
-version_from v (l ∷ ls) = version_from (after_version v l) ls
-
--- the version that some lines tell; it is of no matter before there is a header
-abbrev pub version_of : List Line → Version
-version_of = version_from One
-
 -- the place after some lines is that after the last of them
 abbrev pub place_from : Place → List Line → Place
 place_from p [] = p
@@ -49,14 +33,14 @@ place_of = place_from place.Top
 
 -- a line may come at a place where so many sessions have begun; a session has the next number
 abbrev pub may_come : Place → ℕ → Line → Bool
-may_come p sessions (line.Header version) = false
+may_come p sessions line.Header = false
 may_come p sessions (line.Session n) = opens_session p && (n == sessions + 1)
 may_come p sessions (line.Said e) = admits p (role_of e)
 may_come p sessions line.Done = opens_session p
 
 -- the 65th session, or the 65,537th entry
 abbrev pub is_past : ℕ → ℕ → Line → Bool
-is_past sessions entries (line.Header version) = false
+is_past sessions entries line.Header = false
 is_past sessions entries (line.Session n) = nat_le MAX_SESSIONS sessions
 is_past sessions entries (line.Said e) = nat_le MAX_ENTRIES entries
 is_past sessions entries line.Done = false
@@ -71,27 +55,21 @@ ends_line text = nat_lt 0 (length text) && (slice_index text (length text - 1) =
 abbrev pub body : List ℕ → List ℕ
 body text = take (length text - 1) text
 
-abbrev pub kind_at : Version → List ℕ → Option Kind
-kind_at v text = kind_from v (slice_split is_space (body text))
+abbrev pub kind_at : List ℕ → Option Kind
+kind_at text = kind_from (slice_split is_space (body text))
 
--- the header that a line is
-abbrev pub header_in : List ℕ → Result Line Cause
-header_in text =
-    if same_bytes text (header One) then Ok (line.Header One)
-    else (if same_bytes text (header Two) then Ok (line.Header Two) else Err cause.Header)
+-- what a line with its newline says at a place, or what is wrong with it
+unfoldable pub whole_line_at : Place → ℕ → ℕ → List ℕ → Result Line Cause
+whole_line_at place.Top sessions entries text = if same_bytes text (codes "dejagnu-transcript 1\n") then Ok line.Header else Err cause.Header
+whole_line_at place.Over sessions entries text = Err cause.Kind
+whole_line_at p sessions entries text = read_line (body text) >>= placed p sessions entries
 
--- what a line with its newline says at a place of a transcript of this version, or what is wrong with it
-unfoldable pub whole_line_at : Version → Place → ℕ → ℕ → List ℕ → Result Line Cause
-whole_line_at v place.Top sessions entries text = header_in text
-whole_line_at v place.Over sessions entries text = Err cause.Kind
-whole_line_at v p sessions entries text = read_line v (body text) >>= placed p sessions entries
-
-unfoldable pub line_at : Version → Place → ℕ → ℕ → List ℕ → Result Line Cause
-line_at v p sessions entries text = if ends_line text then whole_line_at v p sessions entries text else Err cause.Truncated
+unfoldable pub line_at : Place → ℕ → ℕ → List ℕ → Result Line Cause
+line_at p sessions entries text = if ends_line text then whole_line_at p sessions entries text else Err cause.Truncated
 
 -- what a line says behind those lines, or what is wrong with it
 abbrev pub line_behind : List Line → List ℕ → Result Line Cause
-line_behind before text = line_at (version_of before) (place_of before) (count_by is_session before) (count_by is_said before) text
+line_behind before text = line_at (place_of before) (count_by is_session before) (count_by is_said before) text
 
 -- lines that are good, each behind those before it, and what they say
 abbrev pub Say : List Line → List (List ℕ) → List Line → Type 0

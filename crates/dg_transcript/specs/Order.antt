@@ -16,7 +16,6 @@ role_of (entry.NoStart code words) = role.Failure
 role_of (entry.Sent bytes) = role.Talk
 role_of (entry.NoSend code bytes) = role.Talk
 role_of (entry.Chunk wait bytes) = role.Talk
-role_of (entry.ErrChunk wait bytes) = role.Talk
 role_of (entry.Silence wait) = role.Talk
 role_of (entry.End wait) = role.End
 role_of (entry.NoRead code) = role.End
@@ -54,7 +53,7 @@ after_role role.Wait = place.Between
 
 -- the place after a line
 abbrev pub after_line : Line → Place
-after_line (line.Header version) = place.Between
+after_line line.Header = place.Between
 after_line (line.Session n) = place.Opened
 after_line (line.Said e) = after_role (role_of e)
 after_line line.Done = place.Over

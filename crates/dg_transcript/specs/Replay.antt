@@ -7,7 +7,7 @@ use Rattle.dg_transcript.specs.declared.cursor.Act.{Act}
 use Rattle.dg_transcript.specs.declared.cursor.Act.TheVariants as act
 use Rattle.dg_transcript.specs.declared.cursor.Action.{Action}
 use Rattle.dg_transcript.specs.declared.cursor.Action.TheVariants as action
-use Rattle.dg_transcript.specs.Output.{output_of, is_heard, arrival_of}
+use Rattle.dg_transcript.specs.Output.{output_of}
 use Rattle.dg_bytes.specs.Same.{same_bytes, same_words}
 use Rattle.dg_transcript.specs.Step.{Step, step}
 
@@ -32,21 +32,20 @@ abbrev pub answered_if : Bool → Entry → List Entry → List ℕ → Action �
 answered_if true e es buffer a = answered e (left_with es buffer) a
 answered_if false e es buffer a = departed
 
--- the entries behind the output and the silences in front
+-- the entries behind the chunks and silences in front
 abbrev pub behind_heard : List Entry → List Entry
 behind_heard [] = []
-behind_heard (e ∷ es) = if is_heard e then behind_heard es else e ∷ es
+behind_heard (entry.Chunk wait bytes ∷ es) = behind_heard es
+behind_heard (entry.Silence wait ∷ es) = behind_heard es
+behind_heard (e ∷ es) = e ∷ es
 
 -- How a chunk comes into a buffer, add, is the reader's choice.
--- the buffer behind an entry
-abbrev pub with_output : (List ℕ → List ℕ → List ℕ) → List ℕ → Option (ℕ × List ℕ) → List ℕ
-with_output add buffer None = buffer
-with_output add buffer (Some o) = add buffer o.1
-
--- the buffer with the output in front
+-- the buffer with the chunks in front
 abbrev pub heard : (List ℕ → List ℕ → List ℕ) → List ℕ → List Entry → List ℕ
 heard add buffer [] = buffer
-heard add buffer (e ∷ es) = if is_heard e then heard add (with_output add buffer (output_of e)) es else buffer
+heard add buffer (entry.Chunk wait bytes ∷ es) = heard add (add buffer bytes) es
+heard add buffer (entry.Silence wait ∷ es) = heard add buffer es
+heard add buffer (e ∷ es) = buffer
 
 abbrev pub starts : List (List ℕ) → List ℕ → List Entry → Outcome
 starts words buffer (entry.Started given ∷ es) = answered_if (same_words given words) (entry.Started given) es buffer (action.Spawn words)
@@ -81,21 +80,18 @@ silence limit wait whole es buffer =
     if unwrap_or wait whole == limit then timed_out (left_with es buffer)
     else timed_out (record { entries = entry.Silence whole ∷ es; wait = Some (unwrap_or wait whole - limit); buffer = buffer })
 
--- the same, where the entry is one of these
-abbrev pub arrival_if : Option ℕ → ℕ → Option ℕ → Entry → List Entry → List ℕ → List ℕ → Outcome
-arrival_if None limit wait e es old new = departed
-arrival_if (Some whole) limit wait e es old new = arrival limit wait whole e es old new
-
 -- a read, with so much left of its limit and of the first entry's wait
 abbrev pub reads : (List ℕ → List ℕ → List ℕ) → ℕ → Option ℕ → List ℕ → List Entry → Outcome
 reads add limit wait buffer [] = departed
+reads add limit wait buffer (entry.Chunk whole bytes ∷ es) = arrival limit wait whole (entry.Chunk whole bytes) es buffer (add buffer bytes)
+reads add limit wait buffer (entry.End whole ∷ es) = arrival limit wait whole (entry.End whole) es buffer buffer
 reads add limit wait buffer (entry.NoRead code ∷ es) = answered (entry.NoRead code) (left_with es buffer) (action.Read limit)
 reads add limit wait buffer (entry.Silence whole ∷ es) =
     if nat_lt (unwrap_or wait whole) limit then reads add (limit - unwrap_or wait whole) None buffer es
     else silence limit wait whole es buffer
-reads add limit wait buffer (e ∷ es) = arrival_if (arrival_of e) limit wait e es buffer (with_output add buffer (output_of e))
+reads add limit wait buffer (e ∷ es) = departed
 
--- What an action comes to. A send passes over output, which comes into the buffer, and silences; a
+-- What an action comes to. A send passes over chunks, which come into the buffer, and silences; a
 -- close passes over them and empties the buffer. A record that has ended departs for every action.
 abbrev pub replay : (List ℕ → List ℕ → List ℕ) → Action → Left → Outcome
 replay add (action.Spawn words) l = starts words l.buffer l.entries
@@ -107,6 +103,10 @@ replay add action.Wait l = waits l.buffer l.entries
 -- ---- the same, one step at a time
 
 -- the buffer behind an entry that was passed over or that answered
+abbrev pub with_output : (List ℕ → List ℕ → List ℕ) → List ℕ → Option (ℕ × List ℕ) → List ℕ
+with_output add buffer None = buffer
+with_output add buffer (Some o) = add buffer o.1
+
 abbrev pub buffer_behind : (List ℕ → List ℕ → List ℕ) → Action → Entry → List ℕ → List ℕ
 buffer_behind add (action.Send bytes) e buffer = with_output add buffer (output_of e)
 buffer_behind add (action.Read limit) e buffer = with_output add buffer (output_of e)

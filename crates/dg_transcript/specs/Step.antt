@@ -8,7 +8,6 @@ use Rattle.dg_transcript.specs.declared.cursor.Act.{Act}
 use Rattle.dg_transcript.specs.declared.cursor.Act.TheVariants as act
 use Rattle.dg_transcript.specs.declared.cursor.Action.{Action}
 use Rattle.dg_transcript.specs.declared.cursor.Action.TheVariants as action
-use Rattle.dg_transcript.specs.Output.{is_heard, arrival_of}
 use Rattle.dg_transcript.specs.declared.limits.TheConstants.{MAX_ENTRIES}
 
 -- an answer, the place behind it, and the action with what is left of its limit
@@ -49,26 +48,21 @@ is_silent c limit wait =
     if nat_lt (unwrap_or c.wait wait) limit then passes c (action.Read (limit - unwrap_or c.wait wait))
     else record { act = act.TimedOut; cursor = if unwrap_or c.wait wait == limit then gone_on c else waiting c (unwrap_or c.wait wait - limit); action = action.Read 0 }
 
--- bytes, or the end, where the entry is one of these
-abbrev pub arrives_if : Option ℕ → Cursor → ℕ → Step
-arrives_if None c limit = departs c (action.Read limit)
-arrives_if (Some wait) c limit = arrives c limit wait
-
-abbrev pub passes_if : Bool → Cursor → Action → Step
-passes_if fits c a = if fits then passes c a else departs c a
-
 abbrev pub step_at : Cursor → Action → Entry → Step
 step_at c (action.Spawn words) (entry.Started given) = answers_if (same_words given words) c (action.Spawn words)
 step_at c (action.Spawn words) (entry.NoStart code given) = answers_if (same_words given words) c (action.Spawn words)
+step_at c (action.Send bytes) (entry.Chunk wait given) = passes c (action.Send bytes)
+step_at c (action.Send bytes) (entry.Silence wait) = passes c (action.Send bytes)
 step_at c (action.Send bytes) (entry.Sent given) = answers_if (same_bytes given bytes) c (action.Send bytes)
 step_at c (action.Send bytes) (entry.NoSend code given) = answers_if (same_bytes given bytes) c (action.Send bytes)
-step_at c (action.Send bytes) e = passes_if (is_heard e) c (action.Send bytes)
+step_at c (action.Read limit) (entry.Chunk wait given) = arrives c limit wait
+step_at c (action.Read limit) (entry.End wait) = arrives c limit wait
 step_at c (action.Read limit) (entry.Silence wait) = is_silent c limit wait
 step_at c (action.Read limit) (entry.NoRead code) = answers c (action.Read limit)
-step_at c (action.Read limit) e = arrives_if (arrival_of e) c limit
+step_at c action.Close (entry.Chunk wait given) = passes c action.Close
+step_at c action.Close (entry.Silence wait) = passes c action.Close
 step_at c action.Close entry.Closed = answers c action.Close
 step_at c action.Close (entry.NoClose code) = answers c action.Close
-step_at c action.Close e = passes_if (is_heard e) c action.Close
 step_at c action.Wait (entry.Exited status) = answers c action.Wait
 step_at c action.Wait (entry.Killed signal) = answers c action.Wait
 step_at c action.Wait (entry.NoWait code) = answers c action.Wait

@@ -8,7 +8,6 @@ use Rattle.dg_transcript.specs.declared.entry.Entry.{Entry}
 use Rattle.dg_transcript.specs.declared.entry.Entry.TheVariants as entry
 use Rattle.dg_transcript.specs.declared.line.Line.{Line}
 use Rattle.dg_transcript.specs.declared.line.Line.TheVariants as line
-use Rattle.dg_transcript.specs.Transcript.{TranscriptView, version_field}
 
 abbrev pub code_number : ErrorCode → ℕ
 code_number NotFound = 1
@@ -28,7 +27,6 @@ entry_fields (entry.NoStart code words) = codes "nostart" ∷ decimal (code_numb
 entry_fields (entry.Sent bytes) = codes "sent" ∷ encode_lower bytes ∷ []
 entry_fields (entry.NoSend code bytes) = codes "nosend" ∷ decimal (code_number code) ∷ encode_lower bytes ∷ []
 entry_fields (entry.Chunk wait bytes) = codes "chunk" ∷ decimal wait ∷ encode_lower bytes ∷ []
-entry_fields (entry.ErrChunk wait bytes) = codes "errchunk" ∷ decimal wait ∷ encode_lower bytes ∷ []
 entry_fields (entry.End wait) = codes "end" ∷ decimal wait ∷ []
 entry_fields (entry.NoRead code) = codes "noread" ∷ decimal (code_number code) ∷ []
 entry_fields (entry.Silence wait) = codes "silence" ∷ decimal wait ∷ []
@@ -39,7 +37,7 @@ entry_fields (entry.Killed signal) = codes "killed" ∷ decimal signal ∷ []
 entry_fields (entry.NoWait code) = codes "nowait" ∷ decimal (code_number code) ∷ []
 
 abbrev pub line_fields : Line → List (List ℕ)
-line_fields (line.Header version) = codes "dejagnu-transcript" ∷ version_field version ∷ []
+line_fields line.Header = codes "dejagnu-transcript" ∷ codes "1" ∷ []
 line_fields (line.Session n) = codes "session" ∷ decimal n ∷ []
 line_fields (line.Said e) = entry_fields e
 line_fields line.Done = codes "done" ∷ []
@@ -54,9 +52,9 @@ sessions_lines n [] = []
 sessions_lines n (s ∷ ss) = line.Session n ∷ (map line.Said s ++ sessions_lines (suc n) ss)
 
 -- the lines of a transcript
-abbrev pub transcript_lines : TranscriptView → List Line
-transcript_lines t = line.Header t.version ∷ (sessions_lines 1 t.sessions ++ line.Done ∷ [])
+abbrev pub transcript_lines : List (List Entry) → List Line
+transcript_lines ss = line.Header ∷ (sessions_lines 1 ss ++ line.Done ∷ [])
 
 -- the text of a transcript
-unfoldable pub text_of : TranscriptView → List ℕ
-text_of t = flat_map line_text (transcript_lines t)
+unfoldable pub text_of : List (List Entry) → List ℕ
+text_of ss = flat_map line_text (transcript_lines ss)

@@ -9,10 +9,10 @@ use thiserror::Error;
 /// Kind, Field, SessionOrder and TooMany is given.
 #[derive(Clone, Copy, Debug, PartialEq, Eq, Hash, Error)]
 pub enum Cause {
-    /// The first line is neither `dejagnu-transcript 1` nor `dejagnu-transcript 2`.
+    /// The first line is not `dejagnu-transcript 1`.
     #[error("bad header")]
     Header,
-    /// The line's first word is unknown in the transcript's version, or the line stands behind `done`.
+    /// The line's first word is unknown, or the line stands behind `done`.
     #[error("unknown kind of line")]
     Kind,
     /// A field is missing, too many or badly written, or past its limit.

@@ -143,7 +143,7 @@ impl Cursor {
         ensures action { Action.Send bytes.now ≡ (step_at self.old (Action.Send bytes.now) entry.now).action }
     {
         match entry {
-            Entry::Chunk(..) | Entry::ErrChunk(..) | Entry::Silence(_) => self.pass(),
+            Entry::Chunk(..) | Entry::Silence(_) => self.pass(),
             Entry::Sent(given) | Entry::NoSend(_, given) => self.answer_if(given == bytes),
             _ => Act::Departed,
         }
@@ -157,7 +157,7 @@ impl Cursor {
         ensures action { Action.Close ≡ (step_at self.old Action.Close entry.now).action }
     {
         match entry {
-            Entry::Chunk(..) | Entry::ErrChunk(..) | Entry::Silence(_) => self.pass(),
+            Entry::Chunk(..) | Entry::Silence(_) => self.pass(),
             Entry::Closed | Entry::NoClose(_) => self.answer_if(true),
             _ => Act::Departed,
         }
@@ -183,9 +183,7 @@ impl Cursor {
         ensures limit { Action.Read limit.new ≡ (step_at self.old (Action.Read limit.old) entry.now).action }
     {
         match entry {
-            Entry::Chunk(wait, _) | Entry::ErrChunk(wait, _) | Entry::End(wait) => {
-                self.arrives(limit, *wait)
-            }
+            Entry::Chunk(wait, _) | Entry::End(wait) => self.arrives(limit, *wait),
             Entry::Silence(wait) => self.is_silent(limit, *wait),
             Entry::NoRead(_) => self.answer_if(true),
             _ => Act::Departed,

@@ -6,10 +6,9 @@ ghost use Rattle.dg_transcript.specs.Kept.{next_of};
 ghost use Rattle.dg_transcript.specs.Limits.{IsTranscript};
 ghost use Rattle.dg_transcript.specs.Text.{text_of};
 ghost use Rattle.dg_transcript.specs.Sessions.{sessions_in};
-ghost use Rattle.dg_transcript.specs.Transcript.{TranscriptView};
 ghost use Rattle.dg_transcript.specs.declared.entry.Entry.{Entry};
 ghost use Rattle.dg_transcript.specs.declared.limits.TheConstants.{MAX_ENTRIES, MAX_SESSIONS};
-ghost use Rattle.dg_transcript.specs.Lines.{may_come, is_past, placed, header_in, whole_line_at, line_at, line_behind, version_of, place_of, is_over, Say, Takes, IsFault};
+ghost use Rattle.dg_transcript.specs.Lines.{may_come, is_past, placed, whole_line_at, line_at, line_behind, place_of, is_over, Say, Takes, IsFault};
 
 use crate::cause::Cause;
 use crate::entry::Entry;
@@ -17,7 +16,6 @@ use crate::limits::{MAX_ENTRIES, MAX_SESSIONS};
 use crate::line::{Line, Place};
 use crate::reading::read_line;
 use crate::transcript::Transcript;
-use crate::version::Version;
 use bstr::ByteSlice;
 use dg_bytes::Seq;
 use std::alloc::{AllocError, Global};
@@ -31,7 +29,6 @@ const NEAR: usize = 16;
 #[derive(Drop)]
 struct Lines {
     lines: Vec<Line>,
-    version: Version,
     place: Place,
     sessions: u32,
     entries: u32,
@@ -47,7 +44,7 @@ impl Model for Lines {
 
     ghost view = { λ r. r.lines.items };
 
-    ghost invariant = { λ r. Keeps r.lines.items r.version r.place r.sessions r.entries };
+    ghost invariant = { λ r. Keeps r.lines.items r.place r.sessions r.entries };
 }
 
 // Whether a line may come at a place where so many sessions have begun.
@@ -56,7 +53,7 @@ fn may_come(place: Place, sessions: u32, line: &Line) -> bool
     ensures { result ≡ may_come place sessions line.now }
 {
     match line {
-        Line::Header(_) => false,
+        Line::Header => false,
         Line::Session(number) => place.opens_session() && *number == sessions + 1,
         Line::Said(entry) => place.admits(entry.role()),
         Line::Done => place.opens_session(),
@@ -70,7 +67,7 @@ fn is_past(sessions: u32, entries: u32, line: &Line) -> bool
     match line {
         Line::Session(_) => sessions as usize >= MAX_SESSIONS,
         Line::Said(_) => entries as usize >= MAX_ENTRIES,
-        Line::Header(_) | Line::Done => false,
+        Line::Header | Line::Done => false,
     }
 }
 
@@ -87,23 +84,9 @@ fn placed(place: Place, sessions: u32, entries: u32, line: Line) -> Result<Line,
     Ok(line)
 }
 
-// The header that a line is.
-fn header_in(text: &[u8]) -> Result<Line, Cause>
-    ensures { Parses (λ l. l) result (header_in text.now) }
-{
-    if text == Version::One.header() {
-        return Ok(Line::Header(Version::One));
-    }
-    if text == Version::Two.header() {
-        return Ok(Line::Header(Version::Two));
-    }
-    Err(Cause::Header)
-}
-
 #[tactic(auto, unfolding(crate::specs::Lines::whole_line_at))]
 fn whole_line_at(
     alloc: Global,
-    version: Version,
     place: Place,
     sessions: u32,
     entries: u32,
@@ -111,13 +94,19 @@ fn whole_line_at(
 ) -> Result<Line, Cause>
     requires few { sessions ≤ MAX_SESSIONS }
     requires some { 0 < length text.now }
-    ensures { Parses (λ l. l) result (whole_line_at version place sessions entries text.now) }
+    ensures { Parses (λ l. l) result (whole_line_at place sessions entries text.now) }
 {
     match place {
-        Place::Top => header_in(text),
+        Place::Top => {
+            if text == b"dejagnu-transcript 1\n".as_slice() {
+                Ok(Line::Header)
+            } else {
+                Err(Cause::Header)
+            }
+        }
         Place::Over => Err(Cause::Kind),
         Place::Between | Place::Opened | Place::Running | Place::Ended => {
-            let line = read_line(alloc, version, &text[..text.len() - 1])?;
+            let line = read_line(alloc, &text[..text.len() - 1])?;
             placed(place, sessions, entries, line)
         }
     }
@@ -126,14 +115,13 @@ fn whole_line_at(
 #[tactic(auto, unfolding(crate::specs::Lines::line_at))]
 fn line_at(
     alloc: Global,
-    version: Version,
     place: Place,
     sessions: u32,
     entries: u32,
     text: &[u8],
 ) -> Result<Line, Cause>
     requires { sessions ≤ MAX_SESSIONS }
-    ensures { Parses (λ l. l) result (line_at version place sessions entries text.now) }
+    ensures { Parses (λ l. l) result (line_at place sessions entries text.now) }
 {
     if text.is_empty() {
         return Err(Cause::Truncated);
@@ -141,7 +129,7 @@ fn line_at(
     if text[text.len() - 1] != b'\n' {
         return Err(Cause::Truncated);
     }
-    whole_line_at(alloc, version, place, sessions, entries, text)
+    whole_line_at(alloc, place, sessions, entries, text)
 }
 
 // The place behind a line, and how many sessions and entries there are with it.
@@ -151,7 +139,7 @@ fn next_of(line: &Line, sessions: u32, entries: u32) -> (Place, u32, u32)
     ensures { result ≡ next_of line.now sessions entries }
 {
     match line {
-        Line::Header(_) => (Place::Between, sessions, entries),
+        Line::Header => (Place::Between, sessions, entries),
         Line::Session(_) => (Place::Opened, sessions + 1, entries),
         Line::Said(entry) => (entry.role().after(), sessions, entries + 1),
         Line::Done => (Place::Over, sessions, entries),
@@ -176,7 +164,6 @@ impl Lines {
     {
         Lines {
             lines: Vec::new(alloc),
-            version: Version::One,
             place: Place::Top,
             sessions: 0,
             entries: 0,
@@ -202,18 +189,9 @@ impl Lines {
         ensures err { OnErr result (self.new ≡ self.old) }
         ensures why { IfErr result (λ e. Fails e (line_behind self.old text.now)) }
     {
-        let line = line_at(
-            alloc,
-            self.version,
-            self.place,
-            self.sessions,
-            self.entries,
-            text,
-        )?;
-        let version = line.version_after(self.version);
+        let line = line_at(alloc, self.place, self.sessions, self.entries, text)?;
         let (place, sessions, entries) = next_of(&line, self.sessions, self.entries);
         push_line(&mut self.lines, line)?;
-        self.version = version;
         self.place = place;
         self.sessions = sessions;
         self.entries = entries;
@@ -221,21 +199,18 @@ impl Lines {
     }
 }
 
-// The version that the lines tell, and the lines.
-fn into_lines(lines: Lines) -> (Version, Vec<Line>)
-    ensures version { result.0 ≡ version_of lines }
-    ensures value { result.1.items ≡ lines }
-    ensures few { vec_len result.1 < 65603 }
+fn into_lines(lines: Lines) -> Vec<Line>
+    ensures value { result.items ≡ lines }
+    ensures few { vec_len result < 65603 }
 {
-    let Lines { version, lines, .. } = lines;
-    (version, lines)
+    let Lines { lines, .. } = lines;
+    lines
 }
 
-fn read_lines(alloc: Global, text: &[u8]) -> Result<(Version, Vec<Line>), (u32, Cause)>
-    ensures version { IfOk result (λ r. r.0 ≡ version_of r.1.items) }
-    ensures ok { IfOk result (λ r. Say [] (lines_of text.now) r.1.items) }
-    ensures over { IfOk result (λ r. is_over (place_of r.1.items) ≡ true) }
-    ensures few { IfOk result (λ r. vec_len r.1 < 65603) }
+fn read_lines(alloc: Global, text: &[u8]) -> Result<Vec<Line>, (u32, Cause)>
+    ensures ok { IfOk result (λ ls. Say [] (lines_of text.now) ls.items) }
+    ensures over { IfOk result (λ ls. is_over (place_of ls.items) ≡ true) }
+    ensures few { IfOk result (λ ls. vec_len ls < 65603) }
     ensures fault { IfErr result (λ e. IsFault text.now e.0 e.1) }
 {
     let mut lines = Lines::new(alloc);
@@ -280,7 +255,7 @@ fn sessions_of(alloc: Global, lines: Vec<Line>) -> Result<Seq<Seq<Entry>>, Alloc
                 begun = true;
             }
             Line::Said(entry) => open.push(entry)?,
-            Line::Header(_) | Line::Done => {}
+            Line::Header | Line::Done => {}
         }
     }
     end_session(&mut done, open, begun)?;
@@ -293,15 +268,15 @@ pub fn decode(alloc: Global, text: &[u8]) -> Result<Transcript, (u32, Cause)>
     // What is read is spelled so.
     ensures found { IfOk result (λ t. IsTranscript t × (text.now ≡ text_of t)) }
     // What is spelled so is read, unless memory runs out.
-    ensures only { (t : TranscriptView) → IsTranscript t → text.now ≡ text_of t →
-        MatchResult result (λ read. read ≡ t) (λ e. e.1 ≡ Cause.Memory) }
+    ensures only { (ss : List (List Entry)) → IsTranscript ss → text.now ≡ text_of ss →
+        MatchResult result (λ t. t ≡ ss) (λ e. e.1 ≡ Cause.Memory) }
     // Which line is bad, and why.
     ensures fault { IfErr result (λ e. IsFault text.now e.0 e.1) }
 {
-    let (version, lines) = read_lines(alloc, text)?;
+    let lines = read_lines(alloc, text)?;
     let last = lines.len() as u32;
     match sessions_of(alloc, lines) {
-        Ok(sessions) => Ok(Transcript::keeping(version, sessions)),
+        Ok(sessions) => Ok(Transcript::keeping(sessions)),
         Err(_) => Err((last, Cause::Memory)),
     }
 }

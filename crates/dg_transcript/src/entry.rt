@@ -21,10 +21,7 @@ pub enum Entry {
     NoSend(ErrorCode, Bytes),
     /// After so many milliseconds these bytes came from it.
     Chunk(u32, Bytes),
-    /// After so many milliseconds these bytes came from its error stream. Only transcripts of
-    /// version 2 have it.
-    ErrChunk(u32, Bytes),
-    /// After so many milliseconds its output ended; in version 2 its error stream had ended too.
+    /// After so many milliseconds its output ended.
     End(u32),
     /// Its output could not be read.
     NoRead(ErrorCode),
@@ -46,8 +43,7 @@ impl Drop for Entry {
     fn drop(self) {
         match self {
             Entry::Started(_words) | Entry::NoStart(_, _words) => {}
-            Entry::Sent(_bytes) | Entry::NoSend(_, _bytes) => {}
-            Entry::Chunk(_, _bytes) | Entry::ErrChunk(_, _bytes) => {}
+            Entry::Sent(_bytes) | Entry::NoSend(_, _bytes) | Entry::Chunk(_, _bytes) => {}
             Entry::End(_) | Entry::Silence(_) | Entry::Closed | Entry::Exited(_) => {}
             Entry::NoRead(_) | Entry::NoClose(_) | Entry::NoWait(_) | Entry::Killed(_) => {}
         }
@@ -55,13 +51,12 @@ impl Drop for Entry {
 }
 
 impl Entry {
-    /// What came from the child by this entry, from its output or its error stream: after so many
-    /// milliseconds, these bytes.
+    /// What came from the child by this entry: after so many milliseconds, these bytes.
     pub fn output(&self) -> Option<(u32, &Bytes)>
         ensures { MatchOption result (output_of self.now ≡ None) (λ o. output_of self.now ≡ Some (o.0, o.1.now)) }
     {
         match self {
-            Entry::Chunk(wait, bytes) | Entry::ErrChunk(wait, bytes) => Some((*wait, bytes)),
+            Entry::Chunk(wait, bytes) => Some((*wait, bytes)),
             _ => None,
         }
     }
@@ -72,7 +67,6 @@ impl Entry {
     {
         match self {
             Entry::Chunk(_, bytes) => bytes.keep(alloc),
-            Entry::ErrChunk(_, bytes) => bytes.keep(alloc),
             _ => Ok(()),
         }
     }
@@ -98,8 +92,7 @@ impl Entry {
         match self {
             Entry::Started(_) => Role::Start,
             Entry::NoStart(..) => Role::Failure,
-            Entry::Sent(_) | Entry::NoSend(..) => Role::Talk,
-            Entry::Chunk(..) | Entry::ErrChunk(..) | Entry::Silence(_) => Role::Talk,
+            Entry::Sent(_) | Entry::NoSend(..) | Entry::Chunk(..) | Entry::Silence(_) => Role::Talk,
             Entry::End(_) | Entry::NoRead(_) | Entry::Closed | Entry::NoClose(_) => Role::End,
             Entry::Exited(_) | Entry::Killed(_) | Entry::NoWait(_) => Role::Wait,
         }
@@ -114,7 +107,6 @@ impl TryCopy for Entry {
             Entry::Sent(bytes) => Entry::Sent(bytes.copy(alloc)?),
             Entry::NoSend(code, bytes) => Entry::NoSend(*code, bytes.copy(alloc)?),
             Entry::Chunk(wait, bytes) => Entry::Chunk(*wait, bytes.copy(alloc)?),
-            Entry::ErrChunk(wait, bytes) => Entry::ErrChunk(*wait, bytes.copy(alloc)?),
             Entry::End(wait) => Entry::End(*wait),
             Entry::NoRead(code) => Entry::NoRead(*code),
             Entry::Silence(wait) => Entry::Silence(*wait),

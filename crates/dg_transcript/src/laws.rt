@@ -1,6 +1,6 @@
 //! Laws of the text and of the replay, each the contract of a function that does nothing.
 ghost use Rattle.bstr.specs.Text.{lines_of};
-ghost use Rattle.std.specs.Prelude.{◌≡◌, ◌+◌, ◌-◌, ◌≤◌, ℕ, List, length, slice_get, Some, IsSome, IsSomeAnd, MatchResult};
+ghost use Rattle.std.specs.Prelude.{◌≡◌, ◌+◌, ◌-◌, ◌≤◌, ℕ, List, length, slice_get, IsSome, IsSomeAnd, MatchResult};
 ghost use Rattle.dg_transcript.specs.declared.cursor.Cursor.{Cursor};
 ghost use Rattle.dg_transcript.specs.declared.cursor.Action.{Action};
 ghost use Rattle.dg_transcript.specs.Replay.{steps, replay};
@@ -10,8 +10,6 @@ ghost use Rattle.dg_transcript.specs.declared.cause.Cause.{Cause as Why};
 ghost use Rattle.dg_transcript.specs.Limits.{IsTranscript};
 ghost use Rattle.dg_transcript.specs.Lines.{IsFirstBad, kind_at};
 ghost use Rattle.dg_transcript.specs.Text.{text_of};
-ghost use Rattle.dg_transcript.specs.Transcript.{TranscriptView, header};
-ghost use Rattle.dg_transcript.specs.declared.version.Version.{Version as Told};
 ghost use Rattle.dg_transcript.specs.Decoded.{EachTextIsDecoded};
 
 use crate::cause::Cause;
@@ -20,23 +18,22 @@ use crate::transcript::Transcript;
 use crate::writing::encode;
 use std::alloc::Global;
 
-/// No two transcripts have one text, even where they differ in their versions alone.
+/// No two transcripts have one text.
 pub fn one_text()
-    ensures { (t u : TranscriptView) → IsTranscript t → IsTranscript u → text_of t ≡ text_of u → t ≡ u }
+    ensures { (ss ts : List (List Entry)) → IsTranscript ss → IsTranscript ts → text_of ss ≡ text_of ts → ss ≡ ts }
 {}
 
 /// A text has at most one first bad line, with one cause, and the text of a transcript has none.
 pub fn one_fault()
     ensures one { (text : List ℕ) (n m : ℕ) (why other : Why) →
         IsFirstBad text n why → IsFirstBad text m other → (n ≡ m) × (why ≡ other) }
-    ensures none { (t : TranscriptView) (n : ℕ) (why : Why) → IsTranscript t → ¬ IsFirstBad (text_of t) n why }
+    ensures none { (ss : List (List Entry)) (n : ℕ) (why : Why) → IsTranscript ss → ¬ IsFirstBad (text_of ss) n why }
 {}
 
-/// In a text that begins with the header of a version, a line that is bad by a field begins with the
-/// word of a kind of that version: a line of no kind is never told as that.
+/// A line that is bad by a field begins with the word of a kind: a line of no kind is never told as that.
 pub fn a_bad_field_is_of_a_known_kind()
-    ensures { (text : List ℕ) (v : Told) (n : ℕ) → slice_get (lines_of text) 0 ≡ Some (header v) →
-        IsFirstBad text n Why.Field → IsSomeAnd (slice_get (lines_of text) (n - 1)) (λ line. IsSome (kind_at v line)) }
+    ensures { (text : List ℕ) (n : ℕ) →
+        IsFirstBad text n Why.Field → IsSomeAnd (slice_get (lines_of text) (n - 1)) (λ line. IsSome (kind_at line)) }
 {}
 
 /// Each text spells just one transcript, or has just one first bad line, with one cause.

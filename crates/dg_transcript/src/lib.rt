@@ -12,7 +12,6 @@ mod limits;
 mod line;
 mod reading;
 mod transcript;
-mod version;
 mod writing;
 
 pub use crate::cause::Cause;
@@ -26,5 +25,4 @@ pub use crate::laws::{
 };
 pub use crate::limits::{MAX_ENTRIES, MAX_WAIT, MAX_WORDS};
 pub use crate::transcript::Transcript;
-pub use crate::version::Version;
 pub use crate::writing::encode;

@@ -1,11 +1,10 @@
 //! The tests of a transcript's order and limits.
-ghost use Rattle.std.specs.Prelude.{◌≡◌, ◌≤◌, ◌↔◌, IsTrue};
+ghost use Rattle.std.specs.Prelude.{◌≡◌, ◌↔◌, IsTrue};
 ghost use Rattle.hex.specs.Hex.{IsBytes};
 ghost use Rattle.dg_transcript.specs.Limits.{BytesFit, WordsFit, EntryFits, IsSession, IsTranscript};
 
 use crate::entry::Entry;
 use crate::line::Place;
-use crate::version::Version;
 use dg_bytes::{Bytes, Seq};
 
 /// The most sessions of a transcript.
@@ -57,20 +56,13 @@ fn words_fit(words: &Seq<Bytes>) -> bool
     !words.is_empty() && words.len() <= MAX_WORDS
 }
 
-fn chunk_fits(wait: u32, bytes: &Bytes) -> bool
-    ensures { IsTrue result ↔ ((wait ≤ MAX_WAIT) × BytesFit MAX_CHUNK bytes.now) }
-{
-    wait <= MAX_WAIT && bytes_fit(bytes, MAX_CHUNK)
-}
-
-fn entry_fits(version: Version, entry: &Entry) -> bool
-    ensures { IsTrue result ↔ EntryFits version entry.now }
+fn entry_fits(entry: &Entry) -> bool
+    ensures { IsTrue result ↔ EntryFits entry.now }
 {
     match entry {
         Entry::Started(words) | Entry::NoStart(_, words) => words_fit(words),
         Entry::Sent(bytes) | Entry::NoSend(_, bytes) => bytes_fit(bytes, MAX_SENT),
-        Entry::Chunk(wait, bytes) => chunk_fits(*wait, bytes),
-        Entry::ErrChunk(wait, bytes) => matches!(version, Version::Two) && chunk_fits(*wait, bytes),
+        Entry::Chunk(wait, bytes) => *wait <= MAX_WAIT && bytes_fit(bytes, MAX_CHUNK),
         Entry::End(wait) | Entry::Silence(wait) => *wait <= MAX_WAIT,
         Entry::Killed(signal) => *signal >= 1 && *signal <= MAX_SIGNAL,
         Entry::Exited(status) => {
@@ -81,8 +73,8 @@ fn entry_fits(version: Version, entry: &Entry) -> bool
     }
 }
 
-fn is_session(version: Version, entries: &[Entry]) -> bool
-    ensures { IsTrue result ↔ IsSession version entries.now }
+fn is_session(entries: &[Entry]) -> bool
+    ensures { IsTrue result ↔ IsSession entries.now }
 {
     let mut place = Place::Opened;
     for entry in entries {
@@ -90,7 +82,7 @@ fn is_session(version: Version, entries: &[Entry]) -> bool
         if !place.admits(role) {
             return false;
         }
-        if !entry_fits(version, entry) {
+        if !entry_fits(entry) {
             return false;
         }
         place = role.after();
@@ -98,9 +90,9 @@ fn is_session(version: Version, entries: &[Entry]) -> bool
     !entries.is_empty()
 }
 
-/// Whether these sessions keep the order and the limits of a version.
-pub(crate) fn are_transcript(version: Version, sessions: &[Seq<Entry>]) -> bool
-    ensures { IsTrue result ↔ IsTranscript (record { version = version; sessions = sessions.now }) }
+/// Whether these sessions keep the order and the limits.
+pub(crate) fn are_transcript(sessions: &[Seq<Entry>]) -> bool
+    ensures { IsTrue result ↔ IsTranscript sessions.now }
 {
     if sessions.len() > MAX_SESSIONS {
         return false;
@@ -111,7 +103,7 @@ pub(crate) fn are_transcript(version: Version, sessions: &[Seq<Entry>]) -> bool
         if entries.len() > room {
             return false;
         }
-        if !is_session(version, entries) {
+        if !is_session(entries) {
             return false;
         }
         room -= entries.len();

@@ -1,12 +1,9 @@
 //! The lines of a transcript's text, and the order in which they come.
-ghost use Rattle.std.specs.Prelude.{◌≡◌, ◌&&◌};
-ghost use Rattle.dg_bytes.specs.Same.{same_bytes};
-ghost use Rattle.dg_transcript.specs.Fields.{keyword, is_in, kind_of};
-ghost use Rattle.dg_transcript.specs.Lines.{after_version};
+ghost use Rattle.std.specs.Prelude.{◌≡◌};
+ghost use Rattle.dg_transcript.specs.Fields.{keyword, kind_of};
 ghost use Rattle.dg_transcript.specs.Order.{admits, after_role, opens_session};
 
 use crate::entry::Entry;
-use crate::version::Version;
 
 /// What an entry does in its session.
 #[derive(Clone, Copy)]
@@ -38,7 +35,7 @@ pub(crate) enum Place {
 /// What a line says.
 #[derive(Drop)]
 pub(crate) enum Line {
-    Header(Version),
+    Header,
     Session(u32),
     Said(Entry),
     Done,
@@ -65,18 +62,6 @@ impl Place {
     }
 }
 
-impl Line {
-    /// The version of the transcript after this line, where it was this one before.
-    pub(crate) fn version_after(&self, version: Version) -> Version
-        ensures { result ≡ after_version version self.now }
-    {
-        match self {
-            Line::Header(told) => *told,
-            Line::Session(_) | Line::Said(_) | Line::Done => version,
-        }
-    }
-}
-
 impl Role {
     /// The place after an entry.
     pub(crate) fn after(self) -> Place
@@ -99,7 +84,6 @@ pub(crate) enum Kind {
     Sent,
     NoSend,
     Chunk,
-    ErrChunk,
     End,
     NoRead,
     Silence,
@@ -111,14 +95,13 @@ pub(crate) enum Kind {
     Done,
 }
 
-const KINDS: [Kind; 16] = [
+const KINDS: [Kind; 15] = [
     Kind::Session,
     Kind::Started,
     Kind::NoStart,
     Kind::Sent,
     Kind::NoSend,
     Kind::Chunk,
-    Kind::ErrChunk,
     Kind::End,
     Kind::NoRead,
     Kind::Silence,
@@ -142,7 +125,6 @@ impl Kind {
             Kind::Sent => b"sent",
             Kind::NoSend => b"nosend",
             Kind::Chunk => b"chunk",
-            Kind::ErrChunk => b"errchunk",
             Kind::End => b"end",
             Kind::NoRead => b"noread",
             Kind::Silence => b"silence",
@@ -155,29 +137,12 @@ impl Kind {
         }
     }
 
-    /// Whether a version has lines of this kind.
-    fn is_in(self, version: Version) -> bool
-        ensures { result ≡ is_in self version }
-    {
-        match self {
-            Kind::ErrChunk => matches!(version, Version::Two),
-            _ => true,
-        }
-    }
-
-    /// Whether this is the kind that a line's first word names in a version.
-    fn is_named(self, version: Version, word: &[u8]) -> bool
-        ensures { result ≡ (same_bytes (keyword self) word.now && is_in self version) }
-    {
-        self.keyword() == word && self.is_in(version)
-    }
-
-    /// The kind that a line's first word names in a version.
-    pub(crate) fn named(version: Version, word: &[u8]) -> Option<Kind>
-        ensures { result ≡ kind_of version word.now }
+    /// The kind that a line's first word names.
+    pub(crate) fn named(word: &[u8]) -> Option<Kind>
+        ensures { result ≡ kind_of word.now }
     {
         for kind in KINDS {
-            if kind.is_named(version, word) {
+            if kind.keyword() == word {
                 return Some(kind);
             }
         }

@@ -10,7 +10,6 @@ use crate::fields::{
 };
 use crate::limits::{MAX_CHUNK, MAX_SENT, MAX_WAIT};
 use crate::line::{Kind, Line};
-use crate::version::Version;
 use std::alloc::Global;
 
 fn wait_of(text: &[u8]) -> Result<u32, Cause>
@@ -77,17 +76,6 @@ fn chunk(alloc: Global, fields: Option<&[u8]>) -> Result<Line, Cause>
     let wait = wait_of(wait)?;
     let bytes = bytes_of(alloc, MAX_CHUNK, only_field(bytes)?)?;
     Ok(Line::Said(Entry::Chunk(wait, bytes)))
-}
-
-// Bytes that came from the error stream, behind the wait for them.
-#[tactic(auto, unfolding(crate::specs::Fields::line_by))]
-fn err_chunk(alloc: Global, fields: Option<&[u8]>) -> Result<Line, Cause>
-    ensures { Parses (λ l. l) result (line_by Kind.ErrChunk (behind (option_copied fields.entry))) }
-{
-    let (wait, bytes) = first_field(fields)?;
-    let wait = wait_of(wait)?;
-    let bytes = bytes_of(alloc, MAX_CHUNK, only_field(bytes)?)?;
-    Ok(Line::Said(Entry::ErrChunk(wait, bytes)))
 }
 
 // The end of the output, after a wait.
@@ -182,7 +170,6 @@ fn line_by(alloc: Global, kind: Kind, fields: Option<&[u8]>) -> Result<Line, Cau
         Kind::Sent => sent(alloc, fields),
         Kind::NoSend => no_send(alloc, fields),
         Kind::Chunk => chunk(alloc, fields),
-        Kind::ErrChunk => err_chunk(alloc, fields),
         Kind::End => end(fields),
         Kind::NoRead => no_read(fields),
         Kind::Silence => silence(fields),
@@ -211,13 +198,13 @@ fn signal_of(text: &[u8]) -> Result<u8, Cause>
     Ok(signal as u8)
 }
 
-/// What a line says in a version, without its newline.
+/// What a line says, without its newline.
 #[tactic(auto, unfolding(crate::specs::Fields::line_from))]
-pub(crate) fn read_line(alloc: Global, version: Version, line: &[u8]) -> Result<Line, Cause>
-    ensures { Parses (λ l. l) result (read_line version line.now) }
+pub(crate) fn read_line(alloc: Global, line: &[u8]) -> Result<Line, Cause>
+    ensures { Parses (λ l. l) result (read_line line.now) }
 {
     let (word, fields) = split(line);
-    match Kind::named(version, word) {
+    match Kind::named(word) {
         Some(kind) => line_by(alloc, kind, fields),
         None => Err(Cause::Kind),
     }

@@ -5,7 +5,6 @@ ghost use Rattle.dg_transcript.specs.Sessions.{entry_at};
 
 use crate::entry::Entry;
 use crate::limits::are_transcript;
-use crate::version::Version;
 use dg_bytes::{Seq, TryCopy};
 use std::alloc::{AllocError, Global};
 use std::marker::Model;
@@ -13,70 +12,56 @@ use std::marker::Model;
 /// The sessions of a test, from session 1 on, each with its entries in order. It keeps the order
 /// and the limits of the format: at most 64 sessions and 65,536 entries; each session is a failed
 /// start alone, or a start, then what was sent and read, then at most one end of its output or of
-/// the session, then at most one wait. In version 1 nothing of it was read from the error stream.
-/// Two transcripts that differ in the version alone answer a script alike.
+/// the session, then at most one wait.
 pub struct Transcript {
-    version: Version,
     sessions: Seq<Seq<Entry>>,
 }
 
 impl Drop for Transcript {
     fn drop(self) {
-        let Transcript {
-            version: _,
-            sessions: _,
-        } = self;
+        let Transcript { sessions: _ } = self;
     }
 }
 
 impl Model for Transcript {
-    ghost use Rattle.dg_transcript.specs.Transcript.{TranscriptView};
+    ghost use Rattle.std.specs.Prelude.{List};
+    ghost use Rattle.dg_transcript.specs.declared.entry.Entry.{Entry};
 
-    ghost Value = { TranscriptView };
+    ghost Value = { List (List Entry) };
 
     ghost use Rattle.dg_transcript.specs.Limits.{IsTranscript};
 
-    ghost view = { λ t. record { version = t.version; sessions = t.sessions } };
+    ghost view = { λ t. t.sessions };
 
-    ghost invariant = { λ t. IsTranscript (record { version = t.version; sessions = t.sessions }) };
+    ghost invariant = { λ t. IsTranscript t.sessions };
 }
 
 impl Transcript {
-    /// The transcript of this version of these sessions, or the sessions again where they don't
-    /// keep the order or the limits, or the version does not have one of the entries.
-    pub fn from_sessions(
-        version: Version,
-        sessions: Seq<Seq<Entry>>,
-    ) -> Result<Transcript, Seq<Seq<Entry>>>
-        ensures when { IsOk result ↔ IsTranscript (record { version = version; sessions = sessions }) }
-        ensures ok { IfOk result (λ t. t ≡ record { version = version; sessions = sessions }) }
+    /// The transcript of these sessions, or the sessions again where they don't keep the order or
+    /// the limits.
+    pub fn from_sessions(sessions: Seq<Seq<Entry>>) -> Result<Transcript, Seq<Seq<Entry>>>
+        ensures when { IsOk result ↔ IsTranscript sessions }
+        ensures ok { IfOk result (λ t. t ≡ sessions) }
         ensures back { IfErr result (λ s. s ≡ sessions) }
     {
-        if are_transcript(version, sessions.as_slice()) {
-            Ok(Transcript::keeping(version, sessions))
+        if are_transcript(sessions.as_slice()) {
+            Ok(Transcript::keeping(sessions))
         } else {
             Err(sessions)
         }
     }
 
     /// The transcript of sessions that keep the order and the limits.
-    pub(crate) fn keeping(version: Version, sessions: Seq<Seq<Entry>>) -> Transcript
-        requires { IsTranscript (record { version = version; sessions = sessions }) }
-        ensures { result ≡ record { version = version; sessions = sessions } }
+    pub(crate) fn keeping(sessions: Seq<Seq<Entry>>) -> Transcript
+        requires { IsTranscript sessions }
+        ensures { result ≡ sessions }
     {
-        Transcript { version, sessions }
-    }
-
-    /// The version, which the first line of its text tells.
-    pub fn version(&self) -> Version
-        ensures { result ≡ self.now.version }
-    {
-        self.version
+        Transcript { sessions }
     }
 
     /// The sessions, each with its entries.
     pub fn sessions(&self) -> &[Seq<Entry>]
-        ensures value { result.now ≡ self.now.sessions }
+        ensures value { result.now ≡ self.now }
         ensures kept { IsTranscript self.now }
     {
         let _ = &self.sessions;
@@ -88,7 +73,7 @@ impl Transcript {
     ///
     /// [`Cursor`]: crate::Cursor
     pub fn entry(&self, session: u32, place: u32) -> Option<&Entry>
-        ensures { option_copied result ≡ entry_at self.now.sessions session place }
+        ensures { option_copied result ≡ entry_at self.now session place }
     {
         let index = session.checked_sub(1)?;
         let entries = self.sessions.as_slice().get(index as usize)?;
@@ -99,7 +84,6 @@ impl Transcript {
 impl TryCopy for Transcript {
     fn copy(&self, alloc: Global) -> Result<Transcript, AllocError> {
         Ok(Transcript {
-            version: self.version,
             sessions: self.sessions.copy(alloc)?,
         })
     }

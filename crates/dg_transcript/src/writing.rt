@@ -127,7 +127,6 @@ fn push_entry(alloc: Global, out: &mut Bytes, entry: &Entry) -> Result<(), Alloc
             push_bytes(alloc, out, b"nosend", code.number().into(), bytes)
         }
         Entry::Chunk(wait, bytes) => push_bytes(alloc, out, b"chunk", *wait, bytes),
-        Entry::ErrChunk(wait, bytes) => push_bytes(alloc, out, b"errchunk", *wait, bytes),
         Entry::End(wait) => push_numbered(alloc, out, b"end", *wait),
         Entry::Silence(wait) => push_numbered(alloc, out, b"silence", *wait),
         Entry::Closed => out.extend(b"closed"),
@@ -157,12 +156,12 @@ fn push_session(
     Ok(())
 }
 
-/// The text of a transcript, whose first line tells its version: one line for each entry.
+/// The text of a transcript, one line for each entry.
 pub fn encode(alloc: Global, transcript: &Transcript) -> Result<Bytes, AllocError>
     ensures { IfOk result (λ text. text ≡ text_of transcript.now) }
 {
     let mut out = Bytes::new(alloc);
-    out.extend(transcript.version().header())?;
+    out.extend(b"dejagnu-transcript 1\n")?;
     let mut number = 0;
     for session in transcript.sessions() {
         number += 1;

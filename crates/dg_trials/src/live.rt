@@ -1,7 +1,6 @@
 //! Live runs over gates that answer from lists: rows of scripts, with what their gates answer and what comes of it, and scripts that
 //! are drawn from pieces. Both stand in data/, where a person can read them and add to them.
 mod chance;
-pub mod children;
 pub mod desk;
 mod drawing;
 mod entries;

@@ -24,9 +24,7 @@ use std::thread::Threads;
 use std::time::Clock;
 
 /// The parts that are tried in turn.
-const PARTS: [&str; 7] = [
-    "cores", "threads", "sessions", "live", "pipes", "children", "benches",
-];
+const PARTS: [&str; 6] = ["cores", "threads", "sessions", "live", "pipes", "benches"];
 
 /// Tries a part, with the data of this folder.
 fn try_part<R>(rt: R, folder: &str, part: &str) -> Result<()>
@@ -51,7 +49,6 @@ where
         "sessions" => sessions::try_cases(&rt, rt.alloc()),
         "live" => live::try_files(&rt, folder),
         "pipes" => pipes::try_file(rt, folder),
-        "children" => live::children::try_file(rt, folder),
         "benches" => benches::try_cases(&rt),
         _ => bail!("there is no part of this name"),
     }

@@ -4,7 +4,7 @@ use crate::files::bytes_of;
 use anyhow::Result as Tried;
 use dg_bytes::{Bytes, Seq};
 use dg_gate::{Gate, perform};
-use dg_pipes::{Account, Bells, Fresh, Item, PipeGate, Rule, Stream, pump};
+use dg_pipes::{Account, Bells, Fresh, Item, PipeGate, Rule, pump};
 use dg_transcript::{Action, Entry};
 use rtrb::RingBuffer;
 use std::alloc::{AllocError, Global};
@@ -74,15 +74,14 @@ fn text_of(bytes: &Bytes) -> &str {
     str::from_utf8(bytes.as_slice()).unwrap_or("?")
 }
 
-/// What an entry tells, without its wait.
-pub fn told(alloc: Global, entry: &Entry) -> Result<String, AllocError> {
+/// What an entry tells.
+fn told(alloc: Global, entry: &Entry) -> Result<String, AllocError> {
     match entry {
         Entry::Started(_) => format!(in alloc; "started"),
         Entry::NoStart(code, _) => format!(in alloc; "nostart {}", code.number()),
         Entry::Sent(_) => format!(in alloc; "sent"),
         Entry::NoSend(code, _) => format!(in alloc; "nosend {}", code.number()),
         Entry::Chunk(_, bytes) => format!(in alloc; "chunk {}", text_of(bytes).trim_end()),
-        Entry::ErrChunk(_, bytes) => format!(in alloc; "errchunk {}", text_of(bytes).trim_end()),
         Entry::End(_) => format!(in alloc; "end"),
         Entry::NoRead(code) => format!(in alloc; "noread {}", code.number()),
         Entry::Silence(wait) => format!(in alloc; "silence {wait}"),
@@ -213,8 +212,7 @@ impl<G: Gate> Table<G> {
 fn pumped(rt: &impl Wait, alloc: Global, text: &str) -> Result<String, AllocError> {
     let (mut producer, mut ring) = RingBuffer::with_protocol::<Global, Rule>(alloc, SLOTS)?;
     let mut source = text.as_bytes();
-    let bells = Bells::new();
-    let whole = pump(rt, alloc, &mut source, &mut producer, &bells, Stream::Out);
+    let whole = pump(rt, alloc, &mut source, &mut producer, &Bells::new());
     let mut count = 0u64;
     for _ in 0..SLOTS {
         match ring.pop() {
@@ -226,26 +224,17 @@ fn pumped(rt: &impl Wait, alloc: Global, text: &str) -> Result<String, AllocErro
     format!(in alloc; "{count} bytes, {whole}")
 }
 
-/// The word for a stream.
-pub fn word_of(stream: Stream) -> &'static str {
-    match stream {
-        Stream::Out => "out",
-        Stream::Err => "err",
-    }
-}
-
-/// Writes an account. Where the session's end was read the ring has to give all that was pushed; else that depends on how
+/// Writes an account. Where its end was read the ring has to give all that was pushed; else that depends on how
 /// soon the reader's thread saw the child's end.
 fn write_account(rt: &impl Print, account: &Account, ended: &[u32]) -> io::Result<()> {
     let session = account.session;
-    let stream = word_of(account.stream);
     if !ended.contains(&session) {
-        return println!(rt; "session {session} {stream}");
+        return println!(rt; "session {session}");
     }
     if account.finished.is_some() {
-        println!(rt; "session {session} {stream} whole")
+        println!(rt; "session {session} whole")
     } else {
-        println!(rt; "session {session} {stream} cut")
+        println!(rt; "session {session} cut")
     }
 }
 
@@ -265,9 +254,7 @@ where
 {
     let alloc = rt.alloc();
     let mut table = Table {
-        gate: PipeGate::new(rt, alloc, move |output, errors| {
-            Fresh::open(rt, alloc, output, errors)
-        }),
+        gate: PipeGate::new(rt, alloc, move |output| Fresh::open(rt, alloc, output)),
         alloc,
         ended: Vec::new(alloc),
     };

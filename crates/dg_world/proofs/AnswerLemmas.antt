@@ -53,7 +53,6 @@ entry-refl (entry.NoStart c a) = and_from _ _ (code-refl c) ((words_decide a a).
 entry-refl (entry.Sent a) = (bytes_decides a a).1 refl
 entry-refl (entry.NoSend c a) = and_from _ _ (code-refl c) ((bytes_decides a a).1 refl)
 entry-refl (entry.Chunk m a) = and_from _ _ (eq-eqb m m refl) ((bytes_decides a a).1 refl)
-entry-refl (entry.ErrChunk m a) = and_from _ _ (eq-eqb m m refl) ((bytes_decides a a).1 refl)
 entry-refl (entry.End m) = eq-eqb m m refl
 entry-refl (entry.NoRead c) = code-refl c
 entry-refl (entry.Silence m) = eq-eqb m m refl
@@ -82,11 +81,6 @@ entry-true (entry.Chunk m a) (entry.Chunk n b) h =
     let e = eqb-true m n p.0 in
     let f = (bytes_decides a b).0 p.1 in
     rw (e, f) refl
-entry-true (entry.ErrChunk m a) (entry.ErrChunk n b) h =
-    let p = and_parts (m == n) (pointwise nat_eq a b) h in
-    let e = eqb-true m n p.0 in
-    let f = (bytes_decides a b).0 p.1 in
-    rw (e, f) refl
 entry-true (entry.End m) (entry.End n) h = ap entry.End (eqb-true m n h)
 entry-true (entry.NoRead c) (entry.NoRead d) h = ap entry.NoRead (code-true c d h)
 entry-true (entry.Silence m) (entry.Silence n) h = ap entry.Silence (eqb-true m n h)
@@ -101,7 +95,6 @@ pub same_answer-refl : (a b : Answer) → a ≡ b → same_answer a b ≡ true
 same_answer-refl a b e = subst (λ x. same_answer a x ≡ true) e (itself a)
   where
     itself : (a : Answer) → same_answer a a ≡ true
-    itself (answer.Steps m) = eq-eqb m m refl
     itself answer.Absent = refl
     itself (answer.Content t) = (bytes_decides t t).1 refl
     itself (answer.Tool t) = (bytes_decides t t).1 refl
@@ -113,7 +106,6 @@ same_answer-refl a b e = subst (λ x. same_answer a x ≡ true) e (itself a)
     itself (answer.Reading r) = reading-refl r
 
 pub same_answer-true : (a b : Answer) → same_answer a b ≡ true → a ≡ b
-same_answer-true (answer.Steps m) (answer.Steps n) h = ap answer.Steps (eqb-true m n h)
 same_answer-true answer.Absent answer.Absent h = refl
 same_answer-true (answer.Content a) (answer.Content b) h = ap answer.Content ((bytes_decides a b).0 h)
 same_answer-true (answer.Tool a) (answer.Tool b) h = ap answer.Tool ((bytes_decides a b).0 h)
@@ -139,7 +131,6 @@ entry_eq (entry.NoStart c a) (entry.NoStart d b) = ap (λ x. x && same_words a b
 entry_eq (entry.Sent a) (entry.Sent b) = refl
 entry_eq (entry.NoSend c a) (entry.NoSend d b) = ap (λ x. x && pointwise nat_eq a b) (code_eq c d)
 entry_eq (entry.Chunk m a) (entry.Chunk n b) = refl
-entry_eq (entry.ErrChunk m a) (entry.ErrChunk n b) = refl
 entry_eq (entry.End m) (entry.End n) = refl
 entry_eq (entry.NoRead c) (entry.NoRead d) = code_eq c d
 entry_eq (entry.Silence m) (entry.Silence n) = refl
@@ -158,7 +149,6 @@ reading_eq _ _ = refl
 
 -- the test that the code makes is whether two answers are the same
 pub answer_eq : (a b : Answer) → answers.ghosts.eq a b ≡ same_answer a b
-answer_eq (answer.Steps m) (answer.Steps n) = refl
 answer_eq answer.Absent answer.Absent = refl
 answer_eq (answer.Content a) (answer.Content b) = refl
 answer_eq (answer.Tool a) (answer.Tool b) = refl

@@ -3,7 +3,7 @@ use Rattle.std.proofs.Common.{◌≡◌, ◌⊎◌, ℕ, List, refl, ap, inl, in
 use Rattle.std.specs.Prelude.{Ok, Err}
 use Rattle.dg_transcript.specs.declared.cause.Cause.{Cause}
 use Rattle.dg_transcript.specs.declared.cause.Cause.TheVariants as cause
-use Rattle.dg_transcript.specs.Transcript.{TranscriptView}
+use Rattle.dg_transcript.specs.declared.entry.Entry.{Entry}
 use Rattle.dg_transcript.specs.Limits.{IsTranscript}
 use Rattle.dg_transcript.specs.Lines.{IsFault}
 use Rattle.dg_transcript.specs.Text.{text_of}
@@ -11,8 +11,8 @@ use Rattle.dg_transcript.proofs.DecodedLemmas.{decoded_of_text, decoded_of_bad}
 use Rattle.dg_world.specs.Transcripts.{read_or_refused, transcript_in, refusal_for}
 use Rattle.dg_world.specs.declared.refusal.Refusal.TheVariants.{Memory}
 
-pub transcript_of_text : (text : List ℕ) (kept : TranscriptView) → IsTranscript kept × (text ≡ text_of kept) → transcript_in text ≡ Ok kept
-transcript_of_text text kept h = ap read_or_refused (decoded_of_text text kept h.0 h.1)
+pub transcript_of_text : (text : List ℕ) (ss : List (List Entry)) → IsTranscript ss × (text ≡ text_of ss) → transcript_in text ≡ Ok ss
+transcript_of_text text ss h = ap read_or_refused (decoded_of_text text ss h.0 h.1)
 
 -- a fault of reading is want of memory, or tells the first bad line
 pub told_fault : (text : List ℕ) (n : ℕ) (why : Cause) → IsFault text n why → (refusal_for n why ≡ Memory) ⊎ (transcript_in text ≡ Err (refusal_for n why))

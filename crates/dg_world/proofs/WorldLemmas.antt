@@ -10,20 +10,20 @@ use Rattle.std.specs.Map.{remove_entry, keys_of}
 use Rattle.std.proofs.lemmas.Bool.{and_parts, and_from, leb-true, leb-false, le-leb, false≢true}
 use Rattle.std.proofs.lemmas.List.Folds.{list_all_at}
 use Rattle.dg_world.specs.Name.{is_name, is_single_part}
-use Rattle.dg_world.specs.Selection.{is_selection, first_selection, is_selected, are_boards, are_names, are_settings, are_distinct, is_limit}
+use Rattle.dg_world.specs.Selection.{is_selection, first_selection, is_selected, are_boards, are_names, are_settings, are_distinct}
 use Rattle.dg_world.specs.declared.selection.Selection.{Selection}
 use Rattle.std.specs.Prelude.{not, is_some, ◌⊎◌}
 use Rattle.dg_world.specs.World.{transcript_of, lacks_room, WorldView, is_world, is_file, scripts, selected}
 use Rattle.dg_world.specs.Tests.{tests_on}
 use Rattle.dg_world.specs.declared.test_id.TestId.{TestId}
-use Rattle.dg_transcript.specs.Transcript.{TranscriptView}
+use Rattle.dg_transcript.specs.declared.entry.Entry.{Entry as EntryOfSession}
 use Rattle.dg_match.specs.declared.reading.Reading.{Reading}
 
 abbrev pub Entry : Type 0
 Entry = List ℕ × List ℕ
 
 abbrev pub Transcripts : Type 0
-Transcripts = List (TestId × TranscriptView)
+Transcripts = List (TestId × List (List EntryOfSession))
 
 abbrev pub Book : Type 0
 Book = List (List ℕ × Reading)
@@ -156,8 +156,7 @@ unfolding is_selection
 board_at w h i d lt =
     let s = w.selection in
     let valid = (within w h).selection in
-    let five = and_parts (is_single_part s.tool && are_boards s.boards && are_names s.only && are_names s.ignore && are_settings s.variables) (is_limit s.steps) valid in
-    let four = and_parts (is_single_part s.tool && are_boards s.boards && are_names s.only && are_names s.ignore) (are_settings s.variables) five.0 in
+    let four = and_parts (is_single_part s.tool && are_boards s.boards && are_names s.only && are_names s.ignore) (are_settings s.variables) valid in
     let three = and_parts (is_single_part s.tool && are_boards s.boards && are_names s.only) (are_names s.ignore) four.0 in
     let two = and_parts (is_single_part s.tool && are_boards s.boards) (are_names s.only) three.0 in
     let boards = and_parts (is_single_part s.tool) (are_boards s.boards) two.0 in

@@ -21,7 +21,6 @@ same_entry (entry.NoStart c a) (entry.NoStart d b) = same_code c d && same_words
 same_entry (entry.Sent a) (entry.Sent b) = same_bytes a b
 same_entry (entry.NoSend c a) (entry.NoSend d b) = same_code c d && same_bytes a b
 same_entry (entry.Chunk m a) (entry.Chunk n b) = (m == n) && same_bytes a b
-same_entry (entry.ErrChunk m a) (entry.ErrChunk n b) = (m == n) && same_bytes a b
 same_entry (entry.End m) (entry.End n) = m == n
 same_entry (entry.NoRead c) (entry.NoRead d) = same_code c d
 same_entry (entry.Silence m) (entry.Silence n) = m == n

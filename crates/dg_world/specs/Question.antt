@@ -9,7 +9,7 @@ use Rattle.dg_world.specs.declared.question.System.{System}
 use Rattle.dg_world.specs.declared.question.System.TheVariants.{Target, Host, Build}
 use Rattle.dg_world.specs.declared.question.EntryPlace.{EntryPlace}
 use Rattle.dg_world.specs.declared.question.Question.{Question}
-use Rattle.dg_world.specs.declared.question.Question.TheVariants.{Steps, File, Tool, Triplet, Variable, Entry, Pattern}
+use Rattle.dg_world.specs.declared.question.Question.TheVariants.{File, Tool, Triplet, Variable, Entry, Pattern}
 use Rattle.dg_world.specs.declared.question.Answer.{Answer}
 use Rattle.dg_world.specs.declared.question.Answer.TheVariants as answer
 
@@ -26,7 +26,6 @@ same_place a b = same_test a.test b.test && (a.session == b.session) && (a.place
 
 -- whether two questions are the same
 abbrev pub same_question : Question → Question → Bool
-same_question Steps Steps = true
 same_question (File a) (File b) = same_bytes a b
 same_question Tool Tool = true
 same_question (Triplet a) (Triplet b) = same_system a b
@@ -44,7 +43,6 @@ same_reading _ _ = false
 
 -- whether two answers are the same
 abbrev pub same_answer : Answer → Answer → Bool
-same_answer (answer.Steps m) (answer.Steps n) = m == n
 same_answer answer.Absent answer.Absent = true
 same_answer (answer.Content a) (answer.Content b) = same_bytes a b
 same_answer (answer.Tool a) (answer.Tool b) = same_bytes a b
@@ -58,7 +56,6 @@ same_answer _ _ = false
 
 -- whether an answer is of the kind that a question has
 abbrev pub fits : Question → Answer → Bool
-fits Steps (answer.Steps limit) = true
 fits (File n) answer.Absent = true
 fits (File n) (answer.Content bytes) = true
 fits Tool (answer.Tool name) = true

@@ -9,7 +9,7 @@ use Rattle.dg_world.specs.declared.question.System.{System}
 use Rattle.dg_world.specs.declared.question.System.TheVariants.{Target, Host, Build}
 use Rattle.dg_world.specs.declared.selection.Selection.{Selection}
 use Rattle.dg_world.specs.declared.setting.Setting.{Setting}
-use Rattle.dg_world.specs.declared.selection.TheConstants.{MAX_BOARDS, MAX_NAMES, MAX_SETTINGS, MIN_STEPS, MAX_STEPS, FIRST_STEPS}
+use Rattle.dg_world.specs.declared.selection.TheConstants.{MAX_BOARDS, MAX_NAMES, MAX_SETTINGS}
 
 -- whether no two are the same
 abbrev pub are_distinct : List (List ℕ) → Bool
@@ -29,13 +29,9 @@ are_boards boards =
 abbrev pub are_settings : List Setting → Bool
 are_settings settings = nat_le (length settings) MAX_SETTINGS && list_all is_setting settings && are_distinct (map (λ s. s.name) settings)
 
--- a limit of 1,000 to 1,000,000 steps
-abbrev pub is_limit : ℕ → Bool
-is_limit steps = nat_le MIN_STEPS steps && nat_le steps MAX_STEPS
-
 -- whether a selection is valid
 unfoldable pub is_selection : Selection → Bool
-is_selection s = is_single_part s.tool && are_boards s.boards && are_names s.only && are_names s.ignore && are_settings s.variables && is_limit s.steps
+is_selection s = is_single_part s.tool && are_boards s.boards && are_names s.only && are_names s.ignore && are_settings s.variables
 
 -- the selection of a new world
 abbrev pub first_selection : Selection
@@ -49,7 +45,6 @@ first_selection =
       only = [];
       ignore = [];
       variables = [];
-      steps = FIRST_STEPS;
     }
 
 -- the triplet of a system

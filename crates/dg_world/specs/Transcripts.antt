@@ -4,19 +4,18 @@ use Rattle.dg_transcript.specs.declared.cause.Cause.{Cause}
 use Rattle.dg_transcript.specs.declared.cause.Cause.TheVariants as cause
 use Rattle.dg_transcript.specs.declared.entry.Entry.{Entry}
 use Rattle.dg_transcript.specs.Decoded.{decoded}
-use Rattle.dg_transcript.specs.Transcript.{TranscriptView}
 use Rattle.dg_world.specs.Test.{TestView}
 use Rattle.dg_world.specs.declared.refusal.Refusal.{Refusal}
 use Rattle.dg_world.specs.declared.refusal.Refusal.TheVariants.{BadName, BadTranscript, Memory}
 use Rattle.dg_world.specs.declared.question.Answer.{Answer}
 use Rattle.dg_world.specs.declared.question.Answer.TheVariants as answer
 
--- the transcript of a text, or the refusal that tells its first bad line
-abbrev pub read_or_refused : Result TranscriptView (ℕ × Cause) → Result TranscriptView Refusal
-read_or_refused (Ok kept) = Ok kept
+-- the sessions of a text, or the refusal that tells its first bad line
+abbrev pub read_or_refused : Result (List (List Entry)) (ℕ × Cause) → Result (List (List Entry)) Refusal
+read_or_refused (Ok ss) = Ok ss
 read_or_refused (Err (line, why)) = Err (BadTranscript line why)
 
-abbrev pub transcript_in : List ℕ → Result TranscriptView Refusal
+abbrev pub transcript_in : List ℕ → Result (List (List Entry)) Refusal
 transcript_in text = read_or_refused (decoded text)
 
 -- the refusal for a fault of reading
@@ -29,10 +28,10 @@ abbrev pub for_test : {A : Type 0} → Option TestView → (TestView → Result 
 for_test None f = Err BadName
 for_test (Some t) f = f t
 
--- goes on with the transcript that was read
-abbrev pub for_transcript : {A : Type 0} → Result TranscriptView Refusal → (TranscriptView → A) → Result A Refusal
-for_transcript (Err refusal) f = Err refusal
-for_transcript (Ok kept) f = Ok (f kept)
+-- goes on with the sessions that were read
+abbrev pub for_sessions : {A : Type 0} → Result (List (List Entry)) Refusal → (List (List Entry) → A) → Result A Refusal
+for_sessions (Err refusal) f = Err refusal
+for_sessions (Ok ss) f = Ok (f ss)
 
 -- what a world answers where this entry stands at the place, or none does
 abbrev pub entry_answer : Option Entry → Answer

@@ -14,17 +14,16 @@ use Rattle.dg_world.specs.Selection.{first_selection, is_selection, is_selected,
 use Rattle.dg_world.specs.Setting.{value_of}
 use Rattle.dg_world.specs.Tests.{tests_on}
 use Rattle.dg_world.specs.Test.{TestView, test_cmp, test_of}
-use Rattle.dg_world.specs.Transcripts.{transcript_in, for_test, for_transcript, entry_answer}
+use Rattle.dg_world.specs.Transcripts.{transcript_in, for_test, for_sessions, entry_answer}
 use Rattle.dg_transcript.specs.declared.entry.Entry.{Entry as EntryOfSession}
 use Rattle.dg_transcript.specs.Sessions.{entry_at}
-use Rattle.dg_transcript.specs.Transcript.{TranscriptView}
 use Rattle.dg_match.specs.declared.reading.Reading.{Reading as ReadingOfText}
 use Rattle.dg_match.specs.Book.{reading_of, Fits}
 use Rattle.dg_world.specs.declared.question.EntryPlace.{EntryPlace}
 use Rattle.dg_world.specs.declared.selection.Selection.{Selection}
 use Rattle.dg_world.specs.declared.test_id.TestId.{TestId}
 use Rattle.dg_world.specs.declared.question.Question.{Question}
-use Rattle.dg_world.specs.declared.question.Question.TheVariants.{Steps, File, Tool, Triplet, Variable, Entry, Pattern}
+use Rattle.dg_world.specs.declared.question.Question.TheVariants.{File, Tool, Triplet, Variable, Entry, Pattern}
 use Rattle.dg_world.specs.declared.question.Answer.{Answer}
 use Rattle.dg_world.specs.declared.question.Answer.TheVariants as answer
 use Rattle.dg_world.specs.declared.edit.Edit.{Edit}
@@ -33,12 +32,12 @@ use Rattle.dg_world.specs.declared.refusal.Refusal.{Refusal}
 use Rattle.dg_world.specs.declared.refusal.Refusal.TheVariants.{BadName, TooLong, TooMany, NoSuchFile, NoSuchTranscript, BadSelection}
 use Rattle.dg_world.specs.declared.world.TheConstants.{MAX_FILES, MAX_FILE_LENGTH, MAX_TRANSCRIPTS}
 
--- the files, each name with its bytes, in byte order of the names and each name once; what is run; the transcripts
--- of tests, in the tests' order and each test once; and the book of patterns
+-- the files, each name with its bytes, in byte order of the names and each name once; what is run; the sessions of
+-- each test that has a transcript, in the tests' order and each test once; and the book of patterns
 pub record WorldView : Type 0 where
   pub files : List (List ℕ × List ℕ)
   pub selection : Selection
-  pub transcripts : List (TestView × TranscriptView)
+  pub transcripts : List (TestView × List (List EntryOfSession))
   pub book : List (List ℕ × ReadingOfText)
 
 -- a file of a world: a name, and at most 1,048,576 bytes
@@ -67,17 +66,16 @@ abbrev pub setting_answer : Option (List ℕ) → Answer
 setting_answer None = answer.Unset
 setting_answer (Some value) = answer.Value value
 
--- the transcript of a test, if it has one
-abbrev pub transcript_of : WorldView → TestView → Option TranscriptView
+-- the sessions of a test's transcript, if it has one
+abbrev pub transcript_of : WorldView → TestView → Option (List (List EntryOfSession))
 transcript_of w t = lookup (is_at (test_cmp t)) w.transcripts
 
--- the entry at a place of a test's transcript, if there is one, whatever the transcript's version
+-- the entry at a place of a test's transcript, if there is one
 abbrev pub entry_of : WorldView → EntryPlace → Option EntryOfSession
-entry_of w p = option_and_then (λ kept. entry_at kept.sessions p.session p.place) (transcript_of w p.test)
+entry_of w p = option_and_then (λ ss. entry_at ss p.session p.place) (transcript_of w p.test)
 
 -- what a world answers, if it has an answer: all but a pattern that isn't in the book
 abbrev pub look : WorldView → Question → Option Answer
-look w Steps = Some (answer.Steps w.selection.steps)
 look w (File name) = Some (answer_of (content_of w name))
 look w Tool = Some (answer.Tool w.selection.tool)
 look w (Triplet system) = Some (answer.Triplet (triplet_of w.selection system))
@@ -93,9 +91,9 @@ with_file w name bytes = record w { files = insert_entry (slice_cmp nat_cmp) w.f
 abbrev pub without_file : WorldView → List ℕ → WorldView
 without_file w name = record w { files = remove_entry (is_at (slice_cmp nat_cmp name)) w.files }
 
--- a world with this as the transcript of a test, in its place in the order
-abbrev pub with_transcript : WorldView → TestView → TranscriptView → WorldView
-with_transcript w t kept = record w { transcripts = insert_entry test_cmp w.transcripts t kept }
+-- a world with these sessions as the transcript of a test, in its place in the order
+abbrev pub with_transcript : WorldView → TestView → List (List EntryOfSession) → WorldView
+with_transcript w t ss = record w { transcripts = insert_entry test_cmp w.transcripts t ss }
 
 -- a world without the transcript of a test
 abbrev pub without_transcript : WorldView → TestView → WorldView
@@ -106,8 +104,8 @@ abbrev pub lacks_room : WorldView → TestView → Bool
 lacks_room w t = not (is_some (transcript_of w t)) && nat_le MAX_TRANSCRIPTS (length w.transcripts)
 
 -- the world with the transcript of a test, or the refusal for want of room
-abbrev pub recorded : WorldView → TestView → TranscriptView → Result WorldView Refusal
-recorded w t kept = cond (lacks_room w t) (Err TooMany) (Ok (with_transcript w t kept))
+abbrev pub recorded : WorldView → TestView → List (List EntryOfSession) → Result WorldView Refusal
+recorded w t ss = cond (lacks_room w t) (Err TooMany) (Ok (with_transcript w t ss))
 
 -- the world after an edit, or the first refusal that applies
 abbrev pub edited : WorldView → Edit → Result WorldView Refusal
@@ -121,7 +119,7 @@ edited w (RemoveFile name) =
     (cond (is_some (content_of w name)) (Ok (without_file w name)) (Err NoSuchFile))
 edited w (Select selection) = cond (is_selection selection) (Ok (record w { selection = selection })) (Err BadSelection)
 edited w (PutTranscript board script text) =
-    for_test (test_of board script) (λ t. cond (lacks_room w t) (Err TooMany) (for_transcript (transcript_in text) (with_transcript w t)))
+    for_test (test_of board script) (λ t. cond (lacks_room w t) (Err TooMany) (for_sessions (transcript_in text) (with_transcript w t)))
 edited w (DropTranscript board script) =
     for_test (test_of board script) (λ t. cond (is_some (transcript_of w t)) (Ok (without_transcript w t)) (Err NoSuchTranscript))
 

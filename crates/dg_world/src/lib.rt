@@ -14,7 +14,7 @@ pub use crate::edit::Edit;
 pub use crate::name::{Name, is_name, is_single_part};
 pub use crate::question::{Answer, EntryPlace, Question, Read, System};
 pub use crate::refusal::Refusal;
-pub use crate::selection::{FIRST_STEPS, MAX_STEPS, MIN_STEPS, Selection, is_limit};
+pub use crate::selection::Selection;
 pub use crate::setting::{Setting, is_variable};
 pub use crate::test_id::TestId;
 pub use crate::world::World;

@@ -34,8 +34,6 @@ pub struct EntryPlace {
 /// What an evaluation may ask of the world.
 #[derive(Debug, Drop, PartialEq, Eq, Hash)]
 pub enum Question {
-    /// How many steps the board's file may take, and the tool's library and the script together.
-    Steps,
     /// What the file of this name holds.
     File(Name),
     /// Which tool is tested.
@@ -53,8 +51,6 @@ pub enum Question {
 /// What the world may answer.
 #[derive(Drop, PartialEq, Eq)]
 pub enum Answer {
-    /// The limit on steps.
-    Steps(u32),
     /// There is no such file.
     Absent,
     /// The bytes of the file.
@@ -128,7 +124,6 @@ impl Question {
         ensures { IfOk result (λ q. q ≡ self.now) }
     {
         Ok(match self {
-            Question::Steps => Question::Steps,
             Question::File(name) => Question::File(name.copy(alloc)?),
             Question::Tool => Question::Tool,
             Question::Triplet(system) => Question::Triplet(*system),
@@ -143,7 +138,6 @@ impl Question {
         ensures { result ≡ same_question self.now other.now }
     {
         match (self, other) {
-            (Question::Steps, Question::Steps) => true,
             (Question::File(one), Question::File(two)) => *one == *two,
             (Question::Tool, Question::Tool) => true,
             (Question::Triplet(one), Question::Triplet(two)) => one.is(*two),
@@ -170,7 +164,6 @@ impl Question {
         ensures { result ≡ fits self.now answer.now }
     {
         match (self, answer) {
-            (Question::Steps, Answer::Steps(_)) => true,
             (Question::File(_), Answer::Absent | Answer::Content(_)) => true,
             (Question::Tool, Answer::Tool(_)) => true,
             (Question::Triplet(_), Answer::Triplet(_)) => true,
@@ -195,7 +188,6 @@ impl Answer {
         ensures { IfOk result (λ a. a ≡ self.now) }
     {
         Ok(match self {
-            Answer::Steps(limit) => Answer::Steps(*limit),
             Answer::Absent => Answer::Absent,
             Answer::Content(bytes) => Answer::Content(bytes.copy(alloc)?),
             Answer::Tool(tool) => Answer::Tool(tool.copy(alloc)?),

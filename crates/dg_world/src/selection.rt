@@ -3,7 +3,7 @@ ghost use Rattle.std.specs.Prelude.{◌≡◌, IfOk, length, codes};
 ghost use Rattle.std.specs.Option.{option_copied};
 ghost use Rattle.std.specs.List.{list_all, list_any};
 ghost use Rattle.dg_world.specs.Name.{is_name, is_single_part, parts_of};
-ghost use Rattle.dg_world.specs.Selection.{are_boards, are_distinct, are_names, are_settings, is_limit};
+ghost use Rattle.dg_world.specs.Selection.{are_boards, are_distinct, are_names, are_settings};
 ghost use Rattle.dg_world.specs.Setting.{value_of};
 ghost use Rattle.dg_world.specs.Script.{first_part, last_part, is_reserved, is_script, is_listed};
 ghost use Rattle.dg_bytes.specs.Same.{same_bytes};
@@ -21,21 +21,11 @@ const MAX_NAMES: usize = 4096;
 
 const MAX_SETTINGS: usize = 64;
 
-/// The fewest steps that may be a limit.
-pub const MIN_STEPS: u32 = 1_000;
-
-/// The most steps that may be a limit.
-pub const MAX_STEPS: u32 = 1_000_000;
-
-/// The limit on steps in a new world.
-pub const FIRST_STEPS: u32 = 100_000;
-
 /// The triplet of each system in a new world.
 const FIRST_TRIPLET: &[u8] = b"x86_64-pc-linux-gnu";
 
 /// What is run, as the command line of DejaGnu's `runtest` says it. A valid one has a tool of one part, 1 to 16 distinct
-/// boards of one part each, at most 4,096 names in each list of scripts, at most 64 valid settings of distinct variables, and a
-/// limit of 1,000 to 1,000,000 steps.
+/// boards of one part each, at most 4,096 names in each list of scripts, and at most 64 valid settings of distinct variables.
 #[derive(PartialEq, Eq)]
 pub struct Selection {
     /// The tool: its scripts stand in folders whose names begin with it.
@@ -54,8 +44,6 @@ pub struct Selection {
     pub ignore: Seq<Bytes>,
     /// What variables are set to.
     pub variables: Seq<Setting>,
-    /// The most steps that the board's file may take, and the tool's library and the script together.
-    pub steps: u32,
 }
 
 impl Drop for Selection {
@@ -69,7 +57,6 @@ impl Drop for Selection {
             only: _,
             ignore: _,
             variables: _,
-            steps: _,
         } = self;
     }
 }
@@ -77,8 +64,8 @@ impl Drop for Selection {
 impl Selection {
     ghost use Rattle.dg_world.specs.Selection.{first_selection, is_selected, is_selection, is_taken, triplet_of};
 
-    /// The selection of a new world: tool `t`, board `unix`, `x86_64-pc-linux-gnu` as each system, all scripts, no
-    /// settings, and 100,000 steps.
+    /// The selection of a new world: tool `t`, board `unix`, `x86_64-pc-linux-gnu` as each system, all scripts, and no
+    /// settings.
     pub fn of_new_world(alloc: Global) -> Result<Selection, AllocError>
         ensures { IfOk result (λ s. s ≡ first_selection) }
     {
@@ -93,7 +80,6 @@ impl Selection {
             only: Seq::new(alloc),
             ignore: Seq::new(alloc),
             variables: Seq::new(alloc),
-            steps: FIRST_STEPS,
         })
     }
 
@@ -107,7 +93,6 @@ impl Selection {
             && are_names(self.only.as_slice())
             && are_names(self.ignore.as_slice())
             && are_settings(self.variables.as_slice())
-            && is_limit(self.steps)
     }
 
     /// The triplet of a system.
@@ -158,7 +143,6 @@ impl Selection {
             only: self.only.copy(alloc)?,
             ignore: self.ignore.copy(alloc)?,
             variables: self.variables.copy(alloc)?,
-            steps: self.steps,
         })
     }
 }
@@ -212,13 +196,6 @@ fn are_settings(settings: &[Setting]) -> bool
     settings.len() <= MAX_SETTINGS
         && setting::are_valid(settings)
         && setting::have_distinct_names(settings)
-}
-
-/// Whether so many steps may be a limit: 1,000 to 1,000,000.
-pub fn is_limit(steps: u32) -> bool
-    ensures { result ≡ is_limit steps }
-{
-    (MIN_STEPS..=MAX_STEPS).contains(&steps)
 }
 
 /// Whether no two are the same.

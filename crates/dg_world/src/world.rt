@@ -61,7 +61,7 @@ impl Model for World {
 
 /// The entry at a place of a transcript.
 fn entry_in<'a>(transcript: Option<&'a Transcript>, place: &EntryPlace) -> Option<&'a Entry>
-    ensures { option_copied result ≡ option_and_then (λ kept. entry_at kept.sessions place.now.session place.now.place)
+    ensures { option_copied result ≡ option_and_then (λ ss. entry_at ss place.now.session place.now.place)
         (option_copied transcript.entry) }
 {
     match transcript {
@@ -269,7 +269,6 @@ impl World {
         ensures fits { IfOk result (λ a. IfSome a (FitsQuestion question.now)) }
     {
         match question {
-            Question::Steps => Ok(Some(Answer::Steps(self.selection.steps))),
             Question::File(name) => match self.files.get(name) {
                 Some(bytes) => Ok(Some(Answer::Content(bytes.copy(alloc)?))),
                 None => Ok(Some(Answer::Absent)),
@@ -299,10 +298,6 @@ impl World {
         ensures { IsTrue result ↔ (look self.now question.now ≡ Some answer.now) }
     {
         match question {
-            Question::Steps => match answer {
-                Answer::Steps(limit) => *limit == self.selection.steps,
-                _ => false,
-            },
             Question::File(name) => match (self.files.get(name), answer) {
                 (Some(held), Answer::Content(bytes)) => *held == *bytes,
                 (None, Answer::Absent) => true,

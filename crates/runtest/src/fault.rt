@@ -11,9 +11,6 @@ pub enum ProgramFault {
     /// The command line has no plan, or it asks for a text.
     #[error("{0}")]
     Line(LineFault),
-    /// The command line has no plan, and a person is told which word is the culprit.
-    #[error("{0}\nruntest: {1}")]
-    Culprit(LineFault, String),
     /// A session ended before its input.
     #[error("{0}")]
     Session(SessionFault),

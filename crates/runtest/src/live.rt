@@ -1,36 +1,29 @@
 //! Tests that are run with child processes on pipes.
 use crate::progress::Progress;
-use crate::transcripts::keep_transcript;
-use dg_bench::MakeGate;
-use dg_gate::GateFault;
+use dg_bench::RunTests;
+use dg_gate::{Asker, GateFault};
+use dg_live::{LiveFault, Readings, run_live_with};
 use dg_pipes::{Fresh, PipeGate};
 use dg_records::Record;
 use dg_transcript::Transcript;
 use dg_world::TestId;
-use std::alloc::{AllocError, Global};
-use std::process::{ChildStderr, ChildStdout, Processes, SystemProcess};
-use std::rt::Files;
+use std::alloc::Global;
+use std::process::{ChildStdout, Processes, SystemProcess};
 use std::sync::Wait;
-use std::sync::atomic::{AtomicBool, Ordering};
 use std::thread::Threads;
 use std::time::Clock;
 
-/// Runs tests over gates to child processes, whose streams are read by what the opener starts.
+/// Runs tests over gates to child processes, whose outputs are read by what the opener starts.
 #[derive(Drop)]
-pub(crate) struct Runner<'a, R, F: Fn(ChildStdout, ChildStderr) -> Result<Fresh, GateFault>> {
+pub(crate) struct Runner<'a, R, F: Fn(ChildStdout) -> Result<Fresh, GateFault>> {
     pub(crate) rt: R,
     pub(crate) opener: F,
     pub(crate) progress: &'a Progress<R>,
-    /// The folder that transcripts are written to.
-    pub(crate) outdir: &'a str,
-    /// Whether a transcript could not be written.
-    pub(crate) has_failed: &'a AtomicBool,
 }
 
-impl<R, F> MakeGate for Runner<'_, R, F>
+impl<R, F> RunTests for Runner<'_, R, F>
 where
-    R: Files
-        + AllocGlobal
+    R: AllocGlobal
         + Processes<Started = SystemProcess>
         + Threads
         + Wait
@@ -38,34 +31,30 @@ where
         + Eprint
         + Copy
         + Drop,
-    F: Fn(ChildStdout, ChildStderr) -> Result<Fresh, GateFault> + Copy + Drop,
+    F: Fn(ChildStdout) -> Result<Fresh, GateFault> + Copy + Drop,
 {
     ghost is_ready = { λ r. F.IsAlwaysCallable r.opener };
 
-    type Made = PipeGate<R, F>;
-
-    fn make(&self, alloc: Global, _worker: usize) -> Result<PipeGate<R, F>, AllocError> {
-        Ok(PipeGate::new(self.rt, alloc, self.opener))
-    }
-
-    /// None of the children of the gate's test is left.
-    fn end(&self, _worker: usize, gate: PipeGate<R, F>) {
+    /// Runs a test. None of its children is left.
+    fn run_test<A: Asker>(
+        &self,
+        alloc: Global,
+        _worker: usize,
+        test: TestId,
+        readings: &mut Readings,
+        asker: &mut A,
+    ) -> Result<(Record, Transcript), LiveFault> {
+        let mut gate = PipeGate::new(self.rt, alloc, self.opener);
+        let run = run_live_with(alloc, test, readings, &mut gate, asker);
         let _accounts = gate.stop();
+        run
     }
 
-    fn begun(&self, test: &TestId) {
+    fn begin(&self, test: &TestId) {
         self.progress.begin(test);
     }
 
-    fn judged(&self, record: &Record) {
-        self.progress.end(record);
-    }
-
-    /// Writes the transcript, so that it is there even if the run is ended before the others are. That it can't be written is
-    /// told once all is judged.
-    fn kept(&self, record: &Record, transcript: &Transcript) {
-        if keep_transcript(&self.rt, self.outdir, record.test(), transcript).is_err() {
-            self.has_failed.store(true, Ordering::SeqCst);
-        }
+    fn end(&self, record: &Record) {
+        self.progress.end(record.verdict());
     }
 }

@@ -1,22 +1,13 @@
-//! What a run tells of itself on a terminal: unexpected results as they come, a line that is written over and over below them,
-//! and in the end the unexpected results once more and a last line.
+//! What a run tells of itself on a terminal: a line that is written over and over, and a last one.
 ghost use Rattle.std.specs.Prelude.{◌≡◌, count_by};
 ghost use Rattle.dg_results.specs.Classes.{is_unexpected};
 ghost use Rattle.runtest.specs.Progress.{is_result};
 
-use crate::transcripts::record_of;
-use dg_bench::Call;
-use dg_log::{progress_line, unexpected_lines};
-use dg_records::Record;
 use dg_results::{Class, Verdict};
 use dg_world::TestId;
-use std::alloc::AllocError;
 use std::str;
 use std::sync::atomic::{AtomicUsize, Ordering};
 use std::time::{Clock, Instant};
-
-/// How many unexpected lines are told once more in the end.
-const RETOLD: usize = 20;
 
 /// Whether a line of this class is a result, and no message.
 fn is_result(class: Class) -> bool
@@ -76,19 +67,11 @@ impl Counts {
     }
 }
 
-/// How a terminal is written on.
-#[derive(Clone, Copy)]
-pub(crate) struct Terminal {
-    pub(crate) columns: usize,
-    pub(crate) is_colored: bool,
-}
-
-/// How far a run is, for all its workers. Where there is no terminal nothing is written, and a write that fails changes
-/// nothing.
+/// How far a run is, for all its workers. Where it is not shown nothing is written, and a write that fails changes nothing.
 #[derive(Drop)]
 pub(crate) struct Progress<R> {
     rt: R,
-    terminal: Option<Terminal>,
+    is_shown: bool,
     began: Option<Instant>,
     tests: AtomicUsize,
     done: AtomicUsize,
@@ -97,11 +80,11 @@ pub(crate) struct Progress<R> {
 
 impl<R: Eprint + Clock + AllocGlobal> Progress<R> {
     /// A run that begins.
-    pub(crate) fn new(rt: R, terminal: Option<Terminal>) -> Progress<R> {
+    pub(crate) fn new(rt: R, is_shown: bool) -> Progress<R> {
         let began = Instant::now(&rt).ok();
         Progress {
             rt,
-            terminal,
+            is_shown,
             began,
             tests: AtomicUsize::new(0),
             done: AtomicUsize::new(0),
@@ -114,103 +97,44 @@ impl<R: Eprint + Clock + AllocGlobal> Progress<R> {
         self.tests.store(tests, Ordering::SeqCst);
     }
 
-    /// Writes ASCII.
-    fn write(&self, before: &str, text: &[u8], after: &str) {
-        let text = str::from_utf8(text).unwrap_or("");
-        if let Ok(line) = format!(in self.rt.alloc(); "{before}{text}{after}") {
+    /// A test begins.
+    pub(crate) fn begin(&self, test: &TestId) {
+        if !self.is_shown {
+            return;
+        }
+        let board = str::from_utf8(test.board().as_slice()).unwrap_or("");
+        let script = str::from_utf8(test.script().as_slice()).unwrap_or("");
+        let Ok(name) = format!(in self.rt.alloc(); "{board} {script}") else {
+            return;
+        };
+        let done = self.done.load(Ordering::SeqCst);
+        let tests = self.tests.load(Ordering::SeqCst);
+        let unexpected = self.unexpected.load(Ordering::SeqCst);
+        if let Ok(line) = format!(in self.rt.alloc();
+            "\r{done} of {tests} tests, {unexpected} unexpected: {name:.34}\x1b[K"
+        ) {
             let _ = eprint!(self.rt; "{line}");
         }
     }
 
-    /// A test begins.
-    pub(crate) fn begin(&self, test: &TestId) {
-        let Some(terminal) = self.terminal else {
-            return;
-        };
-        let line = progress_line(
-            self.rt.alloc(),
-            self.done.load(Ordering::SeqCst),
-            self.tests.load(Ordering::SeqCst),
-            self.unexpected.load(Ordering::SeqCst),
-            self.seconds(),
-            test,
-            terminal.columns,
-        );
-        if let Ok(line) = line {
-            self.write("\r", line.as_slice(), "\x1b[K");
-        }
-    }
-
-    /// A test was judged. Its unexpected lines are told.
-    pub(crate) fn end(&self, record: &Record) {
-        let unexpected = unexpected_in(record.verdict());
+    /// A test was judged.
+    pub(crate) fn end(&self, verdict: &Verdict) {
         self.done.fetch_add(1, Ordering::SeqCst);
-        self.unexpected.fetch_add(unexpected, Ordering::SeqCst);
-        let Some(terminal) = self.terminal else {
-            return;
-        };
-        if unexpected == 0 {
-            return;
-        }
-        let alloc = self.rt.alloc();
-        let mut lines = Vec::new(alloc);
-        let told = unexpected_lines(
-            alloc,
-            &mut lines,
-            record.test(),
-            record.verdict(),
-            usize::MAX,
-            terminal.is_colored,
-        );
-        if told.is_ok() {
-            self.write("\r\x1b[K", lines.as_slice(), "");
-        }
+        self.unexpected
+            .fetch_add(unexpected_in(verdict), Ordering::SeqCst);
     }
 
     /// Clears the line.
     pub(crate) fn clear(&self) {
-        if self.terminal.is_some() {
+        if self.is_shown {
             let _ = eprint!(self.rt; "\r\x1b[K");
         }
     }
 
-    /// The first unexpected lines of judged tests, and how many are left out. Nothing where there is no terminal.
-    pub(crate) fn retold(&self, judgings: &[&Call]) -> Result<Vec<u8>, AllocError> {
-        let alloc = self.rt.alloc();
-        let mut text = Vec::new(alloc);
-        let Some(terminal) = self.terminal else {
-            return Ok(text);
-        };
-        let mut told = 0usize;
-        for call in judgings {
-            if let Some(record) = record_of(call) {
-                let count = unexpected_lines(
-                    alloc,
-                    &mut text,
-                    record.test(),
-                    record.verdict(),
-                    RETOLD.saturating_sub(told),
-                    terminal.is_colored,
-                )?;
-                told = told.saturating_add(count);
-            }
-        }
-        if told > RETOLD {
-            text.extend_from_slice(b"and ")?;
-            text.extend_from_slice((told - RETOLD).to_string(alloc)?.as_bytes())?;
-            text.extend_from_slice(b" more\n")?;
-        }
-        Ok(text)
-    }
-
-    /// Writes the unexpected lines once more, where the log is, and the last line.
-    pub(crate) fn finish(&self, counts: Counts, unexpected: &[u8], log: Option<&str>) {
-        if self.terminal.is_none() {
+    /// Writes the last line.
+    pub(crate) fn finish(&self, counts: Counts) {
+        if !self.is_shown {
             return;
-        }
-        self.write("", unexpected, "");
-        if let Some(path) = log {
-            let _ = eprintln!(self.rt; "the log: {path}");
         }
         let Counts {
             results,

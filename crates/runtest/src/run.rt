@@ -5,18 +5,18 @@ ghost use Rattle.dg_bench.specs.Work.{IsReported};
 ghost use Rattle.runtest.specs.Runs.{HasSelected, KeepsSelected, IsRun};
 
 use crate::live::Runner;
-use crate::logging::{is_told_of, log_run};
 use crate::progress::{Counts, Progress};
 use crate::suite::{Suite, pattern_lost, text_of};
-use crate::transcripts::{judgings, path_of, record_of, write_transcripts};
-use dg_bench::{Bench, Call, Opened, Pass, Room, Work, WorkFault, sums_are_from_scratch};
+use crate::transcripts::{path_of, write_transcripts};
+use dg_bench::{
+    Bench, Call, Opened, Pass, Room, Work, WorkFault, run_workers, sums_are_from_scratch,
+};
 use dg_bytes::{Bytes, Seq};
 use dg_core::Reply;
 use dg_folders::{
     RunFault, read_suite, read_transcript, renew, sum_path, write_in_place, write_with_folders,
 };
-use dg_line::{Logged, Mode, Plan};
-use dg_log::{list_text, no_transcript, selection_warnings};
+use dg_line::{Mode, Plan};
 use dg_pipes::Fresh;
 use dg_session::cause_number;
 use dg_world::{Edit, Refusal, Selection, TestId};
@@ -25,7 +25,6 @@ use std::marker::Brand;
 use std::process::{Processes, SystemProcess};
 use std::rt::Files;
 use std::sync::Wait;
-use std::sync::atomic::{AtomicBool, Ordering};
 use std::thread::Threads;
 use std::time::Clock;
 
@@ -38,10 +37,6 @@ pub(crate) struct RunResult {
     pub(crate) report: Bytes,
     pub(crate) status: u8,
     pub(crate) counts: Counts,
-    /// The unexpected lines, as a terminal shows them in the end.
-    pub(crate) unexpected: Vec<u8>,
-    /// Where the log is, if there is one.
-    pub(crate) log: Option<String>,
 }
 
 /// How a run goes: its folders, the tool, and how many tests are judged at a time.
@@ -49,7 +44,6 @@ pub(crate) struct RunResult {
 struct Course {
     mode: Mode,
     jobs: usize,
-    logged: Logged,
     srcdir: String,
     outdir: String,
     tool: String,
@@ -59,10 +53,8 @@ impl Course {
     /// That of a plan.
     fn of_plan(alloc: Global, plan: &Plan) -> Result<Course, RunFault> {
         Ok(Course {
-            // A list of the tests needs no transcript.
-            mode: if plan.lists { Mode::Run } else { plan.mode },
+            mode: plan.mode,
             jobs: plan.jobs as usize,
-            logged: plan.logged,
             srcdir: text_of(alloc, plan.srcdir.as_slice())?,
             outdir: text_of(alloc, plan.outdir.as_slice())?,
             tool: text_of(alloc, plan.selection.tool.as_slice())?,
@@ -99,8 +91,8 @@ fn take_transcript<B: Room, R: Files + AllocGlobal + Wait>(
     }
 }
 
-/// Reads the transcripts of tests, in their order. Gives how many there are. That some are missing is a warning.
-fn take_transcripts<B: Room, R: Files + AllocGlobal + Wait + Eprint>(
+/// Reads the transcripts of tests, in their order. Gives how many there are.
+fn take_transcripts<B: Room, R: Files + AllocGlobal + Wait>(
     rt: &R,
     outdir: &str,
     tests: &[TestId],
@@ -109,43 +101,17 @@ fn take_transcripts<B: Room, R: Files + AllocGlobal + Wait + Eprint>(
     ensures { OnOk result (KeepsSelected suite.old.pass suite.new.pass) }
 {
     let mut read = 0usize;
-    let mut missing = None;
     for test in tests {
         if take_transcript(rt, outdir, test, suite)? {
             read = read.saturating_add(1);
-        } else if missing.is_none() {
-            missing = Some(test);
         }
-    }
-    if let Some(first) = missing {
-        let count = tests.len().saturating_sub(read);
-        warn(rt, no_transcript(rt.alloc(), count, tests.len(), first)?);
     }
     Ok(read)
 }
 
-/// Writes a warning.
-fn warn<R: Eprint>(rt: &R, text: String) {
-    let _ = eprintln!(rt; "runtest: warning: {text}");
-}
-
-/// Warns of what of a selection selects nothing in a suite that was read.
-fn warn_of<B: Room, R: AllocGlobal + Wait + Eprint>(
-    rt: &R,
-    course: &Course,
-    selection: &Selection,
-    suite: &Suite<'_, B, R>,
-) -> Result<(), RunFault> {
-    let srcdir = course.srcdir.as_str();
-    for text in selection_warnings(rt.alloc(), selection, srcdir, suite.files())? {
-        warn(rt, text);
-    }
-    Ok(())
-}
-
 /// Reads the files of the suite, and then selects.
 #[tactic(auto, using(crate::proofs::Reporting::selected))]
-fn take_suite<B: Room, R: Files + AllocGlobal + Wait + Clone + Drop + Eprint>(
+fn take_suite<B: Room, R: Files + AllocGlobal + Wait + Clone + Drop>(
     rt: &R,
     course: &Course,
     selection: Selection,
@@ -157,7 +123,6 @@ fn take_suite<B: Room, R: Files + AllocGlobal + Wait + Clone + Drop + Eprint>(
     if let Err(fault) = read_suite(rt, course.srcdir.as_str(), tool, suite) {
         return Err(suite.fault(fault));
     }
-    warn_of(rt, course, &selection, suite)?;
     match suite.put(Edit::Select(selection)) {
         Ok(()) => Ok(()),
         Err(Refusal::Memory) => Err(RunFault::Memory),
@@ -166,7 +131,7 @@ fn take_suite<B: Room, R: Files + AllocGlobal + Wait + Clone + Drop + Eprint>(
 }
 
 /// Reads the transcripts of tests where these are judged by them. Gives how many there are.
-fn take_recorded<B: Room, R: Files + AllocGlobal + Wait + Eprint>(
+fn take_recorded<B: Room, R: Files + AllocGlobal + Wait>(
     rt: &R,
     course: &Course,
     tests: &[TestId],
@@ -181,7 +146,7 @@ fn take_recorded<B: Room, R: Files + AllocGlobal + Wait + Eprint>(
 }
 
 /// Reads all that a run reads. Gives the selected tests, and how many transcripts there are, beside a pass that has seen the edits.
-fn gather<B: Room, R: Files + AllocGlobal + Wait + Clone + Drop + Eprint>(
+fn gather<B: Room, R: Files + AllocGlobal + Wait + Clone + Drop>(
     rt: &R,
     bench: &Bench<B>,
     course: &Course,
@@ -213,11 +178,9 @@ fn judge<B: Room + Send + Sync, R>(
     course: &Course,
     pass: Pass<B>,
     progress: &Progress<R>,
-    has_failed: &AtomicBool,
 ) -> Result<(Pass<B>, Bytes, u8), RunFault>
 where
-    R: Files
-        + AllocGlobal
+    R: AllocGlobal
         + Processes<Started = SystemProcess>
         + Threads
         + Wait
@@ -233,17 +196,15 @@ where
     let alloc = rt.alloc();
     let runner = Runner {
         rt: *rt,
-        opener: move |output, errors| Fresh::open(*rt, alloc, output, errors),
+        opener: move |output| Fresh::open(*rt, alloc, output),
         progress,
-        outdir: course.outdir.as_str(),
-        has_failed,
     };
     let workers = course.jobs.clamp(1, 16);
     let work = match course.mode {
         Mode::Rejudge => Work::Rejudge,
         Mode::Run | Mode::Session => Work::Live,
     };
-    match bench.run_workers(rt, alloc, pass, &runner, workers, work) {
+    match run_workers(rt, alloc, bench, pass, &runner, workers, work) {
         Ok((pass, reply)) => match reply {
             Reply::Sum(report, status) => Ok((pass, report, status)),
             Reply::Pending(_) => Err(RunFault::HistoryFull),
@@ -256,42 +217,12 @@ where
 fn counts_of(calls: &[Call], read: usize) -> Counts {
     let mut counts = Counts::of_read(read);
     for call in calls {
-        if let Some(record) = record_of(call) {
-            counts.add(record.verdict());
+        match call {
+            Call::Live(record, _) | Call::Commit(record) => counts.add(record.verdict()),
+            Call::Edit(_) | Call::Ask(_, _) | Call::Report(_) => {}
         }
     }
     counts
-}
-
-/// The judgings of calls that a log or a terminal tells of, in the order of the tests. Mostly there are none, and then no order
-/// is looked up. Where memory for them is refused none is told of: the report stands.
-fn told_judgings<'a>(
-    alloc: Global,
-    logged: Logged,
-    tests: &[TestId],
-    calls: &'a [Call],
-) -> Vec<&'a Call> {
-    let is_some = calls.iter().any(|call| is_told_of(Logged::Unexpected, call)
-        || is_told_of(logged, call));
-    if !is_some {
-        return Vec::new(alloc);
-    }
-    match judgings(alloc, tests, calls) {
-        Ok(judgings) => judgings,
-        Err(_) => Vec::new(alloc),
-    }
-}
-
-/// The unexpected lines, as a terminal shows them in the end.
-fn retold<R: Eprint + Clock + AllocGlobal>(
-    alloc: Global,
-    progress: &Progress<R>,
-    judgings: &[&Call],
-) -> Vec<u8> {
-    match progress.retold(judgings) {
-        Ok(text) => text,
-        Err(_) => Vec::new(alloc),
-    }
 }
 
 /// Writes the report to its file. A run makes the folders that this stands in. A file that is this report already stays, and
@@ -339,34 +270,18 @@ where
     let bench = opened.named::<B>(alloc)?;
     let (pass, tests, read) = gather(rt, &bench, &course, plan.into_selection())?;
     progress.expect(tests.len());
-    let has_failed = AtomicBool::new(false);
-    let (mut pass, report, status) = judge(rt, &bench, &course, pass, progress, &has_failed)?;
+    let (mut pass, report, status) = judge(rt, &bench, &course, pass, progress)?;
     sums_are_from_scratch();
     let Ok(history) = bench.into_history(&mut pass) else {
         return Err(RunFault::HistoryFull);
     };
     let calls = history.calls();
-    if has_failed.load(Ordering::SeqCst) {
-        let all = judgings(alloc, tests.as_slice(), calls)?;
-        write_transcripts(rt, course.outdir.as_str(), all.as_slice())?;
-    }
+    write_transcripts(rt, course.outdir.as_str(), tests.as_slice(), calls)?;
     write_report(rt, &course, report.as_slice())?;
-    let counts = counts_of(calls, read);
-    let told = told_judgings(alloc, course.logged, tests.as_slice(), calls);
-    let outdir = course.outdir.as_str();
-    let log = log_run(
-        rt,
-        outdir,
-        course.tool.as_str(),
-        course.logged,
-        told.as_slice(),
-    );
     Ok(RunResult {
         report,
         status,
-        counts,
-        unexpected: retold(alloc, progress, told.as_slice()),
-        log,
+        counts: counts_of(calls, read),
     })
 }
 
@@ -391,27 +306,4 @@ where
 {
     let opened = Opened::new(rt.alloc(), CALLS)?;
     run_over::<Brand, R>(rt, opened, plan, progress)
-}
-
-/// Lists the selected tests of a plan over a bench of these cells.
-fn list_over<B: Room, R>(rt: &R, opened: Opened, plan: Plan) -> Result<Bytes, RunFault>
-where
-    R: Files + AllocGlobal + Wait + Clone + Drop + Eprint,
-    requires { opened.cells.names ≡ B.names }
-{
-    let alloc = rt.alloc();
-    let course = Course::of_plan(alloc, &plan)?;
-    let bench = opened.named::<B>(alloc)?;
-    let (_pass, tests, _read) = gather(rt, &bench, &course, plan.into_selection())?;
-    Ok(list_text(alloc, tests.as_slice())?)
-}
-
-/// Reads the suite of a plan and lists what is selected, a board and a script a line. Nothing is judged, and no transcript is
-/// read.
-pub(crate) fn list_plan<R>(rt: &R, plan: Plan) -> Result<Bytes, RunFault>
-where
-    R: Files + AllocGlobal + Wait + Clone + Drop + Eprint,
-{
-    let opened = Opened::new(rt.alloc(), CALLS)?;
-    list_over::<Brand, R>(rt, opened, plan)
 }

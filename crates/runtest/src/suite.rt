@@ -4,7 +4,7 @@ ghost use Rattle.dg_bench.specs.Refusals.{SeesMore};
 ghost use Rattle.runtest.specs.Runs.{Adds};
 
 use dg_bench::{Bench, BenchRefusal, Pass, Room, Work};
-use dg_bytes::{Bytes, Seq, TryCopy};
+use dg_bytes::Seq;
 use dg_folders::{Intake, RunFault};
 use dg_world::{Edit, Refusal, TestId};
 use std::alloc::Global;
@@ -18,7 +18,6 @@ pub(crate) struct Suite<'a, B: Room, R: Wait> {
     bench: &'a Bench<B>,
     pass: Pass<B>,
     is_full: bool,
-    files: Vec<Bytes>,
 }
 
 impl<B: Room, R: Wait> Drop for Suite<'_, B, R> {
@@ -29,14 +28,12 @@ impl<B: Room, R: Wait> Drop for Suite<'_, B, R> {
             bench: _,
             pass: _,
             is_full: _,
-            files: _,
         } = self;
     }
 }
 
 impl<B: Room, R: Wait> Intake for Suite<'_, B, R> {
     fn take(&mut self, edit: Edit) -> Result<(), Refusal> {
-        self.note(&edit)?;
         self.put(edit)
     }
 }
@@ -50,26 +47,7 @@ impl<'a, B: Room, R: Wait> Suite<'a, B, R> {
             bench,
             pass: bench.pass(),
             is_full: false,
-            files: Vec::new(alloc),
         }
-    }
-
-    /// Notes the name of a file that is put.
-    fn note(&mut self, edit: &Edit) -> Result<(), Refusal> {
-        if let Edit::PutFile(name, _) = edit {
-            let Ok(name) = name.copy(self.alloc) else {
-                return Err(Refusal::Memory);
-            };
-            if self.files.push(name).is_err() {
-                return Err(Refusal::Memory);
-            }
-        }
-        Ok(())
-    }
-
-    /// The names of the files, in the order in which they were put.
-    pub(crate) fn files(&self) -> &[Bytes] {
-        self.files.as_slice()
     }
 
     /// Makes an edit, or changes nothing.
@@ -140,7 +118,6 @@ impl<'a, B: Room, R: Wait> Suite<'a, B, R> {
             bench: _,
             pass,
             is_full: _,
-            files: _,
         } = self;
         pass
     }

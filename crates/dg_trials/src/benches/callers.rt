@@ -4,7 +4,7 @@ use crate::benches::pauses::Pauses;
 use crate::benches::replies::{are_same, are_same_replies, closed, put, replays};
 use crate::benches::turns::Share;
 use crate::benches::working::{put_scripts, ready};
-use dg_bench::{Bench, Call, Pass, Position, Receipt, Room, Work};
+use dg_bench::{Bench, Call, Pass, Receipt, Room, Work, run_workers};
 use dg_bytes::Bytes;
 use dg_core::Reply;
 use dg_match::Reading;
@@ -89,9 +89,7 @@ impl<B: Room> Caller<B> {
     fn calls(&mut self, bench: &Bench<B>) -> Result<Placed, AllocError> {
         let mut calls = Vec::new(self.alloc);
         for receipt in &mut self.receipts {
-            let Position::Call(number) = receipt.position() else {
-                continue;
-            };
+            let number = receipt.number();
             if let Some(call) = bench.call_at(receipt) {
                 calls.push((number, call.copy(self.alloc)?))?;
             }
@@ -139,9 +137,7 @@ fn work<'a, B: Room + Send + Sync, R: Threads + Wait + Clock + Sync>(
     work: Work,
 ) -> Option<(Share<'a, B, R>, Reported)> {
     let Share { pass, maker } = share;
-    let (pass, reply) = bench
-        .run_workers(maker.rt, maker.alloc, pass, maker, 2, work)
-        .ok()?;
+    let (pass, reply) = run_workers(maker.rt, maker.alloc, bench, pass, maker, 2, work).ok()?;
     let seen = pass.seen();
     Some((Share { pass, maker }, Reported { seen, reply }))
 }

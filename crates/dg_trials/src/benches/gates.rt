@@ -64,8 +64,6 @@ impl<'a, R: Clock> Gate for WaitingGate<'a, R> {
 
     ghost is_ready = { λ g. Unit {0} };
 
-    ghost stays = { λ before after. Unit {0} };
-
     ghost count = { λ g. g.answers.failures };
 
     fn failures(&self) -> u64 {
@@ -110,14 +108,12 @@ pub struct Waiting<'a, R: Clock> {
 }
 
 impl<'a, R: Clock> MakeGate for Waiting<'a, R> {
-    ghost is_ready = { λ m. Unit {0} };
-
     type Made = WaitingGate<'a, R>;
 
-    fn make(&self, alloc: Global, _worker: usize) -> Result<WaitingGate<'a, R>, AllocError> {
-        let mut answers = VecDeque::new(alloc);
+    fn make(&self, _worker: usize) -> Result<WaitingGate<'a, R>, AllocError> {
+        let mut answers = VecDeque::new(self.alloc);
         answers.push_back(Reply::Started)?;
-        let chunk = Bytes::from_slice(alloc, b"x")?;
+        let chunk = Bytes::from_slice(self.alloc, b"x")?;
         answers.push_back(Reply::Piece(Piece::Chunk(0, chunk)))?;
         Ok(WaitingGate {
             rt: self.rt,
@@ -133,15 +129,15 @@ impl<'a, R: Clock> MakeGate for Waiting<'a, R> {
 
 /// Gates whose child is started, and reads nothing: the first send fails.
 #[derive(Drop)]
-pub struct Deaf;
+pub struct Deaf {
+    pub alloc: Global,
+}
 
 impl MakeGate for Deaf {
-    ghost is_ready = { λ m. Unit {0} };
-
     type Made = ScriptGate;
 
-    fn make(&self, alloc: Global, _worker: usize) -> Result<ScriptGate, AllocError> {
-        let mut answers = VecDeque::new(alloc);
+    fn make(&self, _worker: usize) -> Result<ScriptGate, AllocError> {
+        let mut answers = VecDeque::new(self.alloc);
         answers.push_back(Reply::Started)?;
         answers.push_back(Reply::Failed(ErrorCode::BrokenPipe))?;
         Ok(ScriptGate::new(answers))

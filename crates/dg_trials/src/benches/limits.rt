@@ -3,7 +3,7 @@ ghost use Rattle.std.specs.Prelude.{◌≡◌};
 
 use crate::benches::replies::{closed, of_file, put};
 use crate::benches::twins::{Ran, judge};
-use dg_bench::{Bench, BenchRefusal, Call, Opened, Pass, Position, Room};
+use dg_bench::{Bench, BenchRefusal, Call, Opened, Pass, Room};
 use dg_bytes::Bytes;
 use dg_world::{Answer, Edit, Refusal};
 use std::alloc::Global;
@@ -68,7 +68,7 @@ fn answers_still<B: Room, R: Wait>(
 ) -> Option<Pass<B>> {
     let question = of_file(alloc, b"t/a.exp")?;
     let (pass, front, answer) = bench.ask(rt, alloc, pass, &question).ok()?;
-    if answer == Answer::Absent && front.position() == Position::Front(2) {
+    if answer == Answer::Absent && front.number() == 2 {
         Some(pass)
     } else {
         None
@@ -126,7 +126,7 @@ fn is_told<B: Room, R: Wait>(
     let Some(Call::Edit(Edit::PutFile(_, told))) = bench.call_at(&mut receipt) else {
         return None;
     };
-    if told.as_slice() == text.as_slice() && receipt.position() == Position::Call(number as usize) {
+    if told.as_slice() == text.as_slice() && receipt.number() == number as usize {
         Some(pass)
     } else {
         None

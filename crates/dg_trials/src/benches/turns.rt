@@ -2,7 +2,7 @@
 use crate::benches::gates::{Signal, Waiting};
 use crate::benches::replies::put_on;
 use crate::benches::working::{passes, put_scripts};
-use dg_bench::{Bench, Pass, Room, Work};
+use dg_bench::{Bench, Pass, Room, Work, run_workers};
 use dg_core::Reply;
 use std::alloc::Global;
 use std::sync::Wait;
@@ -22,7 +22,7 @@ fn run_all<B: Room + Send + Sync, R: Threads + Wait + Clock + Sync>(
     share: Share<'_, B, R>,
 ) -> Option<Reply> {
     let Share { pass, maker } = share;
-    let ran = bench.run_workers(maker.rt, maker.alloc, pass, maker, 2, Work::Live);
+    let ran = run_workers(maker.rt, maker.alloc, bench, pass, maker, 2, Work::Live);
     Some(ran.ok()?.1)
 }
 
@@ -98,8 +98,6 @@ pub fn waits_for_all<B: Room + Send + Sync, R: Threads + Wait + Clock + Sync>(
     };
     let pass = put_scripts(rt, alloc, &bench, bench.pass(), workers)?;
     let count = workers as usize;
-    let (_pass, reply) = bench
-        .run_workers(rt, alloc, pass, &maker, count, Work::Live)
-        .ok()?;
+    let (_pass, reply) = run_workers(rt, alloc, &bench, pass, &maker, count, Work::Live).ok()?;
     Some(passes(alloc, &reply) == Some(count))
 }

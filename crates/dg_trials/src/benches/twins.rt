@@ -1,6 +1,6 @@
 //! A script that is edited by one caller, and judged and reported by another, in a thread of its own.
 use crate::benches::replies::{PASSED, closed, is_sum, of_file, put_on};
-use dg_bench::{Bench, Call, Pass, Position, Receipt, Room};
+use dg_bench::{Bench, Call, Pass, Receipt, Room};
 use dg_core::Reply;
 use dg_eval::{Job, Turn};
 use dg_records::Record;
@@ -127,8 +127,8 @@ fn tell<B: Room>(bench: &Bench<B>, reported: &mut Reported<B>) -> bool {
     };
     is_report
         && bench.call_at(&mut reported.looked).is_none()
-        && reported.told.position() == Position::Call(2)
-        && reported.looked.position() == Position::Front(2)
+        && reported.told.number() == 2
+        && reported.looked.number() == 2
 }
 
 /// Whether a history is of just an edit, a record and a report.

@@ -1,7 +1,7 @@
 //! Workers over stored worlds, and over gates that wait for nothing.
 use crate::benches::gates::{Deaf, Signal, Waiting};
 use crate::benches::replies::{PASSED, closed, is_sum, put_on};
-use dg_bench::{Bench, Call, Pass, Room, Work};
+use dg_bench::{Bench, Call, Pass, Room, Work, run_workers};
 use dg_core::Reply;
 use dg_transcript::encode;
 use std::alloc::{AllocError, Global};
@@ -67,9 +67,7 @@ fn passed<B: Room + Send + Sync, R: Threads + Wait + Clock + Sync>(
     maker: &Waiting<'_, R>,
     seen: usize,
 ) -> Option<Pass<B>> {
-    let (pass, sum) = bench
-        .run_workers(rt, alloc, pass, maker, 2, Work::Rejudge)
-        .ok()?;
+    let (pass, sum) = run_workers(rt, alloc, bench, pass, maker, 2, Work::Rejudge).ok()?;
     if is_sum(&sum, PASSED) && pass.seen() == seen {
         Some(pass)
     } else {
@@ -115,9 +113,7 @@ pub fn runs_live<B: Room + Send + Sync, R: Threads + Wait + Clock + Sync>(
     let signal = Signal::new();
     let maker = ready(rt, alloc, &signal);
     let pass = put_scripts(rt, alloc, &bench, bench.pass(), 3)?;
-    let (pass, reply) = bench
-        .run_workers(rt, alloc, pass, &maker, 2, Work::Live)
-        .ok()?;
+    let (pass, reply) = run_workers(rt, alloc, &bench, pass, &maker, 2, Work::Live).ok()?;
     let history = closed(bench, pass)?;
     Some(
         passes(alloc, &reply) == Some(3) && live_runs(history.calls()) == 3 && signal.raised() == 3,
@@ -130,7 +126,7 @@ const TELLS: &[u8] = b"spawn cat\nif {[catch {send a} m]} {note $m}\npass p\n";
 /// Its lines, and the transcript of a child that reads nothing, written out by hand.
 const TOLD: &[u8] = b"NOTE: spawn id exp1 not open\nPASS: p\n";
 
-const DEAF: &[u8] = b"dejagnu-transcript 2\nsession 1\nstarted 636174\nnosend 3 61\ndone\n";
+const DEAF: &[u8] = b"dejagnu-transcript 1\nsession 1\nstarted 636174\nnosend 3 61\ndone\n";
 
 /// Whether a sum has these lines, one behind the other.
 fn tells(reply: &Reply, lines: &[u8]) -> bool {
@@ -167,7 +163,7 @@ fn told<B: Room + Send + Sync, R: Threads + Wait + Sync>(
     work: Work,
 ) -> Option<Pass<B>> {
     let pass = put_on(rt, alloc, bench, pass, b"t/a.exp", script)?;
-    let (pass, reply) = bench.run_workers(rt, alloc, pass, &Deaf, 2, work).ok()?;
+    let (pass, reply) = run_workers(rt, alloc, bench, pass, &Deaf { alloc }, 2, work).ok()?;
     if tells(&reply, TOLD) {
         Some(pass)
     } else {

@@ -26,7 +26,6 @@ pub fn question(alloc: Global, spelled: &str) -> Result<Question> {
     let rest = Bytes::from_slice(alloc, rest.as_bytes())?;
     Ok(match kind {
         "file" => Question::File(Name::new(alloc, rest.as_slice())?),
-        "steps" => Question::Steps,
         "tool" => Question::Tool,
         "variable" => Question::Variable(rest),
         "pattern" => Question::Pattern(rest),
@@ -38,7 +37,6 @@ pub fn question(alloc: Global, spelled: &str) -> Result<Question> {
 pub fn spelled_question(alloc: Global, ask: &Ask) -> Result<String, AllocError> {
     let mut spelled = match &ask.question {
         Question::File(name) => format!(in alloc; "file {}", text_of(name.as_slice())),
-        Question::Steps => format!(in alloc; "steps"),
         Question::Tool => format!(in alloc; "tool"),
         Question::Triplet(system) => format!(in alloc; "triplet {system:?}"),
         Question::Variable(name) => format!(in alloc; "variable {}", text_of(name.as_slice())),
@@ -53,10 +51,9 @@ pub fn spelled_question(alloc: Global, ask: &Ask) -> Result<String, AllocError> 
 
 /// The answer that is spelled so. An entry is that of a close.
 pub fn answer(alloc: Global, spelled: &str) -> Result<Answer> {
-    let (kind, word) = cut(spelled);
-    let rest = Bytes::from_slice(alloc, word.as_bytes())?;
+    let (kind, rest) = cut(spelled);
+    let rest = Bytes::from_slice(alloc, rest.as_bytes())?;
     Ok(match kind {
-        "steps" => Answer::Steps(word.parse::<u32>()?),
         "absent" => Answer::Absent,
         "content" => Answer::Content(rest),
         "tool" => Answer::Tool(rest),
@@ -75,7 +72,6 @@ pub fn answer(alloc: Global, spelled: &str) -> Result<Answer> {
 /// How an answer is spelled.
 pub fn spelled_answer(alloc: Global, answer: &Answer) -> Result<String, AllocError> {
     match answer {
-        Answer::Steps(limit) => format!(in alloc; "steps {limit}"),
         Answer::Absent => format!(in alloc; "absent"),
         Answer::Content(text) => format!(in alloc; "content {}", text_of(text.as_slice())),
         Answer::Tool(tool) => format!(in alloc; "tool {}", text_of(tool.as_slice())),

@@ -33,8 +33,6 @@ impl Asker for Desk {
 
     ghost step = { λ before question answer after. IsAskedOf before.core after.core question answer };
 
-    ghost refuses = { λ before question after. ⊥ };
-
     fn ask(&mut self, question: &Question) -> Result<Answer, AskFault> {
         match self.core.ask(self.alloc, question) {
             Ok(answer) => Ok(answer),

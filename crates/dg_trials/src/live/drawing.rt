@@ -104,11 +104,11 @@ fn draw(alloc: Global, chance: &mut Chance, pieces: &[Piece<'_>]) -> Result<Draw
 
 /// What is wrong with a run, or with its replay, which gives the same report.
 fn flaw_of(alloc: Global, run: &Run) -> Result<Option<&'static str>, AllocError> {
-    let told = lines_in(alloc, run.kept.report.as_slice())?;
+    let told = lines_in(alloc, run.report.as_slice())?;
     if told.as_slice().ends_with(b"departed from its transcript") {
         return Ok(Some("a departure"));
     }
-    Ok(run.kept.flaw)
+    Ok(run.flaw)
 }
 
 /// What the runs have come to.

@@ -43,10 +43,6 @@ pub fn reply(alloc: Global, entry: &[u8]) -> Result<Reply> {
             let bytes = Bytes::from_vec(hex::decode(alloc, second)?);
             Reply::Piece(Piece::Chunk(number(first)?, bytes))
         }
-        b"errchunk" => {
-            let bytes = Bytes::from_vec(hex::decode(alloc, second)?);
-            Reply::Piece(Piece::ErrChunk(number(first)?, bytes))
-        }
         b"end" => Reply::Piece(Piece::End(number(first)?)),
         b"silence" => Reply::Piece(Piece::Silence),
         b"closed" => Reply::Closed,
@@ -120,9 +116,9 @@ fn add_session(
     Ok(())
 }
 
-/// The text of a live run's transcript with these entries.
+/// The text of a transcript with these entries.
 pub fn transcript(alloc: Global, entries: &[Spelled<'_>]) -> Result<Vec<u8>, AllocError> {
-    let mut text = Vec::from_slice(alloc, b"dejagnu-transcript 2\n")?;
+    let mut text = Vec::from_slice(alloc, b"dejagnu-transcript 1\n")?;
     for session in 1..=SESSIONS {
         add_session(alloc, &mut text, session, entries)?;
     }

@@ -28,18 +28,17 @@ fn other_answer(alloc: Global, script: &[u8], row: &[u8]) -> Result<Option<Bytes
     };
     let entries = entries(alloc, spelled)?;
     let run = run_script(alloc, script, replies(alloc, entries.as_slice())?)?;
-    if let Some(flaw) = run.kept.flaw {
+    if let Some(flaw) = run.flaw {
         return Ok(Some(Bytes::from_slice(alloc, flaw.as_bytes())?));
     }
     if run.left > 0
         || !run
-            .kept
             .transcript
             .is(transcript(alloc, entries.as_slice())?.as_slice())
     {
-        return Ok(Some(run.kept.transcript));
+        return Ok(Some(run.transcript));
     }
-    let told = lines_in(alloc, run.kept.report.as_slice())?;
+    let told = lines_in(alloc, run.report.as_slice())?;
     if told.is(lines) {
         Ok(None)
     } else {

@@ -1,24 +1,26 @@
-//! Live runs, of which some are over a gate that answers from a list, and their replays.
+//! Live runs over a gate that answers from a list, and their replays.
 use crate::live::desk::{Desk, test};
 use anyhow::Result;
 use dg_bytes::Bytes;
-use dg_eval::Job;
 use dg_gate::{Gate, Reply, ScriptGate};
 use dg_live::run_live;
-use dg_records::Record;
-use dg_transcript::{Transcript, encode};
+use dg_transcript::encode;
 use std::alloc::Global;
 use std::collections::VecDeque;
 
-/// What a live run over a list of answers came to.
+/// What a live run came to.
 #[derive(Drop)]
 pub struct Run {
-    /// What was kept of it.
-    pub kept: Kept,
+    /// The text of its transcript.
+    pub transcript: Bytes,
+    /// The report of its record.
+    pub report: Bytes,
     /// How many answers of the gate were not asked for.
     pub left: usize,
     /// How many calls failed.
     pub failures: u64,
+    /// What is wrong with its record or its replay.
+    pub flaw: Option<&'static str>,
 }
 
 /// The report and the status of a script with this transcript.
@@ -49,51 +51,25 @@ fn flaw(
     }
 }
 
-/// A live run that was kept.
-#[derive(Drop)]
-pub struct Kept {
-    /// The text of its transcript.
-    pub transcript: Bytes,
-    /// The report of its record.
-    pub report: Bytes,
-    /// What is wrong with its record or its replay.
-    pub flaw: Option<&'static str>,
-}
-
-/// Keeps a run of this script, and judges it again by its transcript.
-pub fn keep(
-    alloc: Global,
-    desk: &mut Desk,
-    script: &[u8],
-    record: Record,
-    transcript: Transcript,
-) -> Result<Kept> {
+/// Runs a script over a gate with these answers, and keeps the run.
+pub fn run_script(alloc: Global, script: &[u8], replies: VecDeque<Reply>) -> Result<Run> {
+    let mut desk = Desk::new(alloc, script)?;
+    let mut gate = ScriptGate::new(replies);
+    let (record, transcript) = run_live(alloc, test(alloc)?, &mut gate, &mut desk)?;
     let text = encode(alloc, &transcript)?;
     let is_kept = desk.core.commit_live(alloc, record, transcript).is_ok();
     let (report, flaw) = match desk.report()? {
         Some(kept) if is_kept => {
-            let flaw = flaw(alloc, desk, script, &text, &kept)?;
+            let flaw = flaw(alloc, &mut desk, script, &text, &kept)?;
             (kept.0, flaw)
         }
         _ => (Bytes::new(alloc), Some("no report of the run")),
     };
-    Ok(Kept {
+    Ok(Run {
         transcript: text,
         report,
-        flaw,
-    })
-}
-
-/// Runs a script over a gate with these answers, and keeps the run.
-pub fn run_script(alloc: Global, script: &[u8], replies: VecDeque<Reply>) -> Result<Run> {
-    let mut desk = Desk::new(alloc, script)?;
-    let job = Job::start(alloc, test(alloc)?)?;
-    let mut gate = ScriptGate::new(replies);
-    let (record, transcript) = run_live(alloc, job, &mut gate, &mut desk)?;
-    let kept = keep(alloc, &mut desk, script, record, transcript)?;
-    Ok(Run {
-        kept,
         left: gate.left(),
         failures: gate.failures(),
+        flaw,
     })
 }

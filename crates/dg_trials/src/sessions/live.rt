@@ -2,7 +2,7 @@
 use crate::live::desk::Desk;
 use dg_bytes::Bytes;
 use dg_core::{Core, Reply as Told};
-use dg_eval::{Job, JobFault};
+use dg_eval::JobFault;
 use dg_gate::{AskFault, Ended, Piece, Reply, ScriptGate};
 use dg_live::{LiveFault, run_live};
 use dg_records::Record;
@@ -17,7 +17,7 @@ const SCRIPT: &[u8] =
 
 /// What the child did.
 const TRANSCRIPT: &[u8] =
-    b"dejagnu-transcript 2\nsession 1\nstarted 636174\nsent 61\nchunk 0 78\nclosed\nexited 0\ndone\n";
+    b"dejagnu-transcript 1\nsession 1\nstarted 636174\nsent 61\nchunk 0 78\nclosed\nexited 0\ndone\n";
 
 /// The report of it.
 const REPORT: &[u8] =
@@ -75,11 +75,8 @@ fn run(
     let Ok(test) = TestId::new(alloc, b"unix", b"t/a.exp") else {
         return Err(Short::Memory);
     };
-    let Ok(job) = Job::start(alloc, test) else {
-        return Err(Short::Memory);
-    };
     let mut gate = ScriptGate::new(replies);
-    match run_live(alloc, job, &mut gate, desk) {
+    match run_live(alloc, test, &mut gate, desk) {
         Ok(run) => Ok(run),
         Err(fault) => Err(why(fault)),
     }

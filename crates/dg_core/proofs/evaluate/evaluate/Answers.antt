@@ -1,10 +1,11 @@
-use Rattle.std.proofs.Common.{◌≡◌, ◌∙◌, ap, refl, subst, sym}
+use Rattle.std.proofs.Common.{◌≡◌, ◌∙◌, ◌++◌, List, ap, refl, subst, sym}
+use Rattle.dg_world.specs.declared.question.Read.{Read}
 use Rattle.dg_eval.specs.Truth.{JobView}
 use Rattle.dg_core.specs.Asking.{Ends, IsTold, IsToldMore}
 use Rattle.dg_core.specs.Turning.{AsksInTurn}
-use Rattle.dg_core.proofs.Turning.{asks-append, asks-none}
+use Rattle.dg_core.proofs.Turning.{asks-append}
 use Rattle.dg_eval.specs.Advance.{started}
-use Rattle.dg_core.proofs.Asking.{asks_on-first, told-first}
+use Rattle.dg_core.proofs.Asking.{told-first}
 use Rattle.dg_core.proofs.Growing.{grown-refl, grown-trans}
 use Rattle.dg_core.proofs.Settling.{on_err}
 use Rattle.dg_core.proofs.evaluate.evaluate.Goals as goal
@@ -32,16 +33,12 @@ turns-preserved c =
           (asks-append c.args.kept.now before after c.turns.job.reads t.more c.turns.invariant.asked t.asked);
     }
 
-pub returns-in_err-copy-clause-stopped : goal.returns-in_err-copy-clause-stopped
-returns-in_err-copy-clause-stopped c = on_err _ _ (asks-none _ _ c.args.test.now refl)
-
-pub returns-in_err-job-clause-stopped : goal.returns-in_err-job-clause-stopped
-returns-in_err-job-clause-stopped c = on_err _ _ (asks-none _ _ c.args.test.now refl)
-
 pub returns-in_err-record-clause-stopped : goal.returns-in_err-record-clause-stopped
 returns-in_err-record-clause-stopped c =
-    on_err _ _
-    (asks_on-first _ c.args.kept.now c.turns.kept c.take_turns.new.kept c.args.test.now c.turns.job c.turns.invariant.told c.turns.invariant.asked c.in_err-record.ensures.stopped)
+    let more = c.in_err-record.ensures.stopped in
+    let all : (reads : List Read) × AsksInTurn c.args.kept.now reads c.take_turns.new.kept =
+    (c.turns.job.reads ++ more.0, asks-append c.args.kept.now c.turns.kept c.take_turns.new.kept c.turns.job.reads more.0 c.turns.invariant.asked more.1) in
+    on_err _ _ all
 
 pub returns-in-Some-clause-asked : goal.returns-in-Some-clause-asked
 returns-in-Some-clause-asked c =

@@ -1,9 +1,11 @@
-use Rattle.std.proofs.Common.{◌∙◌, ap, refl, rules}
+use Rattle.std.proofs.Common.{◌++◌, ◌∙◌, ap, List, [], ◌∷◌, refl, rules}
+use Rattle.dg_world.specs.declared.question.Read.{Read}
 use Rattle.dg_index.specs.Kept.{KeptView}
 use Rattle.dg_eval.specs.declared.job.Turn.TheVariants.{Need}
 use Rattle.dg_core.specs.Asking.{Stops}
-use Rattle.dg_core.proofs.Turning.{shelf-asked}
-use Rattle.dg_core.proofs.Asking.{asks_on-more, asks_on-none, stops-done, stops-fails, stops-more}
+use Rattle.dg_core.specs.Turning.{AsksInTurn}
+use Rattle.dg_core.proofs.Turning.{asks-more, shelf-asked}
+use Rattle.dg_core.proofs.Asking.{stops-done, stops-fails, stops-more}
 use Rattle.dg_core.proofs.Growing.{grown-refl, asked-grown}
 use Rattle.dg_core.proofs.Settling.{on_err}
 use Rattle.dg_core.proofs.evaluate.take_turns.Goals as goal
@@ -24,7 +26,7 @@ pub returns-in-Err-clause-turn : goal.returns-in-Err-clause-turn
 returns-in-Err-clause-turn c = c.in-Err.ensures
 
 pub returns-in-Err-clause-stopped : goal.returns-in-Err-clause-stopped
-returns-in-Err-clause-stopped c = asks_on-none _ _ _ _ c.requires refl
+returns-in-Err-clause-stopped c = ([], refl)
 
 pub returns-in_err-told-clause-grown : goal.returns-in_err-told-clause-grown
 returns-in_err-told-clause-grown c = search rules
@@ -34,7 +36,8 @@ returns-in_err-told-clause-turn c = search rules
 
 pub returns-in_err-told-clause-stopped : goal.returns-in_err-told-clause-stopped
 returns-in_err-told-clause-stopped c =
-    on_err _ _ (asks_on-none _ c.args.kept.now c.ask.new.self c.args.job.now c.requires c.in_err-told.ensures.err)
+    let none : (reads : List Read) × AsksInTurn c.args.kept.now reads c.ask.new.self = ([], c.in_err-told.ensures.err) in
+    on_err _ _ none
 
 pub returns-in-Ok-clause-grown : goal.returns-in-Ok-clause-grown
 returns-in-Ok-clause-grown c = asked-grown _ _ _ _ c.in_ok-told.ensures.ok.0
@@ -53,7 +56,8 @@ returns-clause-turn c =
 pub returns-clause-stopped : goal.returns-clause-stopped
 returns-clause-stopped c =
     let stops : Stops c.args.kept.now c.args.job.now c.look_up_all.new.job (Need c.in-Ok-Need.ask) = rw c.in-Ok-Need.field-0-is at c.in-Ok-Need.ensures in
-    asks_on-more _ c.ask.new.self _ _ _ c.in_ok-told.told stops c.in_ok-told.ensures.ok
+    let read : Read = record { question = c.in-Ok-Need.ask.question; answer = c.in_ok-told.told } in
+    (stops.more ++ read ∷ [], asks-more c.args.kept.now c.args.kept.now c.ask.new.self stops.more read stops.asked c.in_ok-told.ensures.ok)
 
 pub returns-in-Ok-clause-shelf : goal.returns-in-Ok-clause-shelf
 returns-in-Ok-clause-shelf c = ap (λ (k : KeptView). k.shelf) c.in_ok-told.ensures.ok.1 ∙ shelf-asked c.args.kept.now _ _ _

@@ -1,4 +1,4 @@
-use Rattle.std.proofs.Common.{◌∙◌, ◌+◌, get_or, map, take, take_all, ap, sym, refl, arith}
+use Rattle.std.proofs.Common.{◌∙◌, ◌+◌, get_or, take, take_all, ap, sym, refl, arith}
 use Rattle.std.specs.Option.{option_copied_mut}
 use Rattle.std.specs.Prelude.{slice_get}
 use Rattle.std.specs.Map.{values_of}
@@ -32,13 +32,13 @@ loop-place-preserved c =
     let s = places-step c.args.places.now i c.requires.once c.loop-place-test.true in
     elim c.match-get_index_mut.branch [
       | in-Some u ↦
-          let ms = u.in-Some.recent.now in
-          let found = looked-found w t es f g p ms s (u.in-Some.ensures.value ∙ ap (λ l. slice_get (values_of l) p) c.loop-place.invariant.entries) in
+          let m = u.in-Some.marked.now in
+          let found = looked-found w t es f g p m s (u.in-Some.ensures.value ∙ ap (λ l. slice_get (values_of l) p) c.loop-place.invariant.entries) in
           record {
-            entries = ap (λ r. r.entries) u.records-is ∙ ap (set_value_at c.loop-place.records.entries p) u.look_again-compared.ensures.records
-                ∙ ap (λ l. set_value_at l p (map (looked w t) ms)) c.loop-place.invariant.entries ∙ found.0;
+            entries = ap (λ r. r.entries) u.records-is ∙ ap (set_value_at c.loop-place.records.entries p) u.look_again-reads.ensures.marks
+                ∙ ap (λ l. set_value_at l p (looked w t m)) c.loop-place.invariant.entries ∙ found.0;
             room = ap spare u.records-is ∙ c.loop-place.invariant.room;
-            count = omega (arith, u.compared-is, u.look_again-compared.ensures.count, c.loop-place.invariant.count, found.1);
+            count = omega (arith, u.compared-is, u.saturating_add-compared.ensures, u.look_again-reads.ensures.compared, c.loop-place.invariant.count, found.1);
           }
       | in_default u ↦
           let past = looked-past w t es f g p s (sym (ap option_copied_mut u.in_default.is) ∙ c.get_index_mut.ensures.value ∙ ap (λ l. slice_get (values_of l) p) c.loop-place.invariant.entries) in
@@ -65,14 +65,14 @@ returns-clause-count c =
     ∙ (looked-all c.args.world.now c.args.topic.now es (is_among c.args.places.now) c.requires.only).1
     )
 
-pub look_again-compared-requires-clause-numbers : goal.look_again-compared-requires-clause-numbers
-look_again-compared-requires-clause-numbers c =
+pub look_again-reads-requires-clause-numbers : goal.look_again-reads-requires-clause-numbers
+look_again-reads-requires-clause-numbers c =
     let i = c.loop-place.place-index in
-    (knows-numbers c.args.world.now c.args.topic.now c.args.contents.now c.args.records.now.entries (is_among (take i c.args.places.now)) (get_or c.args.places.now i 0) c.in-Some.recent.now
+    (knows-numbers c.args.world.now c.args.topic.now c.args.contents.now c.args.records.now.entries (is_among (take i c.args.places.now)) (get_or c.args.places.now i 0) c.in-Some.marked.now
     c.requires.numbered (c.in-Some.ensures.value ∙ ap (λ l. slice_get (values_of l) (get_or c.args.places.now i 0)) c.loop-place.invariant.entries)).0
 
-pub look_again-compared-requires-clause-held : goal.look_again-compared-requires-clause-held
-look_again-compared-requires-clause-held c =
+pub look_again-reads-requires-clause-held : goal.look_again-reads-requires-clause-held
+look_again-reads-requires-clause-held c =
     let i = c.loop-place.place-index in
-    (knows-numbers c.args.world.now c.args.topic.now c.args.contents.now c.args.records.now.entries (is_among (take i c.args.places.now)) (get_or c.args.places.now i 0) c.in-Some.recent.now
+    (knows-numbers c.args.world.now c.args.topic.now c.args.contents.now c.args.records.now.entries (is_among (take i c.args.places.now)) (get_or c.args.places.now i 0) c.in-Some.marked.now
     c.requires.numbered (c.in-Some.ensures.value ∙ ap (λ l. slice_get (values_of l) (get_or c.args.places.now i 0)) c.loop-place.invariant.entries)).1

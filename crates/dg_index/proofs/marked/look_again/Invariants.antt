@@ -4,6 +4,6 @@ use Rattle.dg_index.proofs.marked.look_again.Given as goal
 
 abbrev pub invariant-loop-place : goal.invariant-loop-place
 invariant-loop-place l = record {
-  marks : l.marks ≡ looked_again l.world l.topic l.kept (take l.place l.reads) l.fn.marks;
+  marks : l.marks ≡ looked_again l.world l.topic (take l.place l.reads) l.fn.marks;
   compared : l.compared ≡ reads_on l.topic (take l.place l.reads);
 }

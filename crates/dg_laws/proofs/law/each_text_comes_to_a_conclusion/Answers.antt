@@ -1,4 +1,4 @@
-use Rattle.dg_laws.proofs.Judging.{evaluate-grafted}
+use Rattle.dg_laws.proofs.Texts.{evaluate-grafted}
 use Rattle.dg_laws.proofs.Conclusions.{Grafted-conclusion}
 use Rattle.dg_laws.proofs.law.each_text_comes_to_a_conclusion.Goals as goal
 

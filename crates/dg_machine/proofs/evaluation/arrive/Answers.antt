@@ -21,11 +21,9 @@ returns-in_ok-reads-in-AtEnd c =
     rw (
       c.in-AtEnd.is,
       c.in_ok-reads-in-AtEnd.ensures,
-      c.kept-kept.ensures,
-      c.limit-limit.ensures,
       c.steps-steps.ensures,
       c.board_steps-board_steps.ensures,
       c.into_parts-state.ensures,
       c.into_inner-verdict.ensures,
       c.into_inner.ensures,
-    ) (λ old k h. (ends _ _ _ c.args.machine k h, refl, refl, h.1), tt)
+    ) (λ old k h. (ends _ _ _ c.args.machine k h, refl, h.1), tt)

@@ -1,5 +1,5 @@
 use Rattle.std.proofs.Common.{rules, arith, ◌≤◌}
-use Rattle.dg_session.proofs.ReportLemmas.{lost, rises, reported}
+use Rattle.dg_session.proofs.ReportLemmas.{rises, reported}
 use Rattle.dg_session.proofs.session.answer_report.Goals as goal
 
 pub overflow_sub-result : goal.overflow_sub-result
@@ -9,8 +9,4 @@ overflow_sub-result c =
 
 pub returns-in-Ok : goal.returns-in-Ok
 returns-in-Ok c =
-    reported _ _ _ _ _ _ c.evaluations-before.ensures c.evaluations.ensures c.in-Ok.ensures.grown c.in-Ok.ensures.settles c.in-Ok.ensures.judges c.in-Ok.ensures.sum
-
-pub returns-in-Err-PatternLost : goal.returns-in-Err-PatternLost
-returns-in-Err-PatternLost c =
-    lost _ _ _ c.in-Err-PatternLost.ensures.grown (rw c.in-Err-PatternLost.field-0-is at c.in-Err-PatternLost.ensures.why)
+    reported _ _ _ _ _ _ c.evaluations-before.ensures c.evaluations.ensures c.in-Ok.ensures.grown c.in-Ok.ensures.settles c.in-Ok.ensures.sum

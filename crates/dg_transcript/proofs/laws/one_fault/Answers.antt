@@ -5,4 +5,4 @@ pub returns-clause-one : goal.returns-clause-one
 returns-clause-one c = λ text n m why other a b. one_first_bad text n m why other a b
 
 pub returns-clause-none : goal.returns-clause-none
-returns-clause-none c = λ t n why is bad. no_first_bad t n why is bad
+returns-clause-none c = λ ss n why is bad. no_first_bad ss n why is bad

@@ -5,6 +5,6 @@ use Rattle.dg_transcript.proofs.limits.are_transcript.Given as goal
 
 abbrev pub invariant-loop-session : goal.invariant-loop-session
 invariant-loop-session l = record {
-  each : AllByRecursion (IsSession l.version) (take l.session-index l.sessions);
+  each : AllByRecursion IsSession (take l.session-index l.sessions);
   left : l.room + sum_by length (take l.session-index l.sessions) ≡ 65536;
 }

@@ -21,7 +21,7 @@ returns-then-not-entry_fits c =
     let es = c.args.entries.now in
     let i = c.loop-entry.entry-index in (
       λ no_way. absurd cc,
-      λ session. let fits : EntryFits c.args.version e = subst (EntryFits c.args.version) (sym c.entry-item.is) (All-at (EntryFits c.args.version) es i e c.loop-entry-test.true session.2) in
+      λ session. let fits : EntryFits e = subst EntryFits (sym c.entry-item.is) (All-at EntryFits es i e c.loop-entry-test.true session.2) in
           let yes = c.entry_fits.ensures.1 fits in absurd cc,
     )
 
@@ -33,7 +33,7 @@ loop-entry-preserved c =
     let here : admits (place_from place.Opened (take i es)) (role_of (get_or es i e)) ≡ true =
     rw (← c.loop-entry.invariant.here, ← c.entry-item.is, ← c.role-role.ensures, ← c.admits.ensures) c.if-not-admits.false in
     record {
-      fits = All-more (EntryFits c.args.version) es i e c.loop-entry-test.true c.loop-entry.invariant.fits (subst (EntryFits c.args.version) c.entry-item.is (c.entry_fits.ensures.0 c.if-not-entry_fits.false));
+      fits = All-more EntryFits es i e c.loop-entry-test.true c.loop-entry.invariant.fits (subst EntryFits c.entry-item.is (c.entry_fits.ensures.0 c.if-not-entry_fits.false));
       ordered = one_more place.Opened es i e c.loop-entry-test.true c.loop-entry.invariant.ordered here;
       here = c.after-place.ensures ∙ ap after_role (c.role-role.ensures ∙ ap role_of c.entry-item.is) ∙ place_more place.Opened es i e c.loop-entry-test.true;
     }

@@ -7,7 +7,7 @@ use Rattle.dg_transcript.proofs.limits.is_session.Given as goal
 
 abbrev pub invariant-loop-entry : goal.invariant-loop-entry
 invariant-loop-entry l = record {
-  fits : AllByRecursion (EntryFits l.version) (take l.entry-index l.entries);
+  fits : AllByRecursion EntryFits (take l.entry-index l.entries);
   ordered : in_order place.Opened (take l.entry-index l.entries) ≡ true;
   here : l.place ≡ place_from place.Opened (take l.entry-index l.entries);
 }

@@ -1,6 +1,6 @@
 use Rattle.std.proofs.Common.{◌∙◌, ap, sym, subst}
 use Rattle.std.specs.Prelude.{IfSome, option_map, slice_get}
-use Rattle.dg_index.specs.Kept.{IsTrueOf, newest_holding, records_at}
+use Rattle.dg_records.specs.Truth.{RecordView, IsTrueRecord}
 use Rattle.dg_index.specs.Marks.{judged_of}
 use Rattle.dg_core.proofs.LineupLemmas.{held-placed, held-there, judged-placed}
 use Rattle.dg_core.proofs.judging_core.Core.judged_test.Goals as goal
@@ -13,12 +13,12 @@ unreachable-requires-in_default-judged_at c =
     let s = c.args.self.now in
     let i = c.in-Some.place in
     held-there s.world s.shelf c.args.test.now i c.requires.held (sym c.in-Some.ensures)
-    (c.in_default-judged_at.ensures.judged ∙ ap (λ x. option_map judged_of (newest_holding x.world (records_at x.shelf i))) c.self.view_is)
+    (c.in_default-judged_at.ensures.judged ∙ ap (λ x. option_map judged_of (slice_get x.shelf i)) c.self.view_is)
 
 pub returns : goal.returns
 returns c =
     let s = c.args.self.now in
     let i = c.in-Some.place in
-    judged-placed s.world s.shelf c.args.test.now i c.in-Some-judged_at.judged (sym c.in-Some.ensures)
-    (c.in-Some-judged_at.ensures.judged ∙ ap (λ x. option_map judged_of (newest_holding x.world (records_at x.shelf i))) c.self.view_is)
-    (subst (λ x. IfSome (slice_get x.shelf i) (λ y. IsTrueOf y.test (newest_holding x.world y.records))) c.self.view_is c.in-Some-judged_at.ensures.is_true)
+    judged-placed s.world s.shelf c.args.test.now i c.in-Some-judged_at.judged c.requires.held (sym c.in-Some.ensures)
+    (c.in-Some-judged_at.ensures.judged ∙ ap (λ x. option_map judged_of (slice_get x.shelf i)) c.self.view_is)
+    (subst (λ x. IfSome (slice_get x.shelf i) (λ (r : RecordView). IsTrueRecord r.test r.reads r.verdict)) c.self.view_is c.in-Some-judged_at.ensures.is_true)

@@ -4,7 +4,6 @@ use Rattle.dg_core.specs.Core.{pending, IsPartlySettled}
 use Rattle.dg_core.proofs.LineupLemmas.{lineup-settled}
 use Rattle.dg_core.proofs.Settling.{pending-settled, settled-zero, partly, on_err}
 use Rattle.dg_core.proofs.Growing.{selected-grown}
-use Rattle.dg_core.proofs.Turning.{some-none}
 use Rattle.dg_core.proofs.judging_core.Core.settle.Goals as goal
 
 pub returns-in_err-lineup-clause-kept : goal.returns-in_err-lineup-clause-kept
@@ -13,9 +12,6 @@ returns-in_err-lineup-clause-kept c =
     let few = subst (λ n. n < 2 ^ 64) c.evaluations-begun.ensures c.evaluations-begun.type_inv in
     subst (λ s. OnErr c.from_residual.result (IsPartlySettled old s)) (sym c.line_up.ensures.stays)
     (on_err _ _ (partly old old 0 0 (omega arith) (omega arith) (omega arith) (settled-zero old few)))
-
-pub returns-in_err-lineup-clause-stopped : goal.returns-in_err-lineup-clause-stopped
-returns-in_err-lineup-clause-stopped c = on_err _ _ (some-none _ _ c.line_up.ensures.stays)
 
 pub keep_lineup-requires-clause-lineup : goal.keep_lineup-requires-clause-lineup
 keep_lineup-requires-clause-lineup c =

@@ -1,9 +1,9 @@
-use Rattle.std.proofs.Common.{◌∙◌, ◌<◌, ◌≤◌, ◌+◌, ◌^◌, ◌++◌, ◌∷◌, [], take, drop, length, get_or, ap, sym, refl, subst, arith}
+use Rattle.std.proofs.Common.{◌∙◌, ◌<◌, ◌≤◌, ◌+◌, ◌^◌, ◌++◌, ◌∷◌, [], take, length, get_or, ap, sym, refl, subst, arith}
 use Rattle.std.proofs.lemmas.List.{take_more, take_all}
 use Rattle.dg_index.specs.Marks.{counted}
 use Rattle.dg_core.specs.Core.{CoreView, kept_of, pending, with_judged}
 use Rattle.dg_core.specs.Turning.{JudgesAll, JudgesSome}
-use Rattle.dg_core.proofs.Turning.{judges-more, next-first, next-none, some-none}
+use Rattle.dg_core.proofs.Turning.{judges-more}
 use Rattle.std.proofs.lemmas.Result.{err_from_is_err_and}
 use Rattle.dg_core.proofs.Growing.{grown-refl, grown-trans, selected-grown}
 use Rattle.dg_core.specs.Lineup.{IsLineup}
@@ -97,36 +97,32 @@ returns-clause-judges c =
     let last = subst (λ l. length l ≤ i) items c.loop-test-test.false in
     subst (λ ts. JudgesAll (kept_of c.args.self.now) ts (kept_of c.loop-test.self)) (take_all i (pending c.args.self.now) last) c.loop-test.invariant.judged
 
-pub returns-in_err-pending-clause-stopped : goal.returns-in_err-pending-clause-stopped
-returns-in_err-pending-clause-stopped c = on_err _ _ (some-none _ c.args.self.now refl)
-
 pub returns-in_err-judge-clause-stopped : goal.returns-in_err-judge-clause-stopped
 returns-in_err-judge-clause-stopped c =
     let i = c.loop-test.test-index in
-    let t = c.test-item.result in
     let items = c.as_slice-test-items.ensures ∙ c.in_ok-pending.ensures in
-    let within = subst (λ l. i < length l) items c.loop-test-test.true in
-    let at = c.test-item.is ∙ ap (λ l. get_or l i t) items in
+    let more = c.in_err-judge.ensures.stopped in
     let some : JudgesSome c.args.self.now c.judge.new.self =
     record {
       judged = i;
-      within = omega (arith, within);
+      within = (let less = subst (λ l. i < length l) items c.loop-test-test.true in omega (arith, less));
       last = kept_of c.loop-test.self;
       all = c.loop-test.invariant.judged;
-      next = next-first (kept_of c.loop-test.self) (kept_of c.judge.new.self) (pending c.args.self.now) i t within at c.in_err-judge.ensures.stopped;
+      reads = more.0;
+      asked = more.1;
     } in
     on_err _ _ some
 
 pub returns-in_err-sum-clause-stopped : goal.returns-in_err-sum-clause-stopped
 returns-in_err-sum-clause-stopped c =
-    let i = c.loop-test.test-index in
     let items = c.as_slice-test-items.ensures ∙ c.in_ok-pending.ensures in
     let some : JudgesSome c.args.self.now c.loop-test.self =
     record {
-      judged = i;
-      within = subst (λ l. i ≤ length l) items c.loop-test.auto.test-index-end;
+      judged = c.loop-test.test-index;
+      within = subst (λ l. c.loop-test.test-index ≤ length l) items c.loop-test.auto.test-index-end;
       last = kept_of c.loop-test.self;
       all = c.loop-test.invariant.judged;
-      next = next-none (kept_of c.loop-test.self) (kept_of c.loop-test.self) (drop i (pending c.args.self.now)) refl;
+      reads = [];
+      asked = refl;
     } in
     on_err _ _ some

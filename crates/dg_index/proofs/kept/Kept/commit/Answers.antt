@@ -2,10 +2,10 @@ use Rattle.std.proofs.Common.{◌∙◌, ap, length, subst, sym}
 use Rattle.std.specs.Map.{keys_of}
 use Rattle.dg_records.specs.Truth.{RecordView}
 use Rattle.dg_records.specs.Shelf.{with_record}
-use Rattle.dg_index.specs.Marks.{Entries, MarkedView, counted, shelf_of}
+use Rattle.dg_index.specs.Marks.{MarkedView, counted, shelf_of}
 use Rattle.dg_index.specs.Kept.{committed}
 use Rattle.dg_index.specs.Numbers.{numbers_in, HoldsMore, IsNumbered}
-use Rattle.dg_index.proofs.KeptLemmas.{kept-more, placed}
+use Rattle.dg_index.proofs.KeptLemmas.{Entries, kept-more, placed}
 use Rattle.dg_index.proofs.kept.Kept.commit.Goals as goal
 
 pub invariant_of-self : goal.invariant_of-self

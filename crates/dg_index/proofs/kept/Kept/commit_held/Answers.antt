@@ -2,10 +2,12 @@ use Rattle.std.proofs.Common.{◌≡◌, ◌∙◌, ap, length, subst, sym, true
 use Rattle.std.specs.Map.{keys_of}
 use Rattle.dg_records.specs.Truth.{RecordView, holds}
 use Rattle.dg_records.specs.Shelf.{with_record}
-use Rattle.dg_index.specs.Marks.{Entries, MarkedView, counted, shelf_of}
-use Rattle.dg_index.specs.Kept.{committed, with_marked}
+use Rattle.dg_index.specs.Marks.{MarkedView, counted, shelf_of}
+use Rattle.dg_index.specs.Kept.{committed}
 use Rattle.dg_index.specs.Numbers.{numbers_in, HoldsMore, IsNumbered}
-use Rattle.dg_index.proofs.KeptLemmas.{kept-more, placed}
+use Rattle.indexmap.specs.IndexMap.{insert_entry}
+use Rattle.dg_world.specs.Test.{same_test}
+use Rattle.dg_index.proofs.KeptLemmas.{Entries, kept-more, placed}
 use Rattle.dg_index.proofs.MarksLemmas.{marked-held}
 use Rattle.dg_index.proofs.kept.Kept.commit_held.Goals as goal
 
@@ -23,7 +25,7 @@ invariant_of-self-2 c =
     let room = c.make_room in
     let e = c.in_ok-test.ensures in
     let held = marked-held k.world c.in_ok-test.marked c.args.newest _ e.marked (subst (λ v. holds v.world c.args.newest ≡ true) (sym c.self.view_is) c.requires) in
-    let placed_as = c.place_marked-self-inside.ensures.entries ∙ ap (with_marked room.new.records.entries c.in_ok-test.test) held in
+    let placed_as = c.place_marked-self-inside.ensures.entries ∙ ap (insert_entry same_test room.new.records.entries c.in_ok-test.test) held in
     let placed_at =
     placed k.world k.records.entries room.new.records.entries c.place_marked-self-inside.new.records.entries room.new.index c.in_ok-test.test c.in_ok-test.marked c.args.newest
     (ap keys_of room.ensures.entries) (ap length room.ensures.entries) e.test (ap (λ (m : MarkedView). m.record_of) e.marked) e.named placed_as
@@ -52,7 +54,7 @@ returns-clause-ok c =
     let room = c.make_room in
     let e = c.in_ok-test.ensures in
     let held = marked-held k.world c.in_ok-test.marked c.args.newest _ e.marked (subst (λ v. holds v.world c.args.newest ≡ true) (sym c.self.view_is) c.requires) in
-    let placed_as = c.place_marked-self-inside.ensures.entries ∙ ap (with_marked room.new.records.entries c.in_ok-test.test) held in
+    let placed_as = c.place_marked-self-inside.ensures.entries ∙ ap (insert_entry same_test room.new.records.entries c.in_ok-test.test) held in
     let whole = ap (λ (m : MarkedView). m.record_of) e.marked in
     let shelf = (placed k.world k.records.entries room.new.records.entries c.place_marked-self-inside.new.records.entries room.new.index c.in_ok-test.test c.in_ok-test.marked c.args.newest
     (ap keys_of room.ensures.entries) (ap length room.ensures.entries) e.test whole e.named placed_as

@@ -1,8 +1,8 @@
 use Rattle.std.proofs.Common.{◌∙◌, ap, sym, subst}
 use Rattle.dg_world.specs.World.{WorldView, recorded}
 use Rattle.dg_index.specs.Kept.{IsKept, committed_live}
-use Rattle.dg_index.specs.Marks.{Entries, MarkedView}
-use Rattle.dg_index.proofs.KeptLemmas.{Looks, kept-more, live-committed, live-placed, Lives, transcript_topic}
+use Rattle.dg_index.specs.Marks.{MarkedView}
+use Rattle.dg_index.proofs.KeptLemmas.{Entries, Looks, kept-more, live-committed, live-placed, Lives, transcript_topic}
 use Rattle.dg_index.specs.Numbers.{HoldsMore, IsNumbered}
 use Rattle.dg_index.proofs.NumbersLemmas.{holds_more-looked, is_numbered-fewer, is_numbered-looked}
 use Rattle.dg_index.proofs.kept.Kept.commit_live.Goals as goal

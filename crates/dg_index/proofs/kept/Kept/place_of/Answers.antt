@@ -5,4 +5,5 @@ use Rattle.dg_index.proofs.kept.Kept.place_of.Goals as goal
 
 pub returns : goal.returns
 returns c =
-    c.get_index_of.ensures.index ∙ place-keyed c.self.inside.records.entries c.args.test.now ∙ ap (λ k. place_of k.shelf c.args.test.now) c.self.view_is
+    c.get_index_of.ensures.index ∙ place-keyed c.self.inside.records.entries c.args.test.now c.self.invariant.0.keyed
+    ∙ ap (λ k. place_of k.shelf c.args.test.now) c.self.view_is

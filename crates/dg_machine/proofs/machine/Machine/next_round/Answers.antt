@@ -16,7 +16,7 @@ returns-then-len-eq0 c =
 pub returns-then-rounds-eq0 : goal.returns-then-rounds-eq0
 returns-then-rounds-eq0 c =
     let some : 0 < length c.args.rounds.values = omega (arith, c.len.ensures, c.if-len-eq0.false) in
-    let h : (c.args.rounds.left ≡ 0) ⊎ (c.args.self.now.state.limit ≤ c.args.self.now.state.steps) =
+    let h : (c.args.rounds.left ≡ 0) ⊎ (100000 ≤ c.args.self.now.state.steps) =
     elim c.then-rounds-eq0.branch [
       | then-rounds-eq0-via-then-rounds-eq0 w ↦ inl w.if-rounds-eq0.true
       | then-rounds-eq0-via-else-rounds-eq0+then-not-has_step w ↦ inr (no-step c.args.self.now.state _ w.has_step.ensures w.if-not-has_step.true)

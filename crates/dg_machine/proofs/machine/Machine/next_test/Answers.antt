@@ -8,7 +8,7 @@ use Rattle.dg_machine.proofs.machine.Machine.next_test.Goals as goal
 
 pub returns-then-get-eq0 : goal.returns-then-get-eq0
 returns-then-get-eq0 c =
-    let h : (c.args.repetition.left ≡ 0) ⊎ (c.args.self.now.state.limit ≤ c.args.self.now.state.steps) =
+    let h : (c.args.repetition.left ≡ 0) ⊎ (100000 ≤ c.args.self.now.state.steps) =
     elim c.then-get-eq0.branch [
       | then-get-eq0-via-then-get-eq0 w ↦ inl (rw c.get.ensures at w.if-get-eq0.true)
       | then-get-eq0-via-else-get-eq0+then-not-has_step w ↦ inr (no-step c.args.self.now.state _ w.has_step.ensures w.if-not-has_step.true)

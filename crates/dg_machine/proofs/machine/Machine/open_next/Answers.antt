@@ -16,9 +16,6 @@ returns-in_ok-name-in-Board c =
     (λ q a s. board-again _ q a c.args.self.now.state s _ name) (omega arith))
     c.open_first.ensures)
 
-pub returns-in-Limit : goal.returns-in-Limit
-returns-in-Limit c = rw c.in-Limit.is c.open_limit.ensures
-
 pub returns-in-AfterBoard : goal.returns-in-AfterBoard
 returns-in-AfterBoard c = rw c.in-AfterBoard.is c.leave_board.ensures
 

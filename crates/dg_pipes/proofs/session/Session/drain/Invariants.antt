@@ -3,4 +3,4 @@ use Rattle.rtrb.specs.Ring.{received}
 use Rattle.dg_pipes.proofs.session.Session.drain.Given as goal
 
 abbrev pub invariant-loop : goal.invariant-loop
-invariant-loop g l = IsPrefix (received l.initial.self.out.ring) (received l.self.out.ring) × IsPrefix (received l.initial.self.err.ring) (received l.self.err.ring)
+invariant-loop g l = IsPrefix (received l.initial.self.ring) (received l.self.ring)

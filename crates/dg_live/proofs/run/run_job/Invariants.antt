@@ -1,9 +1,0 @@
-use Rattle.dg_live.proofs.Going.{Going}
-use Rattle.dg_live.proofs.run.run_job.Given as goal
-
-abbrev pub invariant-turns : goal.invariant-turns
-invariant-turns g l =
-    record {
-      going : Going g.G.Gate.step g.A.Asker.step g.G.Gate.count l.fn.job.test l.fn.gate l.fn.asker l.job l.gate l.asker;
-      ready : g.G.Gate.is_ready l.gate;
-    }

@@ -1,3 +1,0 @@
-pub mod Listing
-pub mod Results
-pub mod Troubled
